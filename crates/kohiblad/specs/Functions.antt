@@ -17,7 +17,7 @@ use Rattle.jsonb_functions.specs.declared.edit.Edit.{Edit}
 use Rattle.jsonb_functions.specs.declared.path.Step.{Step}
 use Rattle.kohiblad.specs.Status.{code, other_kind, too_many_steps, IsHandedOver, IsOneAnswered}
 use Rattle.kohiblad.specs.Status.{IsRefused}
-use Rattle.kohiblad.specs.declared.values.KohibladTruth.{KohibladTruth}
+use Rattle.kohiblad.specs.declared.scalar.KohibladTruth.{KohibladTruth}
 
 -- Whether the first document contains the second, unless that takes more than so many steps, which
 -- it does only if there are fewer than the product of the sizes of both trees; bytes that are not a

@@ -13,10 +13,10 @@ use Rattle.jsonb_value.specs.WellFormed.{IsExtension}
 use Rattle.jsonb_codec.specs.declared.constants.TheConstants.{STRING_TAG}
 use Rattle.kohiblad.specs.declared.documents.KohibladKind.{KohibladKind}
 use Rattle.kohiblad.specs.declared.places.KohibladPlace.{KohibladPlace}
-use Rattle.kohiblad.specs.declared.values.KohibladDecimal.{KohibladDecimal}
-use Rattle.kohiblad.specs.declared.values.KohibladExtension.{KohibladExtension}
-use Rattle.kohiblad.specs.declared.values.KohibladInteger.{KohibladInteger}
-use Rattle.kohiblad.specs.declared.values.KohibladTruth.{KohibladTruth}
+use Rattle.kohiblad.specs.declared.scalar.numbers.KohibladDecimal.{KohibladDecimal}
+use Rattle.kohiblad.specs.declared.scalar.extensions.KohibladExtension.{KohibladExtension}
+use Rattle.kohiblad.specs.declared.scalar.numbers.KohibladInteger.{KohibladInteger}
+use Rattle.kohiblad.specs.declared.scalar.KohibladTruth.{KohibladTruth}
 use Rattle.kohiblad.specs.Status.{code, other_kind, past_range}
 
 -- The status for bytes that are not the document of a scalar of the wanted kind, by the kind that

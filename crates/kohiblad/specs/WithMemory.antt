@@ -8,7 +8,7 @@ use Rattle.jsonb_codec.specs.Canon.{canon, Fits}
 use Rattle.jsonb_functions.specs.ArraySets.{overlaps}
 use Rattle.kohiblad.specs.Scalars.{no_truth, truth_of}
 use Rattle.kohiblad.specs.Status.{code}
-use Rattle.kohiblad.specs.declared.values.KohibladTruth.{KohibladTruth}
+use Rattle.kohiblad.specs.declared.scalar.KohibladTruth.{KohibladTruth}
 
 -- The result of writing a tree: its canonical document, or why there is none. `OutOfMemory` leaves
 -- open whether there is one.

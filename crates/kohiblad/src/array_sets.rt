@@ -6,7 +6,7 @@ ghost use Rattle.kohiblad.specs.WithMemory.{MakesOfTwoWithMemory};
 ghost use Rattle.kohiblad.specs.Words.{IsOneAnswered, bytes_of, key_meaning, meaning_within};
 
 use crate::answer::{code, hand_over_made};
-use crate::values::{KohibladTruth, no_truth, truth_of};
+use crate::scalar::{KohibladTruth, no_truth, truth_of};
 use jsonb::{Error, OwnedJsonb, SortKey};
 use jsonb_functions::{array_distinct, array_except, array_intersection, array_overlap};
 use std::alloc::Global;

@@ -9,7 +9,7 @@ ghost use Rattle.kohiblad.specs.Words.{operation_asked, operation_in, patched, s
 ghost use Rattle.kohiblad.specs.Words.{top_hashes, tree_hashes};
 
 use crate::answer::{OTHER_KIND, TOO_MANY_STEPS, code, hand_over_items, hand_over_made, refuse};
-use crate::values::{KohibladTruth, no_truth, truth_of};
+use crate::scalar::{KohibladTruth, no_truth, truth_of};
 use jsonb::{Document, Error, OwnedJsonb, SortKey};
 use jsonb_functions::{
     Edit, append_index_keys, append_top_keys, concat, contains_within, edit_document, exists,

@@ -1,7 +1,7 @@
 use Rattle.std.proofs.Common.{ap, length, List, ℕ}
 use Rattle.kohiblad.specs.Scalars.{text_place}
 use Rattle.kohiblad.proofs.ScalarValues.{one_text}
-use Rattle.kohiblad.proofs.values.kohiblad_as_string.Goals as goal
+use Rattle.kohiblad.proofs.scalar.kohiblad_as_string.Goals as goal
 
 pub returns-in-Some-clause-text : goal.returns-in-Some-clause-text
 returns-in-Some-clause-text c = λ s doc.

@@ -2,7 +2,7 @@ use Rattle.jsonb.specs.declared.item.JsonbItem.TheVariants as items
 use Rattle.jsonb.specs.ItemView.{item_view}
 use Rattle.kohiblad.proofs.MadeDocuments.{written}
 use Rattle.kohiblad.proofs.NumberLengths.{made_number, number_fits}
-use Rattle.kohiblad.proofs.scalar_documents.write_number.Goals as goal
+use Rattle.kohiblad.proofs.scalar.numbers.write_number.Goals as goal
 
 pub returns : goal.returns
 returns c =

@@ -1,6 +1,6 @@
 use Rattle.jsonb_value.specs.Tree.{boolean}
 use Rattle.kohiblad.proofs.ScalarValues.{no_boolean, neither_type}
-use Rattle.kohiblad.proofs.values.boolean_in.Goals as goal
+use Rattle.kohiblad.proofs.scalar.boolean_in.Goals as goal
 
 pub returns-in_default-clause-none : goal.returns-in_default-clause-none
 returns-in_default-clause-none c = no_boolean c.args.bytes.now c.in_default.ensures.none

@@ -1,7 +1,7 @@
 use Rattle.std.proofs.Common.{ap, ◌∙◌}
 use Rattle.kohiblad.specs.Scalars.{truth_of}
 use Rattle.kohiblad.proofs.ScalarValues.{one_boolean}
-use Rattle.kohiblad.proofs.values.kohiblad_as_boolean.Goals as goal
+use Rattle.kohiblad.proofs.scalar.kohiblad_as_boolean.Goals as goal
 
 pub returns-in-Some-clause-boolean : goal.returns-in-Some-clause-boolean
 returns-in-Some-clause-boolean c = λ b doc.

@@ -2,7 +2,7 @@ use Rattle.std.proofs.Common.{arith}
 use Rattle.jsonb.specs.declared.item.JsonbItem.TheVariants as items
 use Rattle.jsonb.specs.ItemView.{item_view}
 use Rattle.kohiblad.proofs.MadeDocuments.{written, unstored, made_extension, extension_length}
-use Rattle.kohiblad.proofs.scalar_documents.write_extension.Goals as goal
+use Rattle.kohiblad.proofs.scalar.extensions.write_extension.Goals as goal
 
 pub returns-clause-value : goal.returns-clause-value
 returns-clause-value c = λ short.

@@ -1,7 +1,7 @@
 use Rattle.std.proofs.Common.{sym}
 use Rattle.jsonb_value.specs.Tree.{number}
 use Rattle.kohiblad.proofs.ScalarValues.{no_number}
-use Rattle.kohiblad.proofs.values.number_in.Goals as goal
+use Rattle.kohiblad.proofs.scalar.numbers.number_in.Goals as goal
 
 pub returns-in_default-clause-none : goal.returns-in_default-clause-none
 returns-in_default-clause-none c = no_number c.args.bytes.now c.in_default.ensures.none

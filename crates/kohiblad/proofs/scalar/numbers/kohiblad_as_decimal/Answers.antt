@@ -2,7 +2,7 @@ use Rattle.std.proofs.Common.{subst}
 use Rattle.jsonb_value.specs.declared.number.Number.{Number}
 use Rattle.kohiblad.specs.Scalars.{IsDecimalOf}
 use Rattle.kohiblad.proofs.ScalarValues.{one_number}
-use Rattle.kohiblad.proofs.values.kohiblad_as_decimal.Goals as goal
+use Rattle.kohiblad.proofs.scalar.numbers.kohiblad_as_decimal.Goals as goal
 
 pub returns-in-Some-clause-number : goal.returns-in-Some-clause-number
 returns-in-Some-clause-number c = λ x doc.
