@@ -46,6 +46,7 @@ pub fn sorted<'a>(alloc: Global, names: &[&'a str]) -> Result<Vec<&'a str>, Erro
 }
 
 /// Whether a member with this key is kept.
+#[tactic(auto, using(crate::proofs::PickLaws::search_finds))]
 #[inline(always)]
 pub fn is_kept(choice: Choice<'_>, key: &str) -> bool
     ensures { result ≡ keeps choice.entry.which (is_named choice.entry.names.now key.now) }

@@ -179,6 +179,7 @@ impl<'a> Source for Chosen<'a> {
         *members
     }
 
+    #[tactic(auto, using(crate::proofs::ChosenLaws::member_split))]
     #[inline(always)]
     fn split_member(
         members: ChosenMembers<'a>,

@@ -34,6 +34,7 @@ pub fn contains(left: Document<'_>, right: Document<'_>) -> bool
 /// than so many steps. A step is a pair of values that are compared, or a member of an object that
 /// is searched. `None` if the steps do not suffice, which is so only if they are fewer than the
 /// product of both documents' sizes; the size is the number of values and keys.
+#[tactic(auto, using(crate::proofs::StepLaws::found_some, crate::proofs::StepLaws::found_none))]
 pub fn contains_within(left: Document<'_>, right: Document<'_>, steps: usize) -> Option<bool>
     ensures some { IfSome result (λ is_contained. is_contained
         ≡ contains_whole (document_tree left.entry) (document_tree right.entry)) }
@@ -45,6 +46,7 @@ pub fn contains_within(left: Document<'_>, right: Document<'_>, steps: usize) ->
 }
 
 // More steps than it takes: a document has more bytes than values and keys.
+#[tactic(auto, using(crate::proofs::StepLaws::sizes_below))]
 fn most_steps(left: Document<'_>, right: Document<'_>) -> u128
     ensures { size (document_tree left.entry) * size (document_tree right.entry) ≤ result }
 {
@@ -52,6 +54,10 @@ fn most_steps(left: Document<'_>, right: Document<'_>) -> u128
 }
 
 // Whether a whole document contains another, unless it takes too many steps.
+#[tactic(auto, using(crate::proofs::StepLaws::found_within,
+    crate::proofs::StepLaws::items_fit,
+    crate::proofs::WalkLaws::array_items,
+    crate::proofs::WalkLaws::whole_item))]
 fn contains_counted(left: Document<'_>, right: Document<'_>, steps: &mut u128) -> Option<bool>
     ensures { FoundIn result
         (contains_whole (document_tree left.entry) (document_tree right.entry))
@@ -69,6 +75,8 @@ fn contains_counted(left: Document<'_>, right: Document<'_>, steps: &mut u128) -
 
 /// Whether a key is there: a key of an object, a text that is an item of an array, or the text
 /// itself.
+#[tactic(auto, using(crate::proofs::WalkLaws::array_items,
+    crate::proofs::WalkLaws::top_key_of_items))]
 pub fn exists(document: Document<'_>, key: &str) -> bool
     ensures { result ≡ has_top_key key.now (document_tree document.entry) }
 {

@@ -135,6 +135,7 @@ pub fn edit_document(
 }
 
 // The change that an edit makes, with the part that its value is.
+#[tactic(auto, using(crate::proofs::EditLaws::part_tree_of))]
 #[inline(always)]
 fn change_of<'a>(edit: Edit<'a>) -> Change<'a>
     ensures { operation_of result ≡ edit_operation edit.entry }
@@ -441,6 +442,7 @@ impl<'a> Source for Edited<'a> {
         Some(side_of(value, later.members.values))
     }
 
+    #[tactic(auto, using(crate::proofs::EditLaws::items_count))]
     #[inline(always)]
     fn count(items: EditedItems<'a>) -> usize {
         count_after(items.items.entries.len() / 4, items.what)
@@ -499,6 +501,7 @@ impl<'a> Source for Edited<'a> {
         }
     }
 
+    #[tactic(auto, using(crate::proofs::EditLaws::members_left_count))]
     #[inline(always)]
     fn members_left(members: &EditedMembers<'a>) -> usize {
         count_after(members.members.values.entries.len() / 4, members.what)

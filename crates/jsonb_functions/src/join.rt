@@ -84,6 +84,7 @@ fn split_run<'a>(run: Run<'a>) -> Option<(Part<'a>, Run<'a>)>
 }
 
 // How many values a run has.
+#[tactic(auto, using(crate::proofs::EditLaws::item_count))]
 #[inline(always)]
 fn run_len(run: Run<'_>) -> usize
     ensures len { (ts : Trees) → RunIs run.entry ts → result ≡ count ts }
@@ -355,6 +356,7 @@ impl<'a> Source for Joined<'a> {
         *members
     }
 
+    #[tactic(auto, using(crate::proofs::JoinShapes::member_split))]
     #[inline(always)]
     fn split_member(
         members: JoinedMembers<'a>,

@@ -126,6 +126,7 @@ fn patched_level<'a>(target: Option<Part<'a>>, patch: Part<'a>) -> PatchedLevel<
 }
 
 // The object that a part is, if there is one.
+#[tactic(auto, using(crate::proofs::PatchShapes::maybe_object))]
 #[inline(always)]
 fn object_of_some<'a>(part: Option<Part<'a>>) -> Option<Object<'a>>
     ensures object { (t : Tree) → MaybeMeans part.entry t → MaybeObject result (pairs_or_none t) }
@@ -210,6 +211,7 @@ fn kept<'a>(member: Member<'a>, patch: Option<Members<'a>>) -> Next<'a>
 
 // What comes of a member of the patch, where the target has this value of its key, if any: null
 // removes it, and any other value patches it.
+#[tactic(auto, using(crate::proofs::StripLaws::null_by_type))]
 #[inline(always)]
 fn changed<'a>(change: Member<'a>, value: Option<Part<'a>>, target: Option<Members<'a>>) -> Next<'a>
     ensures next { (rs ps qs : Pairs) (t u : Tree) → MaybeMeans value.entry t
@@ -305,6 +307,7 @@ impl<'a> Source for Patched<'a> {
         Some(Side::shorter(patched_stored_len(value), later))
     }
 
+    #[tactic(auto, using(jsonb_codec::proofs::PartLaws::items_count))]
     #[inline(always)]
     fn count(items: Children<'a>) -> usize {
         items.entries.len() / 4
@@ -339,6 +342,7 @@ impl<'a> Source for Patched<'a> {
         *members
     }
 
+    #[tactic(auto, using(crate::proofs::PatchShapes::member_split))]
     #[inline(always)]
     fn split_member(
         members: PatchedMembers<'a>,

@@ -87,6 +87,7 @@ fn step_of<'a>(selector: &Selector<'a>) -> Option<Step<'a>>
 }
 
 // The first step of a text, and what is after it.
+#[tactic(auto, using(crate::proofs::FilterTextLaws::no_filter))]
 fn read_step<'a>(alloc: Global, text: &'a str) -> Result<Option<(Selector<'a>, &'a str)>, Error>
     ensures ok { IfOk result (ReadsStep IsStep false text.now) }
     ensures memory { IfErr result (λ e. e ≡ Error.OutOfMemory) }
@@ -183,6 +184,7 @@ fn is_in_name(in_filter: bool, byte: u8) -> bool
 }
 
 // What is after a character, if it is the first one.
+#[tactic(auto, using(std::proofs::lemmas::Str::Pattern::strip_prefix_char))]
 fn after_char(text: &str, first: char) -> Option<&str>
     requires { first < 128 }
     ensures { MatchOption result ((rest : List ℕ) → text.now ≡ first ∷ rest → ⊥)

@@ -19,6 +19,7 @@ use std::alloc::Global;
 /// are listed. What is not an object is kept whole. `InvalidJsonb`, before the document is
 /// allocated, if it does not fit the format; `OutOfMemory` if an allocation fails, that of a sorted
 /// list of the names or that of the document.
+#[tactic(auto, using(crate::proofs::MemoryLaws::with_memory, crate::proofs::PickLaws::same_picked))]
 pub fn pick(
     alloc: Global,
     document: Document<'_>,

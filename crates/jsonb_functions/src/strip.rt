@@ -179,6 +179,7 @@ impl<'a> Source for Stripped<'a> {
         *members
     }
 
+    #[tactic(auto, using(crate::proofs::StripLaws::member_split))]
     #[inline(always)]
     fn split_member(
         members: StrippedMembers<'a>,

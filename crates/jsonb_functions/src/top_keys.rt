@@ -58,6 +58,7 @@ fn append_keys(document: Document<'_>, out: &mut Vec<u64>) -> Result<(), Error>
 }
 
 // The hash of a string; nothing for any other value.
+#[tactic(auto, using(crate::proofs::TopKeyLaws::no_text))]
 fn append_text(node: Node<'_>, out: &mut Vec<u64>) -> Result<(), Error>
     requires { HoldsNoScalar node }
     ensures appended { OnOk result
