@@ -33,7 +33,7 @@ use Rattle.jsonb_cli.specs.Each as each
 use Rattle.jsonb_cli.specs.Each.{Each}
 use Rattle.jsonb_cli.specs.AnswerLine.{error_line, refusal_name, outcome_line}
 use Rattle.jsonb_cli.specs.declared.run.Commands.{Commands}
-use Rattle.jsonb_cli.specs.Answers.{IsReply, IsLineReply, line_rule}
+use Rattle.jsonb_cli.specs.Answers.{IsAnswerOrRefusal, IsLineReply, line_rule}
 use Rattle.jsonb_cli.specs.Answers as answers
 use Rattle.jsonb_cli.specs.Answers.{IsArrAnswer, IsCanonAnswer, IsEncAnswer, no_tree, too_large}
 use Rattle.jsonb_cli.specs.Answers.{IsName, bad_hex}
@@ -50,7 +50,7 @@ failed (inr is) answered = inr (ap said_of is)
 
 -- a text that is not encoded
 pub enc_refused : (text : List ℕ) (e : Error) → IsUtf8 text → ParsesTo text (Err e)
-    → IsReply IsEncAnswer text (said_of e)
+    → IsAnswerOrRefusal IsEncAnswer text (said_of e)
 enc_refused text InvalidJson utf8 none = inl (no_tree utf8 none refl)
 enc_refused text InvalidJsonb utf8 past = inl (too_large utf8 past refl)
 enc_refused text OutOfMemory utf8 any = inr refl
@@ -58,7 +58,7 @@ enc_refused text e utf8 never = absurd never
 
 -- bytes that are not brought to canonical form
 pub canon_refused : (word bytes : List ℕ) (e : Error) → IsHexOf bytes word
-    → RewritesTo bytes (Err e) → IsReply IsCanonAnswer word (said_of e)
+    → RewritesTo bytes (Err e) → IsAnswerOrRefusal IsCanonAnswer word (said_of e)
 canon_refused word bytes InvalidJsonb hex none = inl (answers.no_tree bytes hex none refl)
 canon_refused word bytes OutOfMemory hex any = inr refl
 canon_refused word bytes e hex never = absurd never
@@ -127,7 +127,7 @@ pub arr_unread : {words rest : List (List ℕ)} (left : List (List ℕ)) {held :
     (word : List ℕ) {refusal : Refusal} → IsRead words rest held → rest ≡ word ∷ left
     → (refusal ≡ BadHex) ⊎ ((refusal ≡ TooDeep) ⊎ (refusal ≡ Call OutOfMemory))
     → (refusal ≡ BadHex → (bytes : List ℕ) → IsHexOf bytes word → ⊥)
-    → IsReply IsArrAnswer words (error_line (refusal_name refusal))
+    → IsAnswerOrRefusal IsArrAnswer words (error_line (refusal_name refusal))
 arr_unread left word read is (inl bad) none =
     inl (bad_hex read.before left word (rw is at read.parts) (none bad) (rw bad))
 arr_unread left word read is (inr (inl deep)) none = inr (rw deep)

@@ -22,6 +22,7 @@ use Rattle.jsonb.specs.Kind.{kind}
 use Rattle.jsonb.specs.ItemMeaning.{meaning_of}
 use Rattle.jsonb.specs.Code.{item_document}
 use Rattle.jsonb.specs.ItemView.{ItemView, owned}
+use Rattle.jsonb.specs.Node.{value_of_key}
 use Rattle.jsonb.specs.StoredEntries.{IsFoundIn}
 use Rattle.jsonb.proofs.ResultLaws.{array_of-IsArrayOf}
 use Rattle.jsonb.proofs.StoredEntryLaws.{IsFoundIn-one}
@@ -30,7 +31,7 @@ use Rattle.jsonb_cli.specs.Answers as answers
 use Rattle.answer_lines.specs.Session.{AreAnswers}
 use Rattle.answer_lines.proofs.OneOutput as session
 use Rattle.jsonb_cli.specs.Answers.{line_rule, commands, IsHexOf, IsName}
-use Rattle.jsonb_cli.specs.Answers.{order_words, kind_line, value_of_key, IsEncAnswer, IsDecAnswer}
+use Rattle.jsonb_cli.specs.Answers.{order_words, kind_line, IsEncAnswer, IsDecAnswer}
 use Rattle.jsonb_cli.specs.Answers.{IsPrettyAnswer, IsTypeAnswer, IsGetAnswer, IsCmpAnswer}
 use Rattle.jsonb_cli.specs.Answers.{IsArrAnswer, IsCanonAnswer, IsFormAnswer, IsAnswer}
 use Rattle.jsonb_cli.specs.Answers.{not_text, no_tree, too_large, encoded, bad_hex, no_document}

@@ -21,7 +21,7 @@ use Rattle.jsonb.specs.Building.{FitArray, IsArrayOf}
 use Rattle.jsonb.specs.Canonical.{RewritesTo}
 use Rattle.jsonb.specs.Code.{item_document}
 use Rattle.jsonb.specs.Kind.{kind}
-use Rattle.jsonb.specs.Lookup.{find}
+use Rattle.jsonb.specs.Node.{value_of_key}
 use Rattle.jsonb.specs.ItemMeaning.{meaning_of}
 use Rattle.jsonb.specs.Parsing.{ParsesTo}
 use Rattle.jsonb.specs.ItemView.{ItemView, owned}
@@ -100,10 +100,6 @@ pub data IsTypeAnswer (word answer : List ℕ) : Type 0 where
 abbrev pub IsName : List ℕ → List ℕ → Type 0
 IsName name key = IsUtf8 key × Json (chars key) (trees.text name)
 
--- The value of the first key that equals the name.
-abbrev pub value_of_key : List ℕ → Tree → Option Tree
-value_of_key name t = find (pointwise nat_eq name) (length name) t
-
 -- The answer to `get` is the value of the key as a document of its own, with the type and payload
 -- of its entry, or why there is none.
 pub data IsGetAnswer (word key answer : List ℕ) : Type 0 where
@@ -180,12 +176,12 @@ pub data IsAnswer (line answer : List ℕ) : Type 0 where
   of_none : ((form : Form) → IsOfForm form line → ⊥) → IsBadCommand answer → IsAnswer line answer
 
 -- The reply is an answer, or reports that there was not enough memory.
-abbrev pub IsReply : {A : Type 0} → (A → List ℕ → Type 0) → A → List ℕ → Type 0
-IsReply Answers asked reply = Answers asked reply ⊎ IsRefused reply
+abbrev pub IsAnswerOrRefusal : {A : Type 0} → (A → List ℕ → Type 0) → A → List ℕ → Type 0
+IsAnswerOrRefusal Answers asked reply = Answers asked reply ⊎ IsRefused reply
 
 -- The possible replies to a line.
 abbrev pub IsLineReply : List ℕ → List ℕ → Type 0
-IsLineReply = IsReply IsAnswer
+IsLineReply = IsAnswerOrRefusal IsAnswer
 
 -- The state of the program, which is empty.
 abbrev pub commands : Commands

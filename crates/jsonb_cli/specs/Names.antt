@@ -13,10 +13,10 @@ pub use Rattle.jsonb.specs.Node.{node_view}
 pub use Rattle.answer_lines.specs.Session.{AppendsBeginning, AppendsReplies, AppendsWhole}
 pub use Rattle.answer_lines.specs.Session.{AreAnswers}
 pub use Rattle.jsonb_cli.specs.AnswerLine.{answer_words, ok_line, outcome_line, refusal_name}
-pub use Rattle.jsonb_cli.specs.Answers.{IsAnswer, IsArrAnswer, IsCanonAnswer, IsCmpAnswer}
-pub use Rattle.jsonb_cli.specs.Answers.{IsDecAnswer, IsEncAnswer, IsFormAnswer, IsGetAnswer}
-pub use Rattle.jsonb_cli.specs.Answers.{IsHexOf, IsLineReply, IsPrettyAnswer, IsReply, IsTypeAnswer}
-pub use Rattle.jsonb_cli.specs.Answers.{commands, kind_words, line_rule, order_words}
+pub use Rattle.jsonb_cli.specs.Answers.{IsAnswer, IsAnswerOrRefusal, IsArrAnswer, IsCanonAnswer}
+pub use Rattle.jsonb_cli.specs.Answers.{IsCmpAnswer, IsDecAnswer, IsEncAnswer, IsFormAnswer}
+pub use Rattle.jsonb_cli.specs.Answers.{IsGetAnswer, IsHexOf, IsLineReply, IsPrettyAnswer}
+pub use Rattle.jsonb_cli.specs.Answers.{IsTypeAnswer, commands, kind_words, line_rule, order_words}
 pub use Rattle.jsonb_cli.specs.Commands.{Form, IsOfForm}
 pub use Rattle.jsonb_cli.specs.Fault.{error_of, fault_line}
 pub use Rattle.jsonb_cli.specs.Grammar.{form_of}

@@ -2,12 +2,12 @@
 
 ghost use Rattle.std.specs.Prelude.{◌≡◌, ◌⊎◌, ◌++◌, ◌∷◌, [], ℕ, List};
 ghost use Rattle.std.specs.Prelude.{IfOk, IfErr, OnOk, IsErrOf, string_bytes};
-ghost use Rattle.jsonb_cli.specs.Names.{encode_lower, OutOfMemory, compact, pretty, Doc};
-ghost use Rattle.jsonb_cli.specs.Names.{Tree, IsDocument, item_document, CanBeStored, owned};
-ghost use Rattle.jsonb_cli.specs.Names.{document_bytes, node_view, ok_line};
-ghost use Rattle.jsonb_cli.specs.Names.{answer_words, outcome_line, IsEncAnswer, IsDecAnswer};
-ghost use Rattle.jsonb_cli.specs.Names.{IsPrettyAnswer, IsTypeAnswer, IsGetAnswer, IsCmpAnswer};
-ghost use Rattle.jsonb_cli.specs.Names.{IsArrAnswer, IsCanonAnswer, IsReply, IsHexOf, kind_words};
+ghost use Rattle.jsonb_cli.specs.Names.{encode_lower, OutOfMemory, compact, pretty, Doc, Tree};
+ghost use Rattle.jsonb_cli.specs.Names.{IsDocument, item_document, CanBeStored, owned};
+ghost use Rattle.jsonb_cli.specs.Names.{document_bytes, node_view, ok_line, answer_words};
+ghost use Rattle.jsonb_cli.specs.Names.{outcome_line, IsEncAnswer, IsDecAnswer, IsPrettyAnswer};
+ghost use Rattle.jsonb_cli.specs.Names.{IsTypeAnswer, IsGetAnswer, IsCmpAnswer, IsArrAnswer};
+ghost use Rattle.jsonb_cli.specs.Names.{IsCanonAnswer, IsAnswerOrRefusal, IsHexOf, kind_words};
 ghost use Rattle.jsonb_cli.specs.Names.{order_words};
 
 use crate::answer::{Answer, Refusal};
@@ -22,7 +22,7 @@ use std::str;
 
 /// Executes `enc`: the canonical document of a JSON text.
 pub fn answer_enc(alloc: Global, text: &[u8]) -> Result<Answer, Refusal>
-    ensures { IsReply IsEncAnswer text.now (outcome_line result) }
+    ensures { IsAnswerOrRefusal IsEncAnswer text.now (outcome_line result) }
 {
     let Ok(json) = str::from_utf8(text) else {
         return Err(Refusal::Call(Error::InvalidUtf8));
@@ -35,7 +35,7 @@ pub fn answer_enc(alloc: Global, text: &[u8]) -> Result<Answer, Refusal>
 
 /// Executes `dec`: the compact text of a document.
 pub fn answer_dec(alloc: Global, word: &[u8]) -> Result<Answer, Refusal>
-    ensures { IsReply IsDecAnswer word.now (outcome_line result) }
+    ensures { IsAnswerOrRefusal IsDecAnswer word.now (outcome_line result) }
 {
     let bytes = decode_shallow(alloc, word)?;
     match document_text(alloc, &bytes) {
@@ -46,7 +46,7 @@ pub fn answer_dec(alloc: Global, word: &[u8]) -> Result<Answer, Refusal>
 
 /// Executes `pretty`: the pretty text of a document, in hexadecimal since it has several lines.
 pub fn answer_pretty(alloc: Global, word: &[u8]) -> Result<Answer, Refusal>
-    ensures { IsReply IsPrettyAnswer word.now (outcome_line result) }
+    ensures { IsAnswerOrRefusal IsPrettyAnswer word.now (outcome_line result) }
 {
     let bytes = decode_shallow(alloc, word)?;
     match pretty_document_text(alloc, &bytes) {
@@ -86,7 +86,7 @@ fn pretty_document_text(alloc: Global, bytes: &[u8]) -> Result<String, Error>
 
 /// Executes `cmp`: the order of two byte strings by their meaning.
 pub fn answer_cmp(alloc: Global, left: &[u8], right: &[u8]) -> Result<Answer, Refusal>
-    ensures { IsReply (IsCmpAnswer left.now) right.now (outcome_line result) }
+    ensures { IsAnswerOrRefusal (IsCmpAnswer left.now) right.now (outcome_line result) }
 {
     let left = decode_shallow(alloc, left)?;
     let right = decode_shallow(alloc, right)?;
@@ -107,7 +107,7 @@ fn order_word(order: Ordering) -> &'static str
 
 /// Executes `arr`: the array of these documents.
 pub fn answer_arr(alloc: Global, words: Words) -> Result<Answer, Refusal>
-    ensures { IsReply IsArrAnswer words.entry (outcome_line result) }
+    ensures { IsAnswerOrRefusal IsArrAnswer words.entry (outcome_line result) }
 {
     let mut builder = ArrayBuilder::new(alloc);
     for word in words {
@@ -138,7 +138,7 @@ fn push_document(alloc: Global, builder: &mut ArrayBuilder, word: &[u8]) -> Resu
 
 /// Executes `canon`: the canonical document of a document's value.
 pub fn answer_canon(alloc: Global, word: &[u8]) -> Result<Answer, Refusal>
-    ensures { IsReply IsCanonAnswer word.now (outcome_line result) }
+    ensures { IsAnswerOrRefusal IsCanonAnswer word.now (outcome_line result) }
 {
     let bytes = decode_shallow(alloc, word)?;
     match RawJsonb::new(&bytes).to_canonical(alloc) {
@@ -149,7 +149,7 @@ pub fn answer_canon(alloc: Global, word: &[u8]) -> Result<Answer, Refusal>
 
 /// Executes `type`: the kind read from the first two words of the bytes.
 pub fn answer_type(alloc: Global, word: &[u8]) -> Result<Answer, Refusal>
-    ensures { IsReply IsTypeAnswer word.now (outcome_line result) }
+    ensures { IsAnswerOrRefusal IsTypeAnswer word.now (outcome_line result) }
 {
     let bytes = decode_word(alloc, word)?;
     match RawJsonb::new(&bytes).jsonb_item_type() {
@@ -175,7 +175,7 @@ fn kind_answer(kind: JsonbItemType) -> Answer
 
 /// Executes `get`: the value of a key, as a document of its own.
 pub fn answer_get(alloc: Global, word: &[u8], key: &[u8]) -> Result<Answer, Refusal>
-    ensures { IsReply (IsGetAnswer word.now) key.now (outcome_line result) }
+    ensures { IsAnswerOrRefusal (IsGetAnswer word.now) key.now (outcome_line result) }
 {
     let bytes = decode_shallow(alloc, word)?;
     let Ok(json) = str::from_utf8(key) else {

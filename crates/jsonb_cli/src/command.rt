@@ -3,7 +3,7 @@
 ghost use Rattle.std.specs.Prelude.{◌≡◌, ◌⊎◌, ◌↔◌, ◌++◌, ℕ, List, codes, IfSome, IfNone, IfOk};
 ghost use Rattle.std.specs.Prelude.{IfErr, IsErrOf};
 ghost use Rattle.jsonb_cli.specs.Names.{OutOfMemory, Form, IsOfForm, form_of, outcome_line};
-ghost use Rattle.jsonb_cli.specs.Names.{IsFormAnswer, IsReply, IsLineReply, IsHexOf};
+ghost use Rattle.jsonb_cli.specs.Names.{IsFormAnswer, IsAnswerOrRefusal, IsLineReply, IsHexOf};
 ghost use Rattle.jsonb_cli.specs.Names.{IsDocument, IsDocumentWithin};
 
 use crate::answer::{Answer, Refusal};
@@ -19,7 +19,7 @@ use std::alloc::Global;
 /// How deep the bytes of a word may nest if a command walks them. As LLVM builds the program a
 /// level took at most 410 bytes of stack where it was measured, so this takes half of the usual 8
 /// MB.
-pub const MAX_DEPTH: usize = 10_000;
+pub const MAX_WORD_DEPTH: usize = 10_000;
 
 /// A command with its arguments: a text, or words.
 #[derive(Drop)]
@@ -97,7 +97,7 @@ fn parse_cmp(words: &[u8]) -> Option<Command<'_>>
 impl Command<'_> {
     /// Executes the command. Running out of memory is an outcome too.
     pub fn answer(self, alloc: Global) -> Result<Answer, Refusal>
-        ensures { IsReply IsFormAnswer (form_of self.entry) (outcome_line result) }
+        ensures { IsAnswerOrRefusal IsFormAnswer (form_of self.entry) (outcome_line result) }
     {
         match self {
             Command::Enc(text) => answer_enc(alloc, text),
@@ -139,20 +139,20 @@ pub fn decode_word(alloc: Global, word: &[u8]) -> Result<Vec<u8>, Refusal>
 }
 
 /// The bytes of a hexadecimal word, as `decode_word` returns them, for a command that walks them.
-/// `TooDeep` if checking them goes deeper than `MAX_DEPTH`, which never happens with a document
-/// that nests at most so deep.
+/// `TooDeep` if checking them goes deeper than `MAX_WORD_DEPTH`, which never happens with a
+/// document that nests at most so deep.
 pub fn decode_shallow(alloc: Global, word: &[u8]) -> Result<Vec<u8>, Refusal>
     ensures ok { IfOk result (λ bytes. IsHexOf bytes.items word.now) }
     ensures shallow { IfOk result
-        (λ bytes. IsDocument bytes.items ↔ IsDocumentWithin MAX_DEPTH bytes.items) }
+        (λ bytes. IsDocument bytes.items ↔ IsDocumentWithin MAX_WORD_DEPTH bytes.items) }
     ensures bad { IsErrOf result Refusal.BadHex → (bytes : List ℕ) → IsHexOf bytes word.now → ⊥ }
     ensures deep { IsErrOf result Refusal.TooDeep → (bytes : List ℕ) → IsHexOf bytes word.now
-        → IsDocumentWithin MAX_DEPTH bytes → ⊥ }
+        → IsDocumentWithin MAX_WORD_DEPTH bytes → ⊥ }
     ensures refused { IfErr result (λ refusal. (refusal ≡ Refusal.BadHex)
         ⊎ ((refusal ≡ Refusal.TooDeep) ⊎ (refusal ≡ Refusal.Call OutOfMemory))) }
 {
     let bytes = decode_word(alloc, word)?;
-    if nests_deeper(&bytes, MAX_DEPTH) {
+    if nests_deeper(&bytes, MAX_WORD_DEPTH) {
         return Err(Refusal::TooDeep);
     }
     Ok(bytes)
