@@ -190,9 +190,9 @@ fn extension_in(bytes: &[u8]) -> Option<ExtensionValue<'_>>
     }
 }
 
-/// The tag and fields of an extension value. Data are at the offset 9 of its document, after two
-/// words and the tag.
-pub fn fields_of(value: ExtensionValue<'_>) -> KohibladExtension
+// The tag and fields of an extension value. Data are at the offset 9 of its document, after two
+// words and the tag.
+fn fields_of(value: ExtensionValue<'_>) -> KohibladExtension
     ensures { result ≡ extension_answer (extension_of value.entry) }
 {
     let none = no_extension(OK);
