@@ -56,13 +56,17 @@ def place_of(crate, module, name):
 def comment_above(lines, at):
     """The `///` comment and the attributes above a line."""
     doc, attributes = [], []
-    while at and re.match(r"\s*(///|#\[)", lines[at - 1]):
+    while at and re.match(r"\s*(///|#\[|\)\]$)", lines[at - 1]):
         at -= 1
         line = lines[at].strip()
         if line.startswith("///"):
             doc.insert(0, line[4:].rstrip())
-        else:
-            attributes.insert(0, line)
+            continue
+        # An attribute of several lines ends in one of its own.
+        while not line.startswith("#["):
+            at -= 1
+            line = f"{lines[at].strip()} {line}"
+        attributes.insert(0, line)
     return doc, attributes
 
 
