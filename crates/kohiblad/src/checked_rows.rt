@@ -27,6 +27,7 @@ impl<'a> Model for Documents<'a> {
 
 impl<'a> Documents<'a> {
     /// Checks the rows. `InvalidJsonb` if one is not a document of at most this depth.
+    #[tactic(auto, using(crate::proofs::CheckedRows::are_documents))]
     pub fn within(rows: Rows<'a>, depth: usize) -> Result<Self, Error>
         ensures ok { IfOk result (λ documents.
             (documents ≡ rows.entry) × AreWithin depth rows.entry) }

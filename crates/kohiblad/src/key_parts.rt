@@ -65,6 +65,7 @@ fn cut_key(key: SortKey<'_>, out: &mut [u8]) -> usize
 /// is not `OK`, `out` is unchanged, and `length` is 0, or for `NO_ROOM` the length of the keys, or
 /// `SIZE_MAX` if they are longer. A scalar has depth 0, an array or object one more than its
 /// deepest child, and at least 1. Deeper levels are not examined.
+#[tactic(auto, using(crate::proofs::MemberKeyLaws::members_order))]
 #[unsafe(no_mangle)]
 pub extern "C" fn kohiblad_member_key(
     alloc: Global,

@@ -171,6 +171,7 @@ fn write_selected(
 }
 
 // The positions of the values that a path selects.
+#[tactic(auto, using(crate::proofs::PathPlaceLaws::whole_part))]
 fn selected_places(
     alloc: Global,
     bytes: &[u8],
