@@ -56,7 +56,7 @@ def place_of(crate, module, name):
 def comment_above(lines, at):
     """The `///` comment and the attributes above a line."""
     doc, attributes = [], []
-    while at and re.match(r"\s*(///|#\[|\)\]$)", lines[at - 1]):
+    while at and re.match(r"\s*(///|#\[|.*\)\]$)", lines[at - 1]):
         at -= 1
         line = lines[at].strip()
         if line.startswith("///"):
