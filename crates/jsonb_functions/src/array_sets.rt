@@ -80,7 +80,6 @@ pub fn array_except(
 
 // The canonical document of the first array's items for which the second has an equal that no item
 // before them took, or of those for which it has not.
-#[tactic(auto, using(crate::proofs::ArraySetLaws::matched_trees, crate::proofs::MemoryLaws::with_memory))]
 fn matched_document(
     alloc: Global,
     left: Document<'_>,
@@ -208,7 +207,6 @@ fn push_if<'a>(is_kept: bool, list: &mut Vec<Part<'a>>, part: Part<'a>) -> Resul
 }
 
 // Whether some item has a count.
-#[tactic(auto, using(crate::proofs::ArraySetLaws::shared_found, crate::proofs::ArraySetLaws::shared_next, crate::proofs::ArraySetLaws::shared_none))]
 fn has_shared<'a>(items: &[Part<'a>], counts: &BTreeMap<Node<'a>, usize>) -> bool
     ensures { (us : Trees) → CountsEquals counts.now.entries us
         → result ≡ some_shared (listed_trees items.now) us }
@@ -234,7 +232,6 @@ fn count_items<'a>(alloc: Global, items: &[Part<'a>]) -> Result<BTreeMap<Node<'a
 }
 
 // The value that a part holds.
-#[tactic(auto, using(jsonb_codec::proofs::Decision::known_part, crate::proofs::EditLaws::part_tree_of))]
 #[inline(always)]
 fn node_of<'a>(part: Part<'a>) -> Node<'a>
     ensures { node_tree result ≡ part_tree part.entry }
@@ -264,7 +261,6 @@ fn raise_count<'a>(counts: &mut BTreeMap<Node<'a>, usize>, node: Node<'a>) -> Re
 }
 
 // Lowers the count of a value's equals by one. `false` if it is 0.
-#[tactic(auto, using(crate::proofs::ArraySetLaws::none_left, crate::proofs::ArraySetLaws::none_set))]
 fn lower_count<'a>(counts: &mut BTreeMap<Node<'a>, usize>, node: Node<'a>) -> bool
     ensures was { result ≡ nat_lt 0 (equals_count counts.old.entries node.entry) }
     ensures lowered { SetsEqualsCount counts.old.entries counts.new.entries node.entry

@@ -54,7 +54,6 @@ fn most_steps(left: Document<'_>, right: Document<'_>) -> u128
 }
 
 // Whether a whole document contains another, unless it takes too many steps.
-#[tactic(auto, using(crate::proofs::StepLaws::found_within, crate::proofs::StepLaws::items_fit, crate::proofs::WalkLaws::array_items, crate::proofs::WalkLaws::whole_item))]
 fn contains_counted(left: Document<'_>, right: Document<'_>, steps: &mut u128) -> Option<bool>
     ensures { FoundIn result
         (contains_whole (document_tree left.entry) (document_tree right.entry))
@@ -72,7 +71,6 @@ fn contains_counted(left: Document<'_>, right: Document<'_>, steps: &mut u128) -
 
 /// Whether a key is there: a key of an object, a text that is an item of an array, or the text
 /// itself.
-#[tactic(auto, using(crate::proofs::WalkLaws::array_items, crate::proofs::WalkLaws::top_key_of_items))]
 pub fn exists(document: Document<'_>, key: &str) -> bool
     ensures { result ≡ has_top_key key.now (document_tree document.entry) }
 {

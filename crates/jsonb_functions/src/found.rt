@@ -27,7 +27,6 @@ pub fn node_at<'a>(start: Node<'a>, path: &[Step<'_>]) -> Option<Node<'a>>
 }
 
 /// The child that a step leads to.
-#[tactic(auto, using(crate::proofs::FoundLaws::item_child, crate::proofs::FoundLaws::no_child, crate::proofs::WalkLaws::array_items))]
 pub fn child_of<'a>(node: Node<'a>, step: Step<'_>) -> Option<Node<'a>>
     ensures { option_map node_tree result ≡ child_at step.entry (node_tree node.entry) }
 {

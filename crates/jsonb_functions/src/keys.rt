@@ -13,7 +13,6 @@ use std::alloc::Global;
 /// The canonical document of an array of an object's keys: texts in the order in which the keys are
 /// stored, which is that of their bytes. `None` if the document is not an object. `OutOfMemory` is
 /// the only error.
-#[tactic(auto, using(crate::proofs::KeyTextLaws::keys_of_array, crate::proofs::KeyTextLaws::keys_of_object, crate::proofs::KeyTextLaws::keys_of_other))]
 pub fn object_keys(alloc: Global, document: Document<'_>) -> Result<Option<OwnedJsonb>, Error>
     ensures ok { IfOk result (λ keys. option_map owned_bytes keys
         ≡ option_map canon (key_array (document_tree document.entry))) }

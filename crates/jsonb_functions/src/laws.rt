@@ -21,7 +21,6 @@ pub fn index_key_laws()
 
 /// The document of a path means its steps, and the path that `read_path` reads in it is that path,
 /// with each index from the end as it is stored.
-#[tactic(auto, using(crate::proofs::PathDocumentLaws::path_means, crate::proofs::PathDocumentLaws::path_read))]
 pub fn path_document_laws()
     ensures means { (path : List StepView) → IsTree (path_tree path) → Fits (path_tree path)
         → Doc (canon (path_tree path)) (path_tree path) }

@@ -4,7 +4,6 @@ ghost use Rattle.std.specs.Prelude.{◌≡◌, ◌∷◌, ◌<◌, MatchOption};
 ghost use Rattle.jsonb_functions.specs.Names.{BeginsNoMark};
 
 /// The byte with which a text begins and the text after it, if that byte is ASCII.
-#[tactic(auto, using(std::proofs::lemmas::Bool::Decides::nat_tests, crate::proofs::NameLaws::after_mark))]
 pub fn split_mark(text: &str) -> Option<(u8, &str)>
     ensures { MatchOption result (BeginsNoMark text.now)
         (λ parts. (parts.0 < 128) × (text.now ≡ parts.0 ∷ parts.1.now)) }

@@ -14,7 +14,6 @@ use std::alloc::Global;
 /// bits, which are indexes; of those less than 0, -1 is the last item. The keys are the document's
 /// bytes. `None` if the document is anything else; `OutOfMemory`, the only error, if an allocation
 /// fails.
-#[tactic(auto, using(crate::proofs::StoredPathLaws::first_steps, crate::proofs::StoredPathLaws::steps_on, crate::proofs::StoredPathLaws::steps_then, crate::proofs::WalkLaws::array_items))]
 pub fn read_path<'a>(alloc: Global, document: Document<'a>) -> Result<Option<Vec<Step<'a>>>, Error>
     ensures ok { IfOk result (λ path. option_map (λ steps. map step_view steps.items) path
         ≡ path_in (document_tree document.entry)) }
