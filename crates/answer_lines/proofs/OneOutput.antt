@@ -2,11 +2,12 @@
 use Rattle.std.proofs.Common.{◌≡◌, inl, inr, ℕ, List, refl}
 use Rattle.std.proofs.lemmas.List.Elements.{All-head, All-tail}
 use Rattle.std.specs.Prelude.{All}
-use Rattle.answer_lines.specs.Session.{Rule, IsRefused, IsReply, Session, none, more, AreAnswers}
+use Rattle.answer_lines.specs.Session.{Rule, IsNoMemoryReply, IsReply, Session, none, more}
+use Rattle.answer_lines.specs.Session.{AreAnswers}
 use Rattle.answer_lines.proofs.Replies.{one_lines}
 
 abbrev IsGiven : List ℕ → Type 0
-IsGiven reply = IsRefused reply → ⊥
+IsGiven reply = IsNoMemoryReply reply → ⊥
 
 -- In each state a line has only one reply and only one next state, unless memory is lacking.
 abbrev pub HasOneReply : {S : Type 0} → Rule S → Type 0

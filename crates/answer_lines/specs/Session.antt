@@ -8,13 +8,13 @@ abbrev pub Rule : Type 0 → Type 1
 Rule S = S → List ℕ → List ℕ → S → Type 0
 
 -- The line reports that there was not enough memory.
-abbrev pub IsRefused : List ℕ → Type 0
-IsRefused reply = reply ≡ codes "error OutOfMemory"
+abbrev pub IsNoMemoryReply : List ℕ → Type 0
+IsNoMemoryReply reply = reply ≡ codes "error OutOfMemory"
 
 -- The reply follows the rule, or reports lack of memory and leaves the state unchanged.
 abbrev pub IsReply : {S : Type 0} → Rule S → S → List ℕ → List ℕ → S → Type 0
 IsReply rule state line reply next =
-    rule state line reply next ⊎ (IsRefused reply × (next ≡ state))
+    rule state line reply next ⊎ (IsNoMemoryReply reply × (next ≡ state))
 
 -- One reply to each line, in order, each in the state that the previous line left.
 pub data Session {S : Type 0} (rule : Rule S) : S → List (List ℕ) → List (List ℕ) → S → Type 0
@@ -39,7 +39,7 @@ pub record AreAnswers {S : Type 0} (rule : Rule S) (state : S) (input output : L
   where
     pub end : S
     pub all : Replies rule state end input output
-    pub no_refusal : All (λ reply. IsRefused reply → ⊥) all.replies
+    pub no_refusal : All (λ reply. IsNoMemoryReply reply → ⊥) all.replies
 
 -- The replies to the input were appended.
 pub record AppendsReplies {S : Type 0} (rule : Rule S) (state end : S) (input : List ℕ)

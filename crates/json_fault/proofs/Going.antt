@@ -8,12 +8,12 @@ use Rattle.jsonb_value.specs.declared.parser.number.Exponents.{Exponents}
 use Rattle.json_fault.specs.declared.expected.Bracket.{Bracket}
 use Rattle.json_fault.specs.declared.expected.Expected.{Expected}
 use Rattle.json_fault.specs.declared.expected.Change.TheVariants.{Keep}
-use Rattle.json_fault.specs.Scan.{Move, changed, innermost, followed, skips}
+use Rattle.json_fault.specs.Scan.{Move, changed, innermost_bracket, followed, skips}
 
 -- Each of the characters may come in its place.
 unfoldable pub Going : Exponents → Expected → List Bracket → List ℕ → Type 0
 Going rule e bs [] = Unit {0}
-Going rule e bs (c ∷ w) = (m : Move) × (followed rule e (innermost bs) c ≡ Some m)
+Going rule e bs (c ∷ w) = (m : Move) × (followed rule e (innermost_bracket bs) c ≡ Some m)
     × Going rule m.0 (changed m.1 bs) w
 
 pub arrived : (rule : Exponents) (e : Expected) (bs : List Bracket) → Going rule e bs []
@@ -21,7 +21,7 @@ unfolding Going
 arrived rule e bs = tt
 
 pub step : (rule : Exponents) (e : Expected) (bs : List Bracket) (m : Move) (c : ℕ) (w : List ℕ)
-    → followed rule e (innermost bs) c ≡ Some m → Going rule m.0 (changed m.1 bs) w
+    → followed rule e (innermost_bracket bs) c ≡ Some m → Going rule m.0 (changed m.1 bs) w
     → Going rule e bs (c ∷ w)
 unfolding Going
 step rule e bs m c w is more = (m, is, more)
@@ -45,7 +45,7 @@ Position = Expected × List Bracket
 abbrev pub arrives : Exponents → Position → List ℕ → Option Position
 arrives rule x [] = Some x
 arrives rule x (c ∷ w) =
-    followed rule x.0 (innermost x.1) c >>= λ m. arrives rule (m.0, changed m.1 x.1) w
+    followed rule x.0 (innermost_bracket x.1) c >>= λ m. arrives rule (m.0, changed m.1 x.1) w
 
 pub goes_on_after : (rule : Exponents) (x y : Position) (front w : List ℕ)
     → arrives rule x front ≡ Some y → Going rule x.0 x.1 (front ++ w) → Going rule y.0 y.1 w
@@ -53,19 +53,19 @@ unfolding Going
 goes_on_after rule x y [] w e go =
     subst (λ (z : Position). Going rule z.0 z.1 w) (some_same x y e) go
 goes_on_after rule x y (c ∷ front) w e go =
-    bind_then (followed rule x.0 (innermost x.1) c) _ _ e (λ m is last.
+    bind_then (followed rule x.0 (innermost_bracket x.1) c) _ _ e (λ m is last.
     goes_on_after rule (m.0, changed m.1 x.1) y front w last
     (subst (λ (n : Move). Going rule n.0 (changed n.1 x.1) (front ++ w))
     (some_same go.0 m (sym go.1 ∙ is)) go.2))
 
 pub arrives_on : (rule : Exponents) (x y : Position) (front : List ℕ) (m : Move) (c : ℕ)
-    → arrives rule x front ≡ Some y → followed rule y.0 (innermost y.1) c ≡ Some m
+    → arrives rule x front ≡ Some y → followed rule y.0 (innermost_bracket y.1) c ≡ Some m
     → arrives rule x (front ++ c ∷ []) ≡ Some (m.0, changed m.1 y.1)
 arrives_on rule x y [] m c e is =
     subst (λ (z : Position). arrives rule z (c ∷ []) ≡ Some (m.0, changed m.1 y.1))
     (sym (some_same x y e)) (bound _ _ _ m is refl)
 arrives_on rule x y (d ∷ front) m c e is =
-    bind_then (followed rule x.0 (innermost x.1) d) _ _ e (λ n first last.
+    bind_then (followed rule x.0 (innermost_bracket x.1) d) _ _ e (λ n first last.
     bound _ _ _ n first (arrives_on rule (n.0, changed n.1 x.1) y front m c last is))
 
 pub arrives_first : (rule : Exponents) (x y : Position) (front w : List ℕ)
@@ -73,6 +73,6 @@ pub arrives_first : (rule : Exponents) (x y : Position) (front w : List ℕ)
     → (z : Position) × ((arrives rule x front ≡ Some z) × (arrives rule z w ≡ Some y))
 arrives_first rule x y [] w e = (x, (refl, e))
 arrives_first rule x y (c ∷ front) w e =
-    bind_then (followed rule x.0 (innermost x.1) c) _ _ e (λ m is last.
+    bind_then (followed rule x.0 (innermost_bracket x.1) c) _ _ e (λ m is last.
     let more = arrives_first rule (m.0, changed m.1 x.1) y front w last in
     (more.0, (bound _ _ _ m is more.1.0, more.1.1)))

@@ -22,7 +22,8 @@ use Rattle.json_fault.specs.declared.expected.Bracket.{Bracket}
 use Rattle.json_fault.specs.declared.expected.Expected.{Expected}
 use Rattle.json_fault.specs.declared.expected.Expected.TheVariants.{Value, Rest, Digits}
 use Rattle.json_fault.specs.declared.expected.Change.TheVariants.{Keep}
-use Rattle.json_fault.specs.Scan.{innermost, followed, has_room, has_room_after, is_end, limit}
+use Rattle.json_fault.specs.Scan.{innermost_bracket, followed, has_room, has_room_after, is_end}
+use Rattle.json_fault.specs.Scan.{limit}
 use Rattle.json_fault.specs.Scan.{part_continued, with_point, with_digit, number_begun, keep}
 use Rattle.json_fault.specs.Scan.{value_begun, mark_after, takes_exponent}
 use Rattle.json_fault.proofs.Conditions.{less_from, less_test, either_none, either_first}
@@ -229,7 +230,7 @@ module _ (rule : Exponents) (bs : List Bracket) (b : Bool) (magnitude scale : �
       → all_digits f ≡ true → digits_value_after 10 0 ((c ∷ whole) ++ f) ≡ magnitude
       → length f ≡ scale
       → ((n : Numeral) → is_ascii_digit c ≡ true → number_begun b c ≡ Some n
-      → followed rule e (innermost bs) c ≡ Some (Digits n, Keep))
+      → followed rule e (innermost_bracket bs) c ≡ Some (Digits n, Keep))
       → Going rule e bs ((c ∷ whole) ++ (fraction_text f ++ w))
   digits_go e c [] f is all value size begins =
       let first : digits_value_after 10 (digit_value c) f ≡ magnitude =

@@ -24,7 +24,7 @@ use Rattle.json_fault.specs.declared.expected.Expected.{Expected}
 use Rattle.json_fault.specs.declared.expected.Expected.TheVariants.{Value, FirstItem, Digits}
 use Rattle.json_fault.specs.declared.expected.Expected.TheVariants.{ExponentSign, ExponentDigits}
 use Rattle.json_fault.specs.declared.expected.Change.TheVariants.{Keep}
-use Rattle.json_fault.specs.Scan.{Move, keep, changed, innermost, followed, rest_followed}
+use Rattle.json_fault.specs.Scan.{Move, keep, changed, innermost_bracket, followed, rest_followed}
 use Rattle.json_fault.specs.Scan.{number_begun, number_continued, part_continued, exponent_begun}
 use Rattle.json_fault.specs.Scan.{exponent_continued, part_goes_on, with_digit, with_point}
 use Rattle.json_fault.specs.Scan.{takes_exponent}
@@ -488,13 +488,13 @@ module _ (rule : Exponents) where
       → Tail y.0 r
   tail_after x y [] r e tail = subst (λ (z : Position). Tail z.0 r) (some_same x y e) tail
   tail_after x y (c ∷ s) r e tail =
-      bind_then (followed rule x.0 (innermost x.1) c) _ _ e (λ m is last.
+      bind_then (followed rule x.0 (innermost_bracket x.1) c) _ _ e (λ m is last.
       tail_after (m.0, changed m.1 x.1) y s r last
-      (tail_step x.0 (innermost x.1) m c (s ++ r) is tail))
+      (tail_step x.0 (innermost_bracket x.1) m c (s ++ r) is tail))
 
   pub tail_of_number : (x y : Position) (c : ℕ) (s r : List ℕ) → is_first x.0 ≡ true
       → arrives rule x (c ∷ s) ≡ Some y → Spelled (c ∷ (s ++ r)) → Tail y.0 r
   tail_of_number x y c s r first e spelled =
-      bind_then (followed rule x.0 (innermost x.1) c) _ _ e (λ m is last.
+      bind_then (followed rule x.0 (innermost_bracket x.1) c) _ _ e (λ m is last.
       tail_after (m.0, changed m.1 x.1) y s r last
-      (first_step x.0 (innermost x.1) m c (s ++ r) first spelled is))
+      (first_step x.0 (innermost_bracket x.1) m c (s ++ r) first spelled is))

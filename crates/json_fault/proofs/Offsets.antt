@@ -12,7 +12,7 @@ use Rattle.json_fault.specs.declared.expected.Expected.{Expected}
 use Rattle.json_fault.specs.declared.expected.Expected.TheVariants.{Value}
 use Rattle.json_fault.specs.declared.fault.FaultReason.{FaultReason}
 use Rattle.json_fault.specs.declared.fault.FaultReason.TheVariants.{Number}
-use Rattle.json_fault.specs.Scan.{Move, changed, innermost, followed, scale_of, reason_at}
+use Rattle.json_fault.specs.Scan.{Move, changed, innermost_bracket, followed, scale_of, reason_at}
 use Rattle.json_fault.specs.Fault.{IsFaultUnder, EndsInNumber}
 use Rattle.json_fault.proofs.Scanning.{IsReached, begun, moved, ended, stopped}
 use Rattle.json_fault.proofs.Stopping.{reason_is}
@@ -41,7 +41,8 @@ module _ (rule : Exponents) (text : List ℕ) where
 
   pub at_next : (rest after : List ℕ) (offset further : ℕ) (e : Expected) (bs : List Bracket)
       (m : Move) (c : ℕ) → IsAt rule text rest offset e bs → rest ≡ encode_utf8 c ++ after
-      → further ≡ offset + length (encode_utf8 c) → followed rule e (innermost bs) c ≡ Some m
+      → further ≡ offset + length (encode_utf8 c)
+      → followed rule e (innermost_bracket bs) c ≡ Some m
       → IsAt rule text after further m.0 (changed m.1 bs)
   at_next rest after offset further e bs m c at cut moves is =
       let front = at.front in
@@ -72,7 +73,7 @@ module _ (rule : Exponents) (text : List ℕ) where
   -- the next character may not come
   pub fault_here : (rest after : List ℕ) (start offset : ℕ) (reason : FaultReason) (e : Expected)
       (bs : List Bracket) (c : ℕ) → IsAt rule text rest offset e bs
-      → rest ≡ encode_utf8 c ++ after → followed rule e (innermost bs) c ≡ None
+      → rest ≡ encode_utf8 c ++ after → followed rule e (innermost_bracket bs) c ≡ None
       → start ≡ offset → reason ≡ reason_at e (Some c)
       → IsFaultUnder rule (chars text) (record { offset = start; reason = reason })
   fault_here rest after start offset reason e bs c at cut none same why =
@@ -85,7 +86,8 @@ module _ (rule : Exponents) (text : List ℕ) where
         is_offset = same ∙ at.is_offset;
         is_reason = subst (λ r. (r ≡ Number) ↔ EndsInNumber rule at.front (chars rest)) (sym why)
             (reason_is rule at.reached (Some c) (chars after, next) (λ d is.
-            subst (λ (x : ℕ). followed rule e (innermost bs) x ≡ None) (some_same c d is) none));
+            subst (λ (x : ℕ). followed rule e (innermost_bracket bs) x ≡ None) (some_same c d is)
+            none));
       }
 
   -- the text ends here

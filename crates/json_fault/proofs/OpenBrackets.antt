@@ -6,15 +6,15 @@ use Rattle.std.specs.List.{slice_get}
 use Rattle.std.proofs.lemmas.List.{reverse-append}
 use Rattle.jsonb_value.proofs.Json.Tests.{no_error}
 use Rattle.json_fault.specs.declared.expected.Bracket.{Bracket}
-use Rattle.json_fault.specs.Scan.{innermost, without_innermost}
+use Rattle.json_fault.specs.Scan.{innermost_bracket, without_innermost}
 use mathlib.Core.List.{reverse_aux}
 
 last_onto : (b : Bracket) (bs more : List Bracket)
-    → slice_get (b ∷ bs) (length bs) ≡ innermost (reverse_aux bs (b ∷ more))
+    → slice_get (b ∷ bs) (length bs) ≡ innermost_bracket (reverse_aux bs (b ∷ more))
 last_onto b [] more = refl
 last_onto b (c ∷ bs) more = last_onto c bs (b ∷ more)
 
-pub last_is : (bs : List Bracket) → slice_get bs (length bs - 1) ≡ innermost (reverse bs)
+pub last_is : (bs : List Bracket) → slice_get bs (length bs - 1) ≡ innermost_bracket (reverse bs)
 last_is [] = refl
 last_is (b ∷ bs) =
     let one : suc (length bs) - 1 ≡ length bs = omega arith in

@@ -28,7 +28,8 @@ use Rattle.json_fault.specs.declared.expected.Expected.TheVariants.{Digits, Expo
 use Rattle.json_fault.specs.declared.expected.Expected.TheVariants.{ExponentDigits, Content, Name}
 use Rattle.json_fault.specs.declared.expected.Change.TheVariants.{Keep}
 use Rattle.json_fault.specs.Fault.{IsJsonUnder, Begins, IsFault, new_line}
-use Rattle.json_fault.specs.Scan.{Move, changed, innermost, followed, limit, has_room, is_viable}
+use Rattle.json_fault.specs.Scan.{Move, changed, innermost_bracket, followed, limit, has_room}
+use Rattle.json_fault.specs.Scan.{is_viable}
 use Rattle.json_fault.specs.Scan.{has_room_after, viable_only, with_digit, with_point, number_begun}
 use Rattle.json_fault.specs.Scan.{number_first, part_continued, number_continued, value_begun}
 use Rattle.json_fault.specs.Scan.{mark_begun, rest_begun, rest_followed, word_continued, is_closed}
@@ -368,7 +369,7 @@ Completed rule front x =
 
 module _ (rule : Exponents) where
   pub completed_on : (front : List ℕ) (x : Position) (m : Move) (c : ℕ)
-      → followed rule x.0 (innermost x.1) c ≡ Some m → is_live rule x.0 ≡ true
+      → followed rule x.0 (innermost_bracket x.1) c ≡ Some m → is_live rule x.0 ≡ true
       → Completed rule front x → Completed rule (front ++ c ∷ []) (m.0, changed m.1 x.1)
   completed_on front x m c is live completed w end =
       subst (λ (s : List ℕ). Completes rule Value [] s) (sym (append_assoc front (c ∷ []) w))
@@ -382,8 +383,8 @@ module _ (rule : Exponents) where
 
   -- a new line and a number may come
   expects : (front : List ℕ) (x : Position) → is_live rule x.0 ≡ true → Completed rule front x
-      → followed rule x.0 (innermost x.1) new_line ≡ Some (x.0, Keep)
-      → followed rule x.0 (innermost x.1) zero_digit
+      → followed rule x.0 (innermost_bracket x.1) new_line ≡ Some (x.0, Keep)
+      → followed rule x.0 (innermost_bracket x.1) zero_digit
       ≡ Some (Digits (numeral_at false Zero 0 0), Keep)
       → Begins rule (front ++ new_line ∷ zero_digit ∷ [])
   expects front x live completed blank zero =
@@ -422,19 +423,19 @@ begun rule text rest same = record {
 -- the scan goes on by one character
 pub moved : (rule : Exponents) {text front rest after : List ℕ} {e : Expected}
     {bs : List Bracket} (m : Move) {c : ℕ} → IsReached rule text front rest e bs
-    → rest ≡ c ∷ after → followed rule e (innermost bs) c ≡ Some m
+    → rest ≡ c ∷ after → followed rule e (innermost_bracket bs) c ≡ Some m
     → IsReached rule text (front ++ c ∷ []) after m.0 (changed m.1 bs)
 moved rule {text} {front} {rest} {after} {e} {bs} m {c} reached cut is = record {
   is_split = reached.is_split ∙ ap (λ r. front ++ r) cut
       ∙ sym (append_assoc front (c ∷ []) after);
   arrived = arrives_on rule (Value, []) (e, bs) front m c reached.arrived is;
   completed = completed_on rule front (e, bs) m c is reached.sound.live reached.completed;
-  sound = step_sound rule front c e (innermost bs) m is reached.sound
+  sound = step_sound rule front c e (innermost_bracket bs) m is reached.sound
       (first_expects rule front e bs reached.completed);
 }
 
 stuck : (rule : Exponents) (e : Expected) (bs : List Bracket) (c : ℕ) (w : List ℕ)
-    → followed rule e (innermost bs) c ≡ None → Going rule e bs (c ∷ w) → ⊥
+    → followed rule e (innermost_bracket bs) c ≡ None → Going rule e bs (c ∷ w) → ⊥
 unfolding Going
 stuck rule e bs c w none go = no_error (sym none ∙ go.1)
 
@@ -447,7 +448,7 @@ text_goes_on rule front w x arrived json =
 
 -- the next character may not come
 pub refused : (rule : Exponents) (front : List ℕ) (x : Position) (c : ℕ)
-    → arrives rule (Value, []) front ≡ Some x → followed rule x.0 (innermost x.1) c ≡ None
+    → arrives rule (Value, []) front ≡ Some x → followed rule x.0 (innermost_bracket x.1) c ≡ None
     → Begins rule (front ++ c ∷ []) → ⊥
 refused rule front x c arrived none begins =
     stuck rule x.0 x.1 c begins.0 none (text_goes_on rule front (c ∷ begins.0) x arrived
@@ -464,7 +465,7 @@ ended rule {text} {front} {rest} {e} {bs} reached none = record {
 -- the next character may not come
 pub stopped : (rule : Exponents) {text front rest after : List ℕ} {e : Expected}
     {bs : List Bracket} {c : ℕ} → IsReached rule text front rest e bs → rest ≡ c ∷ after
-    → followed rule e (innermost bs) c ≡ None → IsFault rule front rest
+    → followed rule e (innermost_bracket bs) c ≡ None → IsFault rule front rest
 stopped rule {text} {front} {rest} {after} {e} {bs} {c} reached cut none = record {
   begins = begins_at rule front (e, bs) reached.sound.live reached.completed;
   longest = λ d more is begins.

@@ -35,7 +35,7 @@ use Rattle.json_fault.specs.declared.expected.Expected.TheVariants.{Key, Colon, 
 use Rattle.json_fault.specs.declared.expected.Expected.TheVariants.{Digits, ExponentSign}
 use Rattle.json_fault.specs.declared.expected.Expected.TheVariants.{ExponentDigits, Content, Name}
 use Rattle.json_fault.specs.declared.expected.Change.TheVariants.{Keep, Close}
-use Rattle.json_fault.specs.Scan.{Move, keep, changed, innermost, followed, value_begun}
+use Rattle.json_fault.specs.Scan.{Move, keep, changed, innermost_bracket, followed, value_begun}
 use Rattle.json_fault.specs.Scan.{number_first, number_begun, rest_begun, rest_followed, mark_begun}
 use Rattle.json_fault.specs.Scan.{word_continued, is_viable, is_closed, number_continued}
 use Rattle.json_fault.specs.Scan.{string_continued, limit, reaches, has_room_after, takes_exponent}
@@ -383,14 +383,14 @@ module _ (rule : Exponents) where
   ]
 
   rest_back : (bs : List Bracket) (m : Move) (c : ℕ) (w : List ℕ)
-      → rest_begun (innermost bs) c ≡ Some m → Goes m bs w → Ends rule bs (c ∷ w)
+      → rest_begun (innermost_bracket bs) c ≡ Some m → Goes m bs w → Ends rule bs (c ∷ w)
   unfolding Ends
   rest_back [] m c w e end = no_error e
   rest_back (Array ∷ bs) m c w e end = array_back bs m c w e end
   rest_back (Object ∷ bs) m c w e end = object_back bs m c w e end
 
   after_value : (bs : List Bracket) (m : Move) (c : ℕ) (w : List ℕ)
-      → rest_followed (innermost bs) c ≡ Some m → Goes m bs w → Ends rule bs (c ∷ w)
+      → rest_followed (innermost_bracket bs) c ≡ Some m → Goes m bs w → Ends rule bs (c ∷ w)
   after_value bs m c w e end = elim (chosen (is_blank c) _ _ _ e) [
     | inl is ↦ ends_blank bs c w is.0 (known _ m bs w is.1 end)
     | inr other ↦ rest_back bs m c w other.1 end
@@ -444,7 +444,7 @@ module _ (rule : Exponents) where
 
   -- the end of a number without an exponent
   ended : (bs : List Bracket) (n : Numeral) (m : Move) (c : ℕ) (w : List ℕ)
-      → number_ended (is_complete n) (innermost bs) c ≡ Some m → is_viable rule n ≡ true
+      → number_ended (is_complete n) (innermost_bracket bs) c ≡ Some m → is_viable rule n ≡ true
       → Goes m bs w
       → NumberEnd n.part n.magnitude n.scale (RestEnd rule n.is_negative (Ends rule bs)) (c ∷ w)
   ended bs n m c w e live end =
@@ -456,7 +456,7 @@ module _ (rule : Exponents) where
       (inl (and_both _ _ room complete.1, after_value bs m c w both.1 end))
 
   pub step_back : (e : Expected) (bs : List Bracket) (m : Move) (c : ℕ) (w : List ℕ)
-      → followed rule e (innermost bs) c ≡ Some m → is_live rule e ≡ true → Goes m bs w
+      → followed rule e (innermost_bracket bs) c ≡ Some m → is_live rule e ≡ true → Goes m bs w
       → Completes rule e bs (c ∷ w)
   step_back Value bs m c w e live end = elim (chosen (is_blank c) _ _ _ e) [
     | inl is ↦ syntax_blank syntax_text (meaning rule) (Ends rule bs) c w is.0

@@ -28,7 +28,8 @@ use Rattle.json_fault.specs.declared.expected.Expected.TheVariants.{ExponentDigi
 use Rattle.json_fault.specs.declared.expected.Change.TheVariants.{Keep}
 use Rattle.json_fault.specs.declared.fault.FaultReason.TheVariants.{Syntax, Number}
 use Rattle.json_fault.specs.Fault.{Begins, BeginsNumber, EndsInNumber, IsJsonUnder, new_line}
-use Rattle.json_fault.specs.Scan.{Move, changed, innermost, followed, part_continued, rest_begun}
+use Rattle.json_fault.specs.Scan.{Move, changed, innermost_bracket, followed, part_continued}
+use Rattle.json_fault.specs.Scan.{rest_begun}
 use Rattle.json_fault.specs.Scan.{word_continued, string_continued, is_inside, takes_exponent}
 use Rattle.json_fault.specs.Scan.{is_complete, is_final, is_unfinished, goes_on, stops_in_number}
 use Rattle.json_fault.specs.Scan.{reason_at}
@@ -84,15 +85,16 @@ module _ (rule : Exponents) where
 
   -- a new line may come
   abbrev TakesLine : Position → Type 0
-  TakesLine x = (m : Move) × ((followed rule x.0 (innermost x.1) new_line ≡ Some m)
+  TakesLine x = (m : Move) × ((followed rule x.0 (innermost_bracket x.1) new_line ≡ Some m)
       × (is_live rule m.0 ≡ true))
 
   number_line : (e : Expected) (bs : List Bracket) (r : List ℕ) → is_unfinished e ≡ false
       → Tail e r → TakesLine (e, bs)
-  number_line (Digits n) bs r e tail = ((Rest, Keep), (digits_line n (innermost bs) e, refl))
+  number_line (Digits n) bs r e tail =
+      ((Rest, Keep), (digits_line n (innermost_bracket bs) e, refl))
   number_line (ExponentSign n) bs r e tail = absurd (let h : ⊥ = cc in h)
   number_line (ExponentDigits x) bs r e tail =
-      ((Rest, Keep), (power_line x (innermost bs) e, refl))
+      ((Rest, Keep), (power_line x (innermost_bracket bs) e, refl))
   number_line _ bs r e tail = absurd tail
 
   first_line : (e : Expected) (bs : List Bracket) → is_first e ≡ true → TakesLine (e, bs)
@@ -137,14 +139,14 @@ module _ (rule : Exponents) (bs : List Bracket) (w : List ℕ) where
   abbrev Takes : Expected → Type 0
   Takes e = Going rule e bs (new_line ∷ zero_digit ∷ w)
 
-  not_line : {A : Type 0} (e : Expected) → followed rule e (innermost bs) new_line ≡ None
+  not_line : {A : Type 0} (e : Expected) → followed rule e (innermost_bracket bs) new_line ≡ None
       → Takes e → A
   unfolding Going
   not_line e none go = no_error (sym none ∙ go.1)
 
   not_zero : {A : Type 0} (e next : Expected)
-      → followed rule e (innermost bs) new_line ≡ Some (next, Keep)
-      → followed rule next (innermost bs) zero_digit ≡ None → Takes e → A
+      → followed rule e (innermost_bracket bs) new_line ≡ Some (next, Keep)
+      → followed rule next (innermost_bracket bs) zero_digit ≡ None → Takes e → A
   unfolding Going
   not_zero e next line none go =
       let rest : Going rule next bs (zero_digit ∷ w) =
@@ -158,18 +160,19 @@ module _ (rule : Exponents) (bs : List Bracket) (w : List ℕ) where
   first_only FirstKey go = not_zero FirstKey FirstKey refl refl go
   first_only Key go = not_zero Key Key refl refl go
   first_only Colon go = not_zero Colon Colon refl refl go
-  first_only Rest go = not_zero Rest Rest refl (no_zero (innermost bs)) go
+  first_only Rest go = not_zero Rest Rest refl (no_zero (innermost_bracket bs)) go
   first_only (Letters word) go = not_line (Letters word) (no_letter word) go
   first_only (Digits n) go = elim (bool_cases (is_unfinished (Digits n))) [
-    | inl un ↦ not_line (Digits n) (no_line rule (Digits n) (innermost bs) un) go
-    | inr done ↦ not_zero (Digits n) Rest (digits_line rule n (innermost bs) done)
-        (no_zero (innermost bs)) go
+    | inl un ↦ not_line (Digits n) (no_line rule (Digits n) (innermost_bracket bs) un) go
+    | inr done ↦ not_zero (Digits n) Rest (digits_line rule n (innermost_bracket bs) done)
+        (no_zero (innermost_bracket bs)) go
   ]
   first_only (ExponentSign n) go = not_line (ExponentSign n) refl go
   first_only (ExponentDigits x) go = elim (bool_cases (is_unfinished (ExponentDigits x))) [
-    | inl un ↦ not_line (ExponentDigits x) (no_line rule (ExponentDigits x) (innermost bs) un) go
-    | inr done ↦ not_zero (ExponentDigits x) Rest (power_line rule x (innermost bs) done)
-        (no_zero (innermost bs)) go
+    | inl un ↦ not_line (ExponentDigits x)
+        (no_line rule (ExponentDigits x) (innermost_bracket bs) un) go
+    | inr done ↦ not_zero (ExponentDigits x) Rest (power_line rule x (innermost_bracket bs) done)
+        (no_zero (innermost_bracket bs)) go
   ]
   first_only (Content place) go = not_line (Content place)
       (by_false _ _ _ _ (and_none (is_inside place) (new_line == quote) refl)
@@ -222,10 +225,11 @@ module _ (rule : Exponents) (front rest : List ℕ) where
       → (Begins rule (front ++ new_line ∷ []) → ⊥)
       ⊎ ((c : ℕ) × ((after : List ℕ) × ((rest ≡ c ∷ after) × BeginsNumber (at.number ++ c ∷ []))))
   why e bs arrived at None is stops =
-      inl (refused rule front (e, bs) new_line arrived (no_line rule e (innermost bs) stops))
+      inl (refused rule front (e, bs) new_line arrived
+      (no_line rule e (innermost_bracket bs) stops))
   why e bs arrived at (Some c) is stops = elim (either_true _ _ stops) [
     | inl un ↦
-        inl (refused rule front (e, bs) new_line arrived (no_line rule e (innermost bs) un))
+        inl (refused rule front (e, bs) new_line arrived (no_line rule e (innermost_bracket bs) un))
     | inr goes ↦ inr (c, (is.0, (is.1, begins_more rule front e at c goes)))
   ]
 
@@ -265,11 +269,12 @@ module _ (rule : Exponents) (front rest : List ℕ) where
 
   more_at : (z x : Position) (number : List ℕ) (c : ℕ) → is_first z.0 ≡ true
       → arrives rule z number ≡ Some x → BeginsNumber (number ++ c ∷ [])
-      → followed rule x.0 (innermost x.1) c ≡ None → stops_in_number x.0 (Some c) ≡ true
+      → followed rule x.0 (innermost_bracket x.1) c ≡ None → stops_in_number x.0 (Some c) ≡ true
   more_at z x [] c first e begins none =
-      absurd (first_comes rule z.0 (innermost z.1) c begins.1.1.0 first
+      absurd (first_comes rule z.0 (innermost_bracket z.1) c begins.1.1.0 first
       (begins.0, (begins.1.0, begins.1.1.1))
-      (subst (λ (y : Position). followed rule y.0 (innermost y.1) c ≡ None) (sym (some_same z x e))
+      (subst (λ (y : Position). followed rule y.0 (innermost_bracket y.1) c ≡ None)
+      (sym (some_same z x e))
       none))
   more_at z x (d ∷ s) c first e begins none =
       tail_stops x.0 c begins.1.1.0 (tail_of_number rule z x d s (c ∷ begins.1.1.0) first e
@@ -282,7 +287,7 @@ module _ (rule : Exponents) (front rest : List ℕ) where
 
   fault_stops : (x : Position) → Arrived x → is_live rule x.0 ≡ true → Completed rule front x
       → EndsInNumber rule front rest → (next : Option ℕ) → IsNext next rest
-      → ((c : ℕ) → next ≡ Some c → followed rule x.0 (innermost x.1) c ≡ None)
+      → ((c : ℕ) → next ≡ Some c → followed rule x.0 (innermost_bracket x.1) c ≡ None)
       → stops_in_number x.0 next ≡ true
   fault_stops x arrived live completed fault next is_next none =
       let at = arrives_first rule (Value, []) x fault.before fault.number
@@ -316,7 +321,7 @@ number_stops false e = absurd (let h : ⊥ = cc in h)
 pub reason_is : (rule : Exponents) {text front rest : List ℕ} {e : Expected}
     {bs : List Bracket} → IsReached rule text front rest e bs → (next : Option ℕ)
     → IsNext next rest
-    → ((c : ℕ) → next ≡ Some c → followed rule e (innermost bs) c ≡ None)
+    → ((c : ℕ) → next ≡ Some c → followed rule e (innermost_bracket bs) c ≡ None)
     → (reason_at e next ≡ Number) ↔ EndsInNumber rule front rest
 reason_is rule {text} {front} {rest} {e} {bs} reached next is_next none = (
   λ is. stops_at_fault rule front rest e bs reached.arrived reached.sound.number next is_next

@@ -19,7 +19,8 @@ use Rattle.json_fault.specs.declared.string.Place.TheVariants.{Low, LowLetter, L
 use Rattle.json_fault.specs.declared.expected.Bracket.{Bracket}
 use Rattle.json_fault.specs.declared.expected.Expected.{Expected}
 use Rattle.json_fault.specs.declared.expected.Change.TheVariants.{Keep}
-use Rattle.json_fault.specs.Scan.{innermost, followed, after_digit, string_continued, is_closed}
+use Rattle.json_fault.specs.Scan.{innermost_bracket, followed, after_digit, string_continued}
+use Rattle.json_fault.specs.Scan.{is_closed}
 use Rattle.json_fault.proofs.Conditions.{less_from, less_test, most_test, either_none, either_first}
 use Rattle.json_fault.proofs.StringBack.{unit_number}
 use Rattle.json_fault.proofs.Going.{Going, step}
@@ -107,7 +108,8 @@ escape_no_u c v e = grind (arith, nat_tests)
 
 module _ (rule : Exponents) (at : Place → Expected) (moves : (place q : Place) (c : ℕ)
     (bs : List Bracket) → is_closed place c ≡ false → string_continued place c ≡ Some q
-    → followed rule (at place) (innermost bs) c ≡ Some (at q, Keep)) (bs : List Bracket) where
+    → followed rule (at place) (innermost_bracket bs) c ≡ Some (at q, Keep))
+    (bs : List Bracket) where
   one_step : (place q : Place) (c : ℕ) (w : List ℕ) → is_closed place c ≡ false
       → string_continued place c ≡ Some q → Going rule (at q) bs w
       → Going rule (at place) bs (c ∷ w)

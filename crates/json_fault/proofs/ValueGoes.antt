@@ -17,7 +17,7 @@ use Rattle.jsonb_value.specs.Json.Piece.{Piece, pieces_meaning}
 use Rattle.jsonb_value.specs.Json.Syntax.{Syntax, nothing, truth, numeral, string, empty_array}
 use Rattle.jsonb_value.specs.Json.Syntax.{items, empty_object, members, Element, element, Items}
 use Rattle.jsonb_value.specs.Json.Syntax.{no_item, next_item, Member, member, Members, no_member}
-use Rattle.jsonb_value.specs.Json.Syntax.{next_member, string_text, syntax_text, element_text}
+use Rattle.jsonb_value.specs.Json.Syntax.{next_member, string_characters, syntax_text, element_text}
 use Rattle.jsonb_value.specs.Json.Syntax.{items_text, member_text, members_text, Entries, between}
 use Rattle.jsonb_value.specs.Json.Syntax.{meaning, element_meaning, items_meaning, member_meaning}
 use Rattle.jsonb_value.specs.Json.Syntax.{members_meaning, JsonText}
@@ -34,7 +34,7 @@ use Rattle.json_fault.specs.declared.expected.Expected.TheVariants.{Key, Colon, 
 use Rattle.json_fault.specs.declared.expected.Expected.TheVariants.{Content, Name}
 use Rattle.json_fault.specs.declared.expected.Change.TheVariants.{Keep, Open, Close}
 use Rattle.json_fault.specs.Scan.{Move, keep, value_begun, mark_begun, closed_or, changed, skips}
-use Rattle.json_fault.specs.Scan.{followed, innermost}
+use Rattle.json_fault.specs.Scan.{followed, innermost_bracket}
 use Rattle.json_fault.specs.declared.expected.Expected.{Expected}
 use Rattle.json_fault.proofs.Going.{Going, arrived, step, blanks_go}
 use Rattle.json_fault.proofs.StringGoes.{pieces_go}
@@ -85,7 +85,7 @@ module _ (rule : Exponents) where
 
   string_goes : (bs : List Bracket) (ps : List Piece) (bytes w : List ℕ)
       → pieces_meaning ps ≡ Some bytes → Going rule Rest bs w
-      → Going rule Value bs (string_text ps ++ w)
+      → Going rule Value bs (string_characters ps ++ w)
   string_goes bs ps bytes w e more =
       step rule Value bs (Content Inside, Keep) quote _ refl
       (rw append_assoc (pieces_go rule Content
@@ -95,7 +95,7 @@ module _ (rule : Exponents) where
 
   key_goes : (bs : List Bracket) (ps : List Piece) (bytes w : List ℕ)
       → pieces_meaning ps ≡ Some bytes
-      → Going rule Colon bs w → Going rule Key bs (string_text ps ++ w)
+      → Going rule Colon bs w → Going rule Key bs (string_characters ps ++ w)
   key_goes bs ps bytes w e more =
       step rule Key bs (Name Inside, Keep) quote _ refl
       (rw append_assoc (pieces_go rule Name
@@ -107,8 +107,8 @@ module _ (rule : Exponents) where
 
   -- where a container may end, whatever may begin otherwise goes
   first_goes : (e first : Expected) (close : ℕ) (begun : ℕ → Option Move) (bs : List Bracket)
-      → ((c : ℕ) → followed rule e (innermost bs) c ≡ cond (is_blank c) (keep e) (begun c))
-      → ((c : ℕ) → followed rule first (innermost bs) c
+      → ((c : ℕ) → followed rule e (innermost_bracket bs) c ≡ cond (is_blank c) (keep e) (begun c))
+      → ((c : ℕ) → followed rule first (innermost_bracket bs) c
       ≡ cond (is_blank c) (keep first) (closed_or c close (begun c)))
       → begun close ≡ None → (w : List ℕ) → Going rule e bs w → Going rule first bs w
   unfolding Going
@@ -182,7 +182,7 @@ module _ (rule : Exponents) where
 
   -- an array or object without items or members
   empty_goes : (first : Expected) (b : Bracket) (k j : ℕ) (bs : List Bracket)
-      (blank w : List ℕ) → followed rule Value (innermost bs) k ≡ Some (first, Open b)
+      (blank w : List ℕ) → followed rule Value (innermost_bracket bs) k ≡ Some (first, Open b)
       → skips first ≡ true → followed rule first (Some b) j ≡ Some (Rest, Close)
       → all_blank blank ≡ true → Going rule Rest bs w
       → Going rule Value bs ((k ∷ (blank ++ j ∷ [])) ++ w)
@@ -255,7 +255,7 @@ module _ (rule : Exponents) where
         let parts = cond_some (all_blank before && all_blank after) (pieces_meaning key) k is_key in
         let blanks = and_true (all_blank before) (all_blank after) parts.0 in
         subst (λ (s : List ℕ). Going rule Key bs s)
-        (sym (member_split before (string_text key) after (element_text x) w colon))
+        (sym (member_split before (string_characters key) after (element_text x) w colon))
         (blanks_go rule Key bs refl before _ blanks.0
         (key_goes bs key k _ parts.1
         (blanks_go rule Colon bs refl after _ blanks.1

@@ -348,7 +348,7 @@ skips Colon = true
 skips Rest = true
 skips _ = false
 
--- What follows this character, which is no white space between tokens.
+-- What follows this character, which is not white space between tokens.
 abbrev pub token_begun : Exponents → Expected → Option Bracket → ℕ → Option Move
 token_begun rule Value top c = value_begun c
 token_begun rule FirstItem top c = closed_or c close_bracket (value_begun c)
@@ -391,9 +391,9 @@ abbrev pub reason_at : Expected → Option ℕ → FaultReason
 reason_at e next = cond (stops_in_number e next) Number Syntax
 
 -- The innermost open bracket.
-abbrev pub innermost : List Bracket → Option Bracket
-innermost [] = None
-innermost (b ∷ bs) = Some b
+abbrev pub innermost_bracket : List Bracket → Option Bracket
+innermost_bracket [] = None
+innermost_bracket (b ∷ bs) = Some b
 
 -- The brackets without the innermost.
 abbrev pub without_innermost : List Bracket → List Bracket

@@ -7,7 +7,7 @@ pub use Rattle.json_fault.specs.Scan.{after_backslash, after_digit, after_digit_
 pub use Rattle.json_fault.specs.Scan.{after_first_digit, after_inside, after_mark, at_most, changed}
 pub use Rattle.json_fault.specs.Scan.{closed_or, exponent_begun, exponent_continued, followed}
 pub use Rattle.json_fault.specs.Scan.{has_scale, in_content, in_exponent, in_name, in_number}
-pub use Rattle.json_fault.specs.Scan.{innermost, is_closed, is_complete, is_end, is_final}
+pub use Rattle.json_fault.specs.Scan.{innermost_bracket, is_closed, is_complete, is_end, is_final}
 pub use Rattle.json_fault.specs.Scan.{is_viable, limit, log10, lowering, mark_after, mark_begun}
 pub use Rattle.json_fault.specs.Scan.{mark_followed, number_begun, number_continued, number_ended}
 pub use Rattle.json_fault.specs.Scan.{number_first, raising, reaches, rest_begun, rest_followed}

@@ -287,7 +287,7 @@ fn skips(expected: Expected) -> bool
     }
 }
 
-// What follows this character, which is no white space between tokens.
+// What follows this character, which is not white space between tokens.
 fn token_begun(
     exponents: Exponents,
     expected: Expected,

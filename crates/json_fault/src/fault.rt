@@ -2,7 +2,8 @@
 
 ghost use Rattle.std.specs.Prelude.{◌≡◌, ◌↔◌, chars, reverse, OnOk, IfOk, IfErr, IfSome};
 ghost use Rattle.json_fault.specs.Words.{IsJson, IsFaultAt, IsJsonWithExponents, IsJsonUnder};
-ghost use Rattle.json_fault.specs.Words.{IsFaultAtWithExponents, IsFaultUnder, innermost, changed};
+ghost use Rattle.json_fault.specs.Words.{IsFaultAtWithExponents, IsFaultUnder, innermost_bracket};
+ghost use Rattle.json_fault.specs.Words.{changed};
 ghost use Rattle.json_fault.specs.Words.{reason_at};
 
 use crate::expected::{Bracket, Change, Expected, followed, stops_in_number};
@@ -31,7 +32,7 @@ pub struct Fault {
 
 // The innermost open bracket.
 fn innermost(brackets: &Vec<Bracket>) -> Option<Bracket>
-    ensures { result ≡ innermost (reverse brackets.now.items) }
+    ensures { result ≡ innermost_bracket (reverse brackets.now.items) }
 {
     brackets.as_slice().last().copied()
 }

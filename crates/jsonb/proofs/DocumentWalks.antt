@@ -8,11 +8,11 @@ use Rattle.jsonb_value.specs.Tree.{pair_count}
 use Rattle.jsonb_codec.specs.Doc.{Payload, Doc}
 use Rattle.jsonb.specs.ItemView.{ItemView}
 use Rattle.jsonb.specs.Item.{Entry}
-use Rattle.jsonb.specs.StoredEntries.{HasItems, HasMembers, entry_item, member_item}
+use Rattle.jsonb.specs.StoredEntries.{IsArrayOfEntries, IsObjectOfEntries, entry_item, member_item}
 use Rattle.jsonb.specs.declared.iterator.ChildKind.{ChildKind}
 use Rattle.jsonb.specs.declared.iterator.ChildKind.TheVariants.{ArrayItem, ObjectKey, ObjectValue}
-use Rattle.jsonb.specs.Walk.{Walk, items_in, count_if, count_under, walk_of_children}
-use Rattle.jsonb.specs.Walk.{children_walk, pairs_of, pairs_walk}
+use Rattle.jsonb.specs.Walk.{Walk, items_read, count_if, count_under, walk_of_children}
+use Rattle.jsonb.specs.Walk.{children_walk, pairs_iterator, pairs_walk}
 use Rattle.jsonb.specs.DocumentWalk.{ShowsTrees, key_views, ShowsValues, ShowsPairs, WalksOver}
 use Rattle.jsonb.specs.DocumentWalk.{WalksChildren, WalksEntries, WalksPairs, ShowsItems}
 use Rattle.jsonb.specs.DocumentWalk.{ShowsValueItems, ShowsMembers, WalksMembers}
@@ -56,7 +56,7 @@ ShowsValues-trees (pair k t ps) xs h = absurd h
 
 module _ (b : List ℕ) where
   array_walked : (Shows : Trees → List (Result ItemView Error) → Type 0)
-      → ((ts : Trees) (a : ArrayHolds b ts) → Shows ts (items_in (map Ok a.entries))) → (t : Tree)
+      → ((ts : Trees) (a : ArrayHolds b ts) → Shows ts (items_read (map Ok a.entries))) → (t : Tree)
       → Doc b t
       → WalksTrees Shows t (walk_of_children ArrayItem b (count_if 2147483648 (header_of_tree t)))
   array_walked Shows shows (array ts) doc =
@@ -76,7 +76,8 @@ module _ (b : List ℕ) where
 -- each iterator on a document
 module _ (b : List ℕ) (t : Tree) (doc : Doc b t) where
   array_shown : (Shows : Trees → List (Result ItemView Error) → Type 0)
-      → ((ts : Trees) (cs : List Entry) → HasItems b ts cs → ShowsTrees ts (map entry_item cs)
+      → ((ts : Trees) (cs : List Entry) → IsArrayOfEntries b ts cs
+      → ShowsTrees ts (map entry_item cs)
       → Shows ts (map entry_item cs))
       → WalksTrees Shows t (children_walk ArrayItem b)
   array_shown Shows shows = rw (count_under-Doc b t 2147483648 doc)
@@ -85,7 +86,7 @@ module _ (b : List ℕ) (t : Tree) (doc : Doc b t) where
       rw shown.0 (shows ts a.entries a.stored shown.1)) t doc)
 
   values_shown : (Shows : Pairs → List (Result ItemView Error) → Type 0)
-      → ((ps : Pairs) (ms : List (List ℕ × Entry)) → HasMembers b ps ms
+      → ((ps : Pairs) (ms : List (List ℕ × Entry)) → IsObjectOfEntries b ps ms
       → ShowsTrees (value_trees ps) (map entry_item (maps.values_of ms))
       → Shows ps (map entry_item (maps.values_of ms)))
       → WalksObject Shows t (children_walk ObjectValue b)
@@ -96,11 +97,11 @@ module _ (b : List ℕ) (t : Tree) (doc : Doc b t) where
       rw (o.ends, o.values) (refl, rw shown.0 (shows ps o.members o.stored shown.1))) t doc)
 
   pairs_shown : (Shows : Pairs → List (Result (List ℕ × ItemView) Error) → Type 0)
-      → ((ps : Pairs) (ms : List (List ℕ × Entry)) → HasMembers b ps ms
+      → ((ps : Pairs) (ms : List (List ℕ × Entry)) → IsObjectOfEntries b ps ms
       → ShowsPairs ps (map member_item ms) → Shows ps (map member_item ms))
       → WalksObject Shows t (pairs_walk b)
   pairs_shown Shows shows = rw (count_under-Doc b t 1073741824 doc)
-      (object_walked b Shows (pairs_of b) refl (λ ps o.
+      (object_walked b Shows (pairs_iterator b) refl (λ ps o.
       let shown = shown_members o.members ps o.stored.mean o.texts o.stored.short in
       rw (o.ends, o.values, o.keys) (refl, rw shown.0 (shows ps o.members o.stored shown.1))) t doc)
 

@@ -10,7 +10,7 @@ use Rattle.jsonb_value.specs.declared.error.Error.TheVariants.{InvalidEOF, Inval
 use Rattle.jsonb_codec.specs.declared.jentry.JEntry.{JEntry}
 use Rattle.jsonb_codec.specs.declared.constants.TheConstants.{SCALAR_CONTAINER_TAG}
 use Rattle.jsonb_codec.specs.JEntry.{jentry_at, jentry_in}
-use Rattle.jsonb_codec.specs.Word.{header_at}
+use Rattle.jsonb_codec.specs.WordBytes.{header_at}
 use Rattle.jsonb_codec.proofs.RoomLaws.{word_at-inside}
 use Rattle.jsonb.specs.declared.entries.Entry.{Entry as PlacedEntry}
 use Rattle.jsonb.specs.Entries.{entries_of, entry_read, entry_there, left_after, payloads_end}

@@ -14,14 +14,15 @@ use Rattle.jsonb_codec.proofs.Decision.{known_part}
 use Rattle.jsonb.specs.declared.document.Node.{Node}
 use Rattle.jsonb.specs.ItemView.{ItemView}
 use Rattle.jsonb.specs.ItemView as items
-use Rattle.jsonb.specs.Code.{Means}
+use Rattle.jsonb.specs.Code.{ItemMeans}
 use Rattle.jsonb.specs.Item.{Entry, item_of}
 use Rattle.jsonb.specs.Building.{AreTexts, key_codes}
-use Rattle.jsonb.specs.StoredEntries.{AreCodesOf, ArePairsOf}
+use Rattle.jsonb.specs.StoredEntries.{AreCodesOf, AreMemberEntriesOf}
 use Rattle.jsonb.specs.Entries.{Run, entries_of, entry_read, item_run, key_run, until_error}
 use Rattle.jsonb.specs.Walk.{count_if, count_under}
 use Rattle.jsonb.specs.EntryTrees.{view_tree, item_tree, entry_tree, entry_of_part, AreParts}
-use Rattle.jsonb.specs.EntryTrees.{AreKeys, AreMembers, key_read, rest_trees, rest_pairs}
+use Rattle.jsonb.specs.EntryTrees.{AreKeyEntries, AreMemberEntries, key_read, rest_trees}
+use Rattle.jsonb.specs.EntryTrees.{rest_pairs}
 use Rattle.jsonb_value.specs.Value.{trees_of}
 use Rattle.jsonb.specs.Node.{node_tree, array_of, pairs_of, object_of, tree_list, pair_list}
 use Rattle.jsonb.specs.Node.{items_of, members_of, first_key_of}
@@ -45,7 +46,7 @@ length-AreParts run h =
     ∙ length-until_error (map (entry_read run.bytes) run.entries) h
 
 -- the tree of an entry is the one that it means
-pub view_tree-is : (x : ItemView) (t : Tree) → Means x t → view_tree x ≡ t
+pub view_tree-is : (x : ItemView) (t : Tree) → ItemMeans x t → view_tree x ≡ t
 view_tree-is (items.raw b) t h = tree_in-is b t h
 view_tree-is (items.owned b) t h = tree_in-is b t h
 view_tree-is x t h = sym h
@@ -89,9 +90,9 @@ items-Doc b t doc = rw (count_under-Doc b t 2147483648 doc) (finds_items b t doc
 
 -- The entries of keys and values mean the pairs of an object.
 pub means_pairs : (ms : List (List ℕ × Entry)) (ps : Pairs)
-    → ArePairsOf (keys_of ms) (values_of ms) ps
+    → AreMemberEntriesOf (keys_of ms) (values_of ms) ps
     → AreTexts (keys_of ms)
-    → AreMembers (map Ok (key_codes (keys_of ms)), map Ok (values_of ms))
+    → AreMemberEntries (map Ok (key_codes (keys_of ms)), map Ok (values_of ms))
     × (rest_pairs (map Ok (key_codes (keys_of ms)), map Ok (values_of ms)) ≡ pair_list ps)
 means_pairs [] ps h texts = (((tt, tt), (tt, refl)), rw h)
 means_pairs (m ∷ ms) no_pairs h texts = absurd h
@@ -110,7 +111,8 @@ abbrev pub first_read : Entries → Option (List ℕ)
 first_read [] = None
 first_read (x ∷ xs) = Some (key_read x)
 
-first_is : (ms : List (List ℕ × Entry)) (ps : Pairs) → ArePairsOf (keys_of ms) (values_of ms) ps
+first_is : (ms : List (List ℕ × Entry)) (ps : Pairs)
+    → AreMemberEntriesOf (keys_of ms) (values_of ms) ps
     → Some (first_read (map Ok (key_codes (keys_of ms)))) ≡ first_key_of (object ps)
 first_is [] ps h = ap (λ us. first_key_of (object us)) (sym h)
 first_is (m ∷ ms) no_pairs h = absurd h
@@ -118,7 +120,7 @@ first_is (m ∷ ms) (pair k t ps) h = ap (λ x. Some (Some x)) h.0
 
 abbrev pub FindsFirstKey : List ℕ → Tree → Result (Option ℕ) Error → Type 0
 FindsFirstKey b t (Ok (Some n)) =
-    (AreParts (entries_of (key_run b n)) × AreKeys (entries_of (key_run b n)))
+    (AreParts (entries_of (key_run b n)) × AreKeyEntries (entries_of (key_run b n)))
     × (Some (first_read (entries_of (key_run b n))) ≡ first_key_of t)
 FindsFirstKey b t (Ok None) = None ≡ first_key_of t
 FindsFirstKey b t (Err e) = ⊥
@@ -137,7 +139,7 @@ first_key-Doc b t doc = rw (count_under-Doc b t 1073741824 doc) (finds_first_key
 
 -- a value decoded from a part has the tree of the part's entry
 pub entry_tree-node : (part : Part) (node : Node)
-    → ((t : Tree) → parts.Means part t → node_tree node ≡ t)
+    → ((t : Tree) → parts.PartMeans part t → node_tree node ≡ t)
     → entry_tree (entry_of_part part) ≡ node_tree node
 entry_tree-node part node means =
     let (t, is) = known_part part.type_code part.payload.now part.fact in

@@ -6,14 +6,14 @@ use Rattle.std.specs.Str.{IsUtf8}
 use Rattle.jsonb_value.specs.declared.error.Error.{Error}
 use Rattle.jsonb_value.specs.Tree.{Tree}
 use Rattle.jsonb_value.specs.Tree as trees
-use Rattle.jsonb_codec.specs.Word.{word}
+use Rattle.jsonb_codec.specs.WordBytes.{word}
 use Rattle.jsonb_codec.specs.Doc.{Doc, Scalar, Payload, type_of}
 use Rattle.jsonb.specs.declared.item.JsonbItem.{JsonbItem}
 use Rattle.jsonb.specs.ItemView.{ItemView, null, boolean, number, text, extension, raw}
 use Rattle.jsonb.specs.ItemView.{item_view, result_view}
 use Rattle.jsonb.specs.Item.{Entry, item_of, item_of_number, item_of_extension}
 use Rattle.jsonb.specs.Item.{entry_at, scalar_item, item_under, item_in}
-use Rattle.jsonb.specs.Code.{Means, HasCode, item_document, CanBeStored, scalar_bytes}
+use Rattle.jsonb.specs.Code.{ItemMeans, HasCode, item_document, CanBeStored, scalar_bytes}
 use Rattle.jsonb.specs.DocumentWalk.{IsItemOf, IsItemIn}
 use Rattle.jsonb.proofs.PayloadLaws.{number_in-NumCode, extension_in-ExtCode}
 use Rattle.jsonb.proofs.Utf8.{is_text_yes}
@@ -27,7 +27,7 @@ item_of-text p h = rw (is_text_yes p h)
 
 abbrev Found : Tree → List ℕ → Type 0
 Found t p =
-    (x : ItemView) × ((item_of (type_of t) p ≡ Ok x) × (Means x t × HasCode x (type_of t) p))
+    (x : ItemView) × ((item_of (type_of t) p ≡ Ok x) × (ItemMeans x t × HasCode x (type_of t) p))
 
 -- there is an item for every payload of a tree
 pub found_item : (t : Tree) (p : List ℕ) → Payload t p → Found t p

@@ -12,7 +12,7 @@ use Rattle.jsonb.specs.declared.item.JsonbItem.{JsonbItem}
 use Rattle.jsonb.specs.declared.item.JsonbItem.TheVariants as items
 use Rattle.jsonb.specs.declared.owned.OwnedJsonb.{OwnedJsonb}
 use Rattle.jsonb.specs.declared.raw.RawJsonb.{RawJsonb}
-use Rattle.jsonb.specs.Code.{Means}
+use Rattle.jsonb.specs.Code.{ItemMeans}
 use Rattle.jsonb.specs.ItemValues.{number_of_item, extension_of_item}
 use Rattle.jsonb.specs.ItemMeaning.{meaning_or_bytes, meaning_of, view_meaning, item_meaning}
 use Rattle.jsonb.specs.ItemView.{ItemView, raw, owned}
@@ -38,7 +38,7 @@ unfolding meaning_of
 meaning_of-other b none = meaning_or_bytes-other b none (decide b)
 
 -- The meaning of an item that means a tree is that tree.
-pub view_meaning-document : (x : ItemView) (t : Tree) → Means x t → view_meaning x ≡ document t
+pub view_meaning-document : (x : ItemView) (t : Tree) → ItemMeans x t → view_meaning x ≡ document t
 view_meaning-document (raw b) t doc = meaning_of-document b t doc
 view_meaning-document (owned b) t doc = meaning_of-document b t doc
 view_meaning-document x t e = cc

@@ -3,7 +3,7 @@ use Rattle.std.proofs.Common.{◌≡◌, ◌≢◌, ℕ, ◌+◌, List, ◌++◌
 use Rattle.std.proofs.Common.{ap, ◌∙◌, inl, inr, arith}
 use Rattle.jsonb_value.specs.Tree.{Tree, boolean, array, object}
 use Rattle.jsonb_value.specs.Tree.{Trees, Pairs, count, pair_count}
-use Rattle.jsonb_codec.specs.Word.{word, header_at}
+use Rattle.jsonb_codec.specs.WordBytes.{word, header_at}
 use Rattle.jsonb_codec.specs.JEntry.{jentry_at}
 use Rattle.jsonb_codec.specs.Doc.{Doc, Scalar, Payload, type_of}
 use Rattle.jsonb.specs.Kind.{kind, kind_under, kind_of_type, kind_of_tree}

@@ -1,9 +1,9 @@
 -- The layout of entries as leaves: a header, the entry words and the payloads.
 use Rattle.std.proofs.Common.{◌≡◌, ℕ, suc, ◌+◌, List, [], ◌∷◌, ◌++◌, length, refl, ap, arith}
-use Rattle.jsonb_codec.specs.Word.{word}
-use Rattle.jsonb_codec.specs.Shape.{count, entries, payloads, key_entries, key_payloads}
+use Rattle.jsonb_codec.specs.WordBytes.{word}
+use Rattle.jsonb_codec.specs.Shape.{shape_count, entries, payloads, key_entries, key_payloads}
 use Rattle.jsonb.specs.Item.{Entry}
-use Rattle.jsonb.specs.Building.{leaves, keyed_leaves, array_of, object_of, key_codes}
+use Rattle.jsonb.specs.Building.{leaves, keyed_leaves, array_bytes, object_bytes, key_codes}
 
 -- The words of these entries.
 abbrev pub code_entries : List Entry → List ℕ
@@ -13,16 +13,16 @@ code_entries codes = entries (leaves codes)
 abbrev pub code_payloads : List Entry → List ℕ
 code_payloads codes = payloads (leaves codes)
 
-count-leaves : (cs : List Entry) → count (leaves cs) ≡ length cs
+count-leaves : (cs : List Entry) → shape_count (leaves cs) ≡ length cs
 count-leaves [] = refl
 count-leaves (c ∷ cs) = ap suc (count-leaves cs)
 
 pub array_of-parts : (cs : List Entry)
-    → array_of cs ≡ word (2147483648 + length cs) ++ (code_entries cs ++ code_payloads cs)
+    → array_bytes cs ≡ word (2147483648 + length cs) ++ (code_entries cs ++ code_payloads cs)
 array_of-parts cs = rw (count-leaves cs) refl
 
 record KeyedParts (ks : List (List ℕ)) (cs : List Entry) : Type 0 where
-  counted : count (keyed_leaves ks cs) ≡ length cs
+  counted : shape_count (keyed_leaves ks cs) ≡ length cs
   key_words : key_entries (keyed_leaves ks cs) ≡ code_entries (key_codes ks)
   words : entries (keyed_leaves ks cs) ≡ code_entries cs
   keys : key_payloads (keyed_leaves ks cs) ≡ code_payloads (key_codes ks)
@@ -44,7 +44,7 @@ keyed_parts (k ∷ ks) (c ∷ cs) same =
     }
 
 pub object_of-parts : (ks : List (List ℕ)) (cs : List Entry) → length ks ≡ length cs
-    → object_of ks cs
+    → object_bytes ks cs
     ≡ word (1073741824 + length cs)
     ++ (code_entries (key_codes ks)
     ++ (code_entries cs ++ (code_payloads (key_codes ks) ++ code_payloads cs)))

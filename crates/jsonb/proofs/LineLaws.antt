@@ -5,7 +5,7 @@ use Rattle.std.specs.List.{repeat}
 use Rattle.std.proofs.Math.Nat.{le-max_right}
 use Rattle.jsonb_value.specs.Tree.{Tree, array, object, Trees, no_trees, tree, Pairs, no_pairs}
 use Rattle.jsonb_value.specs.Tree.{pair}
-use Rattle.jsonb_value.specs.Text.{Layout, in_one_line, on_lines, inside, line_start, colon}
+use Rattle.jsonb_value.specs.Text.{Layout, in_one_line, on_lines, inside, line_start, colon_text}
 use Rattle.jsonb_value.specs.Text.{laid_out, more_items, more_pairs, string_text}
 use Rattle.jsonb_value.specs.Value.{trees_of}
 use Rattle.jsonb_codec.specs.Depth.{depth, depths, pair_depths, sizes, pair_sizes}
@@ -23,14 +23,14 @@ bracketed-items l (tree t ts) = rw (more_lines-items (inside l) ts)
 
 -- a pair followed by other text
 pair-before : (l : Layout) (k : List ℕ) (t : Tree) (rest : List ℕ)
-    → pair_text l k t ++ rest ≡ string_text k ++ (colon l ++ (laid_out l t ++ rest))
+    → pair_text l k t ++ rest ≡ string_text k ++ (colon_text l ++ (laid_out l t ++ rest))
 pair-before l k t rest = simp append_assoc
 
 more_lines-pairs : (l : Layout) (ps : Pairs) → more_lines l (pair_lines l ps) ≡ more_pairs l ps
 more_lines-pairs l no_pairs = refl
 more_lines-pairs l (pair k t ps) = rw (more_lines-pairs l ps, pair-before l k t (more_pairs l ps))
 
-colon-inside : (l : Layout) → colon (inside l) ≡ colon l
+colon-inside : (l : Layout) → colon_text (inside l) ≡ colon_text l
 colon-inside in_one_line = refl
 colon-inside (on_lines depth) = refl
 

@@ -22,7 +22,7 @@ use Rattle.jsonb.specs.Payloads.{has_known_tag}
 use Rattle.jsonb.specs.Item.{Entry, item_of, entry_at, part_at, item_of_number, item_of_extension}
 use Rattle.jsonb.specs.Building.{key_codes}
 use Rattle.jsonb.proofs.LeafLaws.{code_entries, code_payloads}
-use Rattle.jsonb.specs.StoredEntries.{AreCodesOf, ArePairsOf, HasMembers, find_entry}
+use Rattle.jsonb.specs.StoredEntries.{AreCodesOf, AreMemberEntriesOf, IsObjectOfEntries, find_entry}
 use Rattle.jsonb.specs.StoredEntries.{IsFoundIn}
 use Rattle.jsonb.specs.Walk.{count_under}
 use Rattle.jsonb.specs.Parts.{length_in, part_length, length_before, part_start}
@@ -32,13 +32,14 @@ use Rattle.jsonb.specs.Lookup.{IsPassed, NoneAccepted, IsFirstAccepted, LooksUp}
 use Rattle.jsonb.specs.Lookup.{LooksUpBytes, no_header, other_header, unread, all_passed}
 use Rattle.jsonb.specs.Lookup.{one_accepted, LooksUpPairs}
 use Rattle.jsonb.specs.Lookup.{value_view, find_pair}
-use Rattle.jsonb.specs.Lookup.{find, find_index, values_up_to, words_read, pairs_in, AnswersBy}
+use Rattle.jsonb.specs.Lookup.{find, find_index, values_up_to, words_read, pair_count_in, AnswersBy}
 use Rattle.jsonb.specs.Lookup.{IsItemFound, IsRefusal}
 use Rattle.jsonb.proofs.Places.{At-left, At, part_at-At}
 use Rattle.jsonb.proofs.PartLaws.{key_of_other_length, key_known}
-use Rattle.jsonb.proofs.StoredEntryLaws.{value_trees, pair_keys, both_are, length-ArePairsOf}
+use Rattle.jsonb.proofs.StoredEntryLaws.{value_trees, pair_keys, both_are}
+use Rattle.jsonb.proofs.StoredEntryLaws.{length-AreMemberEntriesOf}
 use Rattle.jsonb.proofs.StoredEntryLaws.{AreEntries, AreEntries-keys, AreEntries-pairs, first_entry}
-use Rattle.jsonb.proofs.StoredEntryLaws.{entry_item-tree, HasMembers-Payload, members_at}
+use Rattle.jsonb.proofs.StoredEntryLaws.{entry_item-tree, IsObjectOfEntries-Payload, members_at}
 use Rattle.jsonb.proofs.StoredEntryLaws.{length-key_codes, length-pair_keys}
 use Rattle.jsonb.proofs.DocumentWalks.{object_payload, count_under-Doc}
 use Rattle.std.proofs.lemmas.Map.Entries.{length-keys_of}
@@ -162,7 +163,7 @@ length_before-entries bytes n i j (c ∷ cs) at end =
 -- the entries of an object at their positions, by number
 record Numbered (bytes : List ℕ) (ps : Pairs) : Type 0 where
   members : List (List ℕ × Entry)
-  stored : HasMembers bytes ps members
+  stored : IsObjectOfEntries bytes ps members
   mean : AreCodesOf (values_of members) (value_trees ps)
   keys : AreAt bytes (pair_count ps) 0 (key_codes (pair_keys ps))
   values : AreAt bytes (pair_count ps) (pair_count ps) (values_of members)
@@ -170,14 +171,14 @@ record Numbered (bytes : List ℕ) (ps : Pairs) : Type 0 where
 
 numbered : (bytes : List ℕ) (ps : Pairs) → Payload (object ps) bytes → Numbered bytes ps
 numbered bytes ps h =
-    let (ms, stored) = HasMembers-Payload bytes ps h in
+    let (ms, stored) = IsObjectOfEntries-Payload bytes ps h in
     let n = pair_count ps in
     let vs = values_of ms in
     let ks = key_codes (keys_of ms) in
     let at = members_at bytes ms stored.few stored.written in
     let both = both_are (keys_of ms) vs ps stored.mean in
     let count = length-values_of ms in
-    let counted : length vs ≡ n = length-ArePairsOf (keys_of ms) vs ps stored.mean in
+    let counted : length vs ≡ n = length-AreMemberEntriesOf (keys_of ms) vs ps stored.mean in
     let key_count = length-key_codes (keys_of ms) ∙ length-keys_of ms in
     let place : 4 + 4 * length ms ≡ 4 + 4 * n = omega arith in
     let front : 4 + 8 * length ms ≡ part_start bytes n 0 = omega arith in
@@ -452,7 +453,7 @@ module _ (answers : List ℕ → Bool → Type 0) (accepts : List ℕ → Bool) 
   words_found b t o reads h = h.1
 
   pub find_entry-none : (ms : List (List ℕ × Entry)) (ps : Pairs)
-      → ArePairsOf (keys_of ms) (values_of ms) ps → NoneAccepted answers size ps
+      → AreMemberEntriesOf (keys_of ms) (values_of ms) ps → NoneAccepted answers size ps
       → find_entry accepts size ms ≡ None
   find_entry-none [] ps h none = refl
   find_entry-none (m ∷ ms) no_pairs h none = absurd h
@@ -460,7 +461,7 @@ module _ (answers : List ℕ → Bool → Type 0) (accepts : List ℕ → Bool) 
       rw (passed_by_test m.0 k h.0 none.0) (find_entry-none ms ps h.1.1 none.1)
 
   pub find_entry-first : (ms : List (List ℕ × Entry)) (ps : Pairs) (i : ℕ) (v : Tree)
-      → ArePairsOf (keys_of ms) (values_of ms) ps → IsFirstAccepted answers size ps i v
+      → AreMemberEntriesOf (keys_of ms) (values_of ms) ps → IsFirstAccepted answers size ps i v
       → find_entry accepts size ms ≡ slice_get (values_of ms) i
   find_entry-first [] ps i v h first = absurd (rw h at first)
   find_entry-first (m ∷ ms) no_pairs i v h first = absurd h
@@ -472,7 +473,7 @@ module _ (answers : List ℕ → Bool → Type 0) (accepts : List ℕ → Bool) 
   pub found_stored : (b : List ℕ) (t : Tree) (o : Option ItemView) (reads : ℕ) → Doc b t
       → LooksUp answers size b t o reads → IsFoundIn accepts size b t o
   found_stored b (object ps) None reads doc h =
-      let (ms, stored) = HasMembers-Payload b ps (object_payload b ps doc) in
+      let (ms, stored) = IsObjectOfEntries-Payload b ps (object_payload b ps doc) in
       (ms, (stored, rw (find_entry-none ms ps stored.mean h.none)))
   found_stored b (object ps) (Some x) reads doc h =
       let first = find_entry-first h.members ps h.index h.value h.stored.mean h.first in
@@ -502,7 +503,7 @@ values_within accepts size (pair k t ps) =
     at_test false None h = omega arith
 
 pub words_read-within : (accepts : List ℕ → Bool) (size : ℕ) (t : Tree)
-    → words_read accepts size t ≤ 2 * pairs_in t + 1
+    → words_read accepts size t ≤ 2 * pair_count_in t + 1
 words_read-within accepts size (object ps) = omega (arith, values_within accepts size ps)
 words_read-within accepts size null = omega arith
 words_read-within accepts size (boolean v) = omega arith

@@ -11,7 +11,7 @@ use Rattle.std.specs.Map.{keys_of, values_of}
 use Rattle.jsonb_value.specs.declared.error.Error.{Error}
 use Rattle.jsonb_value.specs.Tree.{Tree, boolean, array, object, Pairs, no_pairs, pair, count}
 use Rattle.jsonb_value.specs.Tree.{pair_count}
-use Rattle.jsonb_codec.specs.Word.{header_at}
+use Rattle.jsonb_codec.specs.WordBytes.{header_at}
 use Rattle.jsonb_codec.specs.Doc.{Doc}
 use Rattle.jsonb_codec.specs.Parts.{IsPayloadOf}
 use Rattle.jsonb.specs.declared.document.Node.{Node}
@@ -20,12 +20,13 @@ use Rattle.jsonb.specs.declared.document.Contents.TheVariants as contents
 use Rattle.jsonb.specs.Item.{Entry, item_of}
 use Rattle.jsonb.specs.ItemView.{ItemView, raw}
 use Rattle.jsonb.specs.Building.{AreShort}
-use Rattle.jsonb.specs.Code.{Means}
+use Rattle.jsonb.specs.Code.{ItemMeans}
 use Rattle.jsonb.specs.Contents.{AreStoredIn}
-use Rattle.jsonb.specs.EntryTrees.{AreParts, AreMembers, rest_trees, rest_pairs}
+use Rattle.jsonb.specs.EntryTrees.{AreParts, AreMemberEntries, rest_trees, rest_pairs}
 use Rattle.jsonb.specs.Lookup.{find, find_pair, IsItemFound}
 use Rattle.jsonb.specs.Node.{IsContainer, array_of, object_of, node_tree, node_view}
-use Rattle.jsonb.specs.StoredEntries.{AreEntriesOf, ArePairsOf, IsFoundIn, entry_item, find_entry}
+use Rattle.jsonb.specs.StoredEntries.{AreEntriesOf, AreMemberEntriesOf, IsFoundIn, entry_item}
+use Rattle.jsonb.specs.StoredEntries.{find_entry}
 use Rattle.jsonb.specs.Entries.{Run, entries_of, item_run, key_run, value_run}
 use Rattle.jsonb.proofs.DocumentWalks.{array_payload, object_payload}
 use Rattle.jsonb.proofs.EntryTreeLaws.{means_trees, means_pairs, array_of-items, object_of-members}
@@ -73,7 +74,7 @@ array_opened b t n doc read =
 
 -- an object, by the count in its header
 pub record IsObjectOpened (b : List ℕ) (t : Tree) (read : Entries × Entries) : Type 0 where
-  pub members : AreMembers read
+  pub members : AreMemberEntries read
   pub tree : object_of (rest_pairs read) ≡ t
   pub stored : AreStoredIn b t (contents.Object read)
 
@@ -108,8 +109,8 @@ scalar_opened b t kind n doc read no_array no_object container = container_cases
 
 -- The first of the members that are left, and those after it.
 pub first_left : (ks xs later others : Entries) (key value : Entry) → ks ≡ Ok key ∷ later
-    → xs ≡ Ok value ∷ others → AreMembers (ks, xs)
-    → (key.type ≡ 268435456) × AreMembers (later, others)
+    → xs ≡ Ok value ∷ others → AreMemberEntries (ks, xs)
+    → (key.type ≡ 268435456) × AreMemberEntries (later, others)
 first_left ks xs later others key value e f h =
     let ((parts, keys), (values, same)) = rw (e, f) at h in
     (keys.0, ((parts.1, keys.1), (values.1, omega (arith, same))))
@@ -178,7 +179,7 @@ unfolding item_of
 container_item type p b is same = rw (is, same) refl
 
 -- The tree of a value is the one that its item means.
-node_view-tree : (node : Node) (t : Tree) → Means (node_view node) t → node_tree node ≡ t
+node_view-tree : (node : Node) (t : Tree) → ItemMeans (node_view node) t → node_tree node ≡ t
 node_view-tree nodes.Null t h = sym h
 node_view-tree (nodes.Boolean b) t h = sym h
 node_view-tree (nodes.Number item) t h = sym h
@@ -193,7 +194,7 @@ module _ (accepts : List ℕ → Bool) (size : ℕ) where
   same_test key other = ap (λ key. (length key == size) && accepts key)
 
   stored_item : (ms : List (List ℕ × Entry)) (ps : Pairs) (o : Option ItemView)
-      → ArePairsOf (keys_of ms) (values_of ms) ps → AreShort (values_of ms)
+      → AreMemberEntriesOf (keys_of ms) (values_of ms) ps → AreShort (values_of ms)
       → option_map entry_item (find_entry accepts size ms) ≡ option_map Ok o
       → IsItemFound (find_pair accepts size ps) o
   stored_item [] ps None h short is = rw h tt

@@ -13,7 +13,7 @@ use Rattle.std.specs.Str.{IsUtf8}
 use Rattle.std.specs.declared.cmp.Ordering.{Ordering}
 use Rattle.std.specs.declared.cmp.Ordering.TheVariants.{Less}
 use Rattle.jsonb.specs.ItemView.{ItemView}
-use Rattle.jsonb.specs.Children.{pairs_by, key_bytes}
+use Rattle.jsonb.specs.Children.{pairs_by, map_keys}
 use Rattle.jsonb.specs.Building.{AreTexts, AreKeys, has_key, with_pair}
 use Rattle.jsonb.proofs.InputLaws.{map-insert_entry}
 
@@ -44,13 +44,13 @@ module _ {A : Type 0} (view : A → ItemView) where
 -- The keys of a map ascend.
 above-keys : {A : Type 0} (k : Bor (List ℕ)) (es : List (Bor (List ℕ) × A))
     → AllByRecursion (λ y. key_cmp k y ≡ Less) (keys_of es)
-    → AllByRecursion (λ y. slice_cmp nat_cmp k.now y ≡ Less) (key_bytes es)
+    → AllByRecursion (λ y. slice_cmp nat_cmp k.now y ≡ Less) (map_keys es)
 above-keys k [] h = tt
 above-keys k (e ∷ es) h = (h.0, above-keys k es h.1)
 
 pub ascend-keys : {A : Type 0} (es : List (Bor (List ℕ) × A))
     → IsStrictlySortedBy key_cmp (keys_of es)
-    → IsStrictlySortedBy (slice_cmp nat_cmp) (key_bytes es)
+    → IsStrictlySortedBy (slice_cmp nat_cmp) (map_keys es)
 unfolding IsStrictlySortedBy
 ascend-keys [] h = tt
 ascend-keys (e ∷ es) h = (above-keys e.0 es h.0, ascend-keys es h.1)
@@ -58,13 +58,13 @@ ascend-keys (e ∷ es) h = (above-keys e.0 es h.0, ascend-keys es h.1)
 -- The keys of a map are UTF-8.
 module _ {A : Type 0} (held : A → Type 0) where
   texts-held : (es : List (Bor (List ℕ) × A))
-      → AllByRecursion (λ e. IsUtf8 e.0.now × held e.1) es → AreTexts (key_bytes es)
+      → AllByRecursion (λ e. IsUtf8 e.0.now × held e.1) es → AreTexts (map_keys es)
   texts-held [] h = tt
   texts-held (e ∷ es) h = (h.0.0, texts-held es h.1)
 
   pub AreKeys-held : (es : List (Bor (List ℕ) × A))
       → AllByRecursion (λ e. IsUtf8 e.0.now × held e.1) es
-      → IsStrictlySortedBy (slice_cmp nat_cmp) (key_bytes es) → AreKeys (key_bytes es)
+      → IsStrictlySortedBy (slice_cmp nat_cmp) (map_keys es) → AreKeys (map_keys es)
   AreKeys-held es h ascend = record { texts = texts-held es h; ascend = ascend }
 
   pub values-held : (es : List (Bor (List ℕ) × A))

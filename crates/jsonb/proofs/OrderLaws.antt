@@ -13,7 +13,7 @@ use Rattle.jsonb_value.proofs.KindLaws.{tree_cmp-itself, tree_cmp-norm}
 use Rattle.jsonb_value.proofs.MeaningLaws.{meaning_cmp_total}
 use Rattle.jsonb_codec.specs.Doc.{Doc, IsDocument}
 use Rattle.jsonb.specs.declared.item_type.JsonbItemType.{JsonbItemType}
-use Rattle.jsonb.specs.Code.{Means}
+use Rattle.jsonb.specs.Code.{ItemMeans}
 use Rattle.jsonb.specs.Kind.{kind, kind_of_tree, rank_order}
 use Rattle.jsonb.specs.ItemMeaning.{meaning_of, view_meaning}
 use Rattle.jsonb.specs.ItemView.{ItemView}
@@ -35,7 +35,7 @@ pub bytes_cmp-one_tree : (l r : List ℕ) (t : Tree) → Doc l t → Doc r t
 bytes_cmp-one_tree l r t h k = bytes_cmp-trees l r t t h k ∙ tree_cmp-itself t
 
 -- Items that mean one tree are equal.
-pub items_cmp-one_tree : (x y : ItemView) (t : Tree) → Means x t → Means y t
+pub items_cmp-one_tree : (x y : ItemView) (t : Tree) → ItemMeans x t → ItemMeans y t
     → meaning_cmp (view_meaning x) (view_meaning y) ≡ Equal
 items_cmp-one_tree x y t h k =
     ap₂ meaning_cmp (view_meaning-document x t h) (view_meaning-document y t k) ∙ tree_cmp-itself t

@@ -19,7 +19,7 @@ use Rattle.jsonb_codec.specs.Canon.{Fits}
 use Rattle.jsonb_codec.specs.Depth.{IsDocumentWithin}
 use Rattle.jsonb_codec.specs.Doc.{Doc}
 use Rattle.jsonb.specs.declared.owned.OwnedJsonb.{OwnedJsonb}
-use Rattle.jsonb.specs.Owned.{bytes_of}
+use Rattle.jsonb.specs.Owned.{result_bytes}
 use Rattle.jsonb.specs.Parsing.{ParsesUnder, ParsesUnderWithin}
 
 -- a text that gives no document
@@ -38,7 +38,7 @@ refused rule text e invalid past (inr (inr is)) =
 pub refused_within : (rule : Exponents) (depth : ℕ) (text : List ℕ)
     (r : Result OwnedJsonb ParseError) (e : Error) → IsErrAnd r (λ x. x ≡ Refused e)
     → text_depth text ≤ depth → ParsesUnder rule text (Err e)
-    → ParsesUnderWithin rule depth text (bytes_of r)
+    → ParsesUnderWithin rule depth text (result_bytes r)
 refused_within rule depth text (Ok owned) e is low why = absurd is
 refused_within rule depth text (Err x) e is low why =
     subst (λ (y : ParseError). ParsesUnderWithin rule depth text (Err y)) (sym is) (low, why)

@@ -8,7 +8,7 @@ use Rattle.std.proofs.lemmas.Bool.{lt-leb, leb-true}
 use Rattle.jsonb_value.specs.declared.error.Error.{Error}
 use Rattle.jsonb_value.specs.declared.error.Error.TheVariants.{InvalidEOF, InvalidJsonb}
 use Rattle.jsonb_codec.specs.JEntry.{jentry_in, jentry_at}
-use Rattle.jsonb_codec.specs.Word.{word_at}
+use Rattle.jsonb_codec.specs.WordBytes.{word_at}
 use Rattle.jsonb_codec.specs.declared.jentry.JEntry.{JEntry}
 use Rattle.jsonb.specs.Steps.{◌>>=◌}
 use Rattle.jsonb.specs.declared.entries.Entry.{Entry as PlacedEntry}

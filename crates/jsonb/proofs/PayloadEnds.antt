@@ -10,7 +10,7 @@ use Rattle.std.specs.Int.{w32, from_be_bytes}
 use Rattle.jsonb_value.specs.declared.error.Error.{Error}
 use Rattle.jsonb_value.specs.declared.error.Error.TheVariants.{InvalidEOF}
 use Rattle.jsonb_codec.specs.declared.jentry.JEntry.{JEntry}
-use Rattle.jsonb_codec.specs.Word.{word_at}
+use Rattle.jsonb_codec.specs.WordBytes.{word_at}
 use Rattle.jsonb_codec.specs.JEntry.{jentry_of, jentry_in, jentry_at}
 use Rattle.jsonb_codec.proofs.RoomLaws.{word_at-inside}
 use Rattle.jsonb.specs.Entries.{payloads_end}

@@ -6,7 +6,7 @@ use Rattle.std.proofs.lemmas.Nat.{from_be_bytes-to_be_bytes_4}
 use Rattle.std.proofs.lemmas.List.{take-append-le}
 use Rattle.std.proofs.Math.Seq.{take-append_seam}
 use Rattle.jsonb_value.proofs.ExtCodes.{back_of}
-use Rattle.jsonb_codec.specs.Word.{word, word_at, header_of, header_at}
+use Rattle.jsonb_codec.specs.WordBytes.{word, word_at, header_of, header_at}
 use Rattle.jsonb_codec.specs.JEntry.{jentry_at}
 use Rattle.jsonb.specs.Item.{part_at}
 

@@ -4,7 +4,7 @@ use Rattle.std.proofs.Common.{sym, ap, ap₂, ◌∙◌, inl, inr, lit<}
 use Rattle.jsonb_value.specs.Tree.{Tree, Trees, no_trees, tree, array, count}
 use Rattle.jsonb_value.specs.Norm.{norm}
 use Rattle.jsonb_value.specs.WellFormed.{IsTree}
-use Rattle.jsonb_codec.specs.Word.{word}
+use Rattle.jsonb_codec.specs.WordBytes.{word}
 use Rattle.jsonb_codec.specs.Doc.{Doc, Children, type_of}
 use Rattle.jsonb_codec.specs.Parts.{IsPayloadOf}
 use Rattle.jsonb_codec.specs.Canon.{canon, payload_of, Fits}
@@ -16,7 +16,7 @@ use Rattle.jsonb.specs.ItemView.{ItemView, raw}
 use Rattle.jsonb.specs.Item.{Entry}
 use Rattle.jsonb.specs.Code.{scalar_bytes}
 use Rattle.jsonb.specs.Storage.{document_code, codes_of}
-use Rattle.jsonb.specs.Building.{AreShort, array_of, IsArrayOf}
+use Rattle.jsonb.specs.Building.{AreShort, array_bytes, IsArrayOf}
 use Rattle.jsonb.proofs.LeafLaws.{code_entries, code_payloads, array_of-parts}
 use Rattle.jsonb.specs.Results.{AreDocuments, AreCanonical, IsArrayOfInputs}
 use Rattle.jsonb.specs.StoredEntries.{AreCodesOf}
@@ -51,9 +51,9 @@ Children-AreCodesOf (c ∷ cs) (tree t ts) h short = record {
 }
 
 -- the array of entries that mean trees
-pub Doc-array_of : (cs : List Entry) (ts : Trees) → AreCodesOf cs ts → AreShort cs
-    → length cs < 2 ^ 29 → Doc (array_of cs) (array ts)
-Doc-array_of cs ts h short few =
+pub Doc-array_bytes : (cs : List Entry) (ts : Trees) → AreCodesOf cs ts → AreShort cs
+    → length cs < 2 ^ 29 → Doc (array_bytes cs) (array ts)
+Doc-array_bytes cs ts h short few =
     let n = length-AreCodesOf cs ts h in
     inr (
       refl,
@@ -86,15 +86,15 @@ AreCodesOf-documents (b ∷ bs) (tree t ts) h =
 
 -- what was built is the array of the items' entries
 pub array_of-IsArrayOf : (xs : List ItemView) (bytes : List ℕ) → IsArrayOf xs bytes
-    → bytes ≡ array_of (codes_of xs)
+    → bytes ≡ array_bytes (codes_of xs)
 array_of-IsArrayOf xs bytes h =
-    h.written ∙ ap array_of (codes_of-AreCodes xs h.fit.codes h.fit.are h.fit.short).0
+    h.written ∙ ap array_bytes (codes_of-AreCodes xs h.fit.codes h.fit.are h.fit.short).0
 
 pub Doc-IsArrayOf : (xs : List ItemView) (bytes : List ℕ) → IsArrayOf xs bytes → (ts : Trees)
     → AreCodesOf (codes_of xs) ts → Doc bytes (array ts)
 Doc-IsArrayOf xs bytes h ts are =
     let fit = AreStorable-FitArray xs h.fit in
-    rw (array_of-IsArrayOf xs bytes h) (Doc-array_of (codes_of xs) ts are
+    rw (array_of-IsArrayOf xs bytes h) (Doc-array_bytes (codes_of xs) ts are
     (AreCodes-codes_of xs fit.0).1 (rw (length-codes_of xs) fit.1))
 
 -- The entry of a canonical document is the one that is written for its tree.

@@ -13,13 +13,13 @@ use Rattle.jsonb_value.specs.Norm.{norm_number, norm, norms, norm_pairs}
 use Rattle.jsonb_value.proofs.PayloadLaws.{NumCode-number_payload, ExtCode-extension_payload}
 use Rattle.jsonb.specs.ItemView.{ItemView, null, boolean, number, text, extension, raw, owned}
 use Rattle.jsonb.specs.Item.{Entry}
-use Rattle.jsonb.specs.Code.{Means}
-use Rattle.jsonb.specs.Storage.{code_of, codes_of, IsStored, IsHeld, AreStorable, AreHeld}
+use Rattle.jsonb.specs.Code.{ItemMeans}
+use Rattle.jsonb.specs.Storage.{entry_of_item, codes_of, IsStored, IsHeld, AreStorable, AreHeld}
 use Rattle.jsonb.specs.Building.{AreKeys, IsArrayOf, IsObjectOf}
 use Rattle.jsonb.specs.Results.{AllMean, AllMeanAt, IsArrayUpToZeros, IsObjectUpToZeros}
 use Rattle.jsonb.proofs.StorageLaws.{codes_of-AreCodes}
 use Rattle.jsonb.proofs.StorageLaws.{AreStorable-FitArray}
-use Rattle.jsonb.specs.StoredEntries.{AreCodesOf, ArePairsOf}
+use Rattle.jsonb.specs.StoredEntries.{AreCodesOf, AreMemberEntriesOf}
 use Rattle.jsonb.proofs.ResultLaws.{IsCodeOf, IsCodeOf-document_code, Doc-IsArrayOf}
 use Rattle.jsonb.proofs.ResultObjects.{Doc-IsObjectOf}
 
@@ -36,8 +36,8 @@ abbrev MeansUpToZeros : Entry → Tree → Type 0
 MeansUpToZeros c t = (u : Tree) × (IsCodeOf c u × (norm u ≡ norm t))
 
 -- The entry of an item means what the item means.
-code_meaning : (x : ItemView) → IsStored x → IsHeld x → (t : Tree) → Means x t
-    → MeansUpToZeros (code_of x) t
+code_meaning : (x : ItemView) → IsStored x → IsHeld x → (t : Tree) → ItemMeans x t
+    → MeansUpToZeros (entry_of_item x) t
 code_meaning null stored held t h = (trees.null, ((refl, refl), cc h))
 code_meaning (boolean true) stored held t h = (trees.boolean true, ((refl, refl), cc h))
 code_meaning (boolean false) stored held t h =
@@ -85,7 +85,8 @@ IsArrayUpToZeros-IsArrayOf xs bytes h held ts mean =
 pairs_meaning : (qs : List (List ℕ × ItemView)) → AreStorable (values_of qs)
     → AreHeld (values_of qs) → (ps : Pairs) → AllMeanAt qs ps
     → (us : Pairs)
-    × (ArePairsOf (keys_of qs) (codes_of (values_of qs)) us × (norm_pairs us ≡ norm_pairs ps))
+    × (AreMemberEntriesOf (keys_of qs) (codes_of (values_of qs)) us
+    × (norm_pairs us ≡ norm_pairs ps))
 pairs_meaning [] storable held ps h = (no_pairs, (refl, cc h))
 pairs_meaning (q ∷ qs) storable held no_pairs h = absurd h
 pairs_meaning (q ∷ qs) storable held (pair k t ps) h =

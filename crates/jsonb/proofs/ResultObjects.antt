@@ -10,7 +10,7 @@ use Rattle.std.specs.Ordering.{nat_cmp}
 use Rattle.std.specs.Cmp.Lexicographic.{slice_cmp}
 use Rattle.jsonb_value.specs.Tree.{text, Trees, no_trees, tree}
 use Rattle.jsonb_value.specs.Tree.{Pairs, no_pairs, pair, object, pair_count, Ascends, Ascend}
-use Rattle.jsonb_codec.specs.Word.{word}
+use Rattle.jsonb_codec.specs.WordBytes.{word}
 use Rattle.jsonb_codec.specs.Doc.{Doc, One, IsKey, Keys, Values, Children, Payload, type_of}
 use Rattle.jsonb_codec.specs.Canon.{canon, Fits}
 use Rattle.jsonb_codec.proofs.TreeShapes.{key_entries, key_payloads, value_entries, value_payloads}
@@ -21,10 +21,11 @@ use Rattle.jsonb.specs.Item.{Entry}
 use Rattle.jsonb.specs.Storage.{codes_of}
 use Rattle.jsonb.specs.Building.{AreKeys, AreTexts, AreShort, key_codes}
 use Rattle.jsonb.proofs.LeafLaws.{code_entries, code_payloads, object_of-parts}
-use Rattle.jsonb.specs.Building.{object_of, in_order, IsObjectOf}
+use Rattle.jsonb.specs.Building.{object_bytes, in_order, IsObjectOf}
 use Rattle.jsonb.specs.Results.{ArePairDocuments, ArePairsCanonical, raw_pairs, IsObjectOfInputs}
-use Rattle.jsonb.specs.StoredEntries.{AreCodesOf, ArePairsOf}
-use Rattle.jsonb.proofs.StoredEntryLaws.{pair_keys, value_trees, both_are, length-ArePairsOf}
+use Rattle.jsonb.specs.StoredEntries.{AreCodesOf, AreMemberEntriesOf}
+use Rattle.jsonb.proofs.StoredEntryLaws.{pair_keys, value_trees, both_are}
+use Rattle.jsonb.proofs.StoredEntryLaws.{length-AreMemberEntriesOf}
 use Rattle.jsonb.proofs.StoredEntryLaws.{length-pair_keys}
 use Rattle.jsonb.proofs.StorageLaws.{codes_of-AreCodes, length-codes_of}
 use Rattle.jsonb.proofs.ResultLaws.{Children-AreCodesOf, IsCodeOf-document_code}
@@ -59,11 +60,12 @@ AreCodesOf-keys no_pairs texts = refl
 AreCodesOf-keys (pair k t ps) texts = ((refl, (refl, texts.0)), AreCodesOf-keys ps texts.1)
 
 -- an object with ascending keys and entries that mean trees
-pub Doc-object_of : (ks : List (List ℕ)) (cs : List Entry) (ps : Pairs) → ArePairsOf ks cs ps
+pub Doc-object_bytes : (ks : List (List ℕ)) (cs : List Entry) (ps : Pairs)
+    → AreMemberEntriesOf ks cs ps
     → AreKeys ks → AreShort (key_codes ks) → AreShort cs → length cs < 2 ^ 29
-    → Doc (object_of ks cs) (object ps)
-Doc-object_of ks cs ps h keys short_keys short few =
-    let n = length-ArePairsOf ks cs ps h in
+    → Doc (object_bytes ks cs) (object ps)
+Doc-object_bytes ks cs ps h keys short_keys short few =
+    let n = length-AreMemberEntriesOf ks cs ps h in
     let (are, mean) = both_are ks cs ps h in
     let words = AreCodesOf-keys ps (rw are at keys.texts) in
     let same : length ks ≡ length cs = ap length are ∙ length-pair_keys ps ∙ sym n in
@@ -91,19 +93,20 @@ Doc-object_of ks cs ps h keys short_keys short few =
     )
 
 pub Doc-IsObjectOf : (qs : List (List ℕ × ItemView)) (bytes : List ℕ) → IsObjectOf qs bytes
-    → AreKeys (keys_of qs) → (ps : Pairs) → ArePairsOf (keys_of qs) (codes_of (values_of qs)) ps
+    → AreKeys (keys_of qs) → (ps : Pairs)
+    → AreMemberEntriesOf (keys_of qs) (codes_of (values_of qs)) ps
     → Doc bytes (object ps)
 Doc-IsObjectOf qs bytes h keys ps are =
     let (codes, storable) = codes_of-AreCodes (values_of qs) h.fit.codes h.fit.are h.fit.short in
-    rw h.written (Doc-object_of (keys_of qs) h.fit.codes ps (rw codes are) keys h.fit.short_keys
+    rw h.written (Doc-object_bytes (keys_of qs) h.fit.codes ps (rw codes are) keys h.fit.short_keys
     h.fit.short h.fit.few)
 
-ArePairsOf-documents : (qs : List (List ℕ × List ℕ)) (ps : Pairs) → ArePairDocuments qs ps
-    → ArePairsOf (keys_of (raw_pairs qs)) (codes_of (values_of (raw_pairs qs))) ps
-ArePairsOf-documents [] ps h = h
-ArePairsOf-documents (q ∷ qs) no_pairs h = absurd h
-ArePairsOf-documents (q ∷ qs) (pair k t ps) h =
-    (h.0, (IsCodeOf-document_code q.1 t h.1.0, ArePairsOf-documents qs ps h.1.1))
+AreMemberEntriesOf-documents : (qs : List (List ℕ × List ℕ)) (ps : Pairs) → ArePairDocuments qs ps
+    → AreMemberEntriesOf (keys_of (raw_pairs qs)) (codes_of (values_of (raw_pairs qs))) ps
+AreMemberEntriesOf-documents [] ps h = h
+AreMemberEntriesOf-documents (q ∷ qs) no_pairs h = absurd h
+AreMemberEntriesOf-documents (q ∷ qs) (pair k t ps) h =
+    (h.0, (IsCodeOf-document_code q.1 t h.1.0, AreMemberEntriesOf-documents qs ps h.1.1))
 
 record AreWritten (ks : List (List ℕ)) (cs : List Entry) (ps : Pairs) : Type 0 where
   key_words : code_entries (key_codes ks) ≡ key_entries ps
@@ -169,7 +172,7 @@ IsObjectOfInputs-IsObjectOf inputs pairs bytes same distinct h keys =
       distinct = distinct;
       object = object;
       document = λ ps are. Doc-IsObjectOf _ bytes object (rw same at keys) ps
-          (ArePairsOf-documents (in_order inputs) ps are);
+          (AreMemberEntriesOf-documents (in_order inputs) ps are);
       canonical = canon-pairs (in_order inputs) bytes object;
     }
 

@@ -10,7 +10,7 @@ use Rattle.std.specs.Ordering.{match_ordering}
 use Rattle.std.specs.declared.cmp.Ordering.{Ordering}
 use Rattle.std.specs.declared.cmp.Ordering.TheVariants.{Less, Equal, Greater}
 use Rattle.jsonb_codec.specs.Shape as shapes
-use Rattle.jsonb_codec.specs.Shape.{Shapes, shape, leaf, count, payload, AllFit, Fits}
+use Rattle.jsonb_codec.specs.Shape.{Shapes, shape, leaf, shape_count, payload, AllFit, ShapeFits}
 use Rattle.jsonb_codec.specs.Stored.{shapes_by}
 use Rattle.jsonb.specs.declared.item.JsonbItem.{JsonbItem}
 use Rattle.jsonb.specs.ItemView.{ItemView, item_view}
@@ -20,7 +20,7 @@ use Rattle.jsonb.specs.Building.{AreShort, key_codes, leaves, keyed_leaves}
 use Rattle.jsonb.specs.Building.{FitArray, IsArrayOf, FitObject, IsObjectOf, has_key}
 use Rattle.jsonb.specs.Building.{with_pair}
 use Rattle.jsonb.specs.Children.{Pairwise, HasSameEntry, AreShown, IsShownAt, AreShownAt}
-use Rattle.jsonb.specs.Children.{ItemPairs, key_bytes, pairs_by}
+use Rattle.jsonb.specs.Children.{ItemPairs, map_keys, pairs_by}
 use Rattle.jsonb.proofs.StorageLaws.{AreCodes-codes_of, codes_of-AreCodes, length-codes_of}
 use Rattle.jsonb.proofs.StorageLaws.{AreStorable-FitArray}
 use Rattle.jsonb.proofs.ObjectLaws.{key_test, key_cmp, is_some-cond}
@@ -43,7 +43,7 @@ members_leaves key code (x ∷ xs) =
 
 -- There are as many as entries, and they fit exactly if the entries are short.
 record AreCounted (ss : Shapes) (keys values : List Entry) : Type 0 where
-  counted : count ss ≡ length values
+  counted : shape_count ss ≡ length values
   short : AllFit ss → AreShort keys × AreShort values
   fit : AreShort keys → AreShort values → AllFit ss
 
@@ -89,7 +89,8 @@ module _ {T : Type 0} (stored : T → Type 0) (code : T → ℕ × List ℕ) whe
 
   -- an array fits exactly if one can be built from the items, and is then that array
   module _ (xs : List T) (items : List ItemView) (h : AreShown stored code xs items) where
-    pub array_made : AllByRecursion stored xs → Fits (shapes.array (shapes_by (λ x. []) code xs))
+    pub array_made : AllByRecursion stored xs
+        → ShapeFits (shapes.array (shapes_by (λ x. []) code xs))
         → IsArrayOf items (payload (shapes.array (shapes_by (λ x. []) code xs)))
     array_made all fits =
         let w = are_counted (λ x. []) code xs in
@@ -106,7 +107,7 @@ module _ {T : Type 0} (stored : T → Type 0) (code : T → ℕ × List ℕ) whe
         }
 
     pub array_fits : FitArray items → AllByRecursion stored xs
-        × Fits (shapes.array (shapes_by (λ x. []) code xs))
+        × ShapeFits (shapes.array (shapes_by (λ x. []) code xs))
     array_fits fit =
         let w = are_counted (λ x. []) code xs in
         let (storable, few) = AreStorable-FitArray items fit in
@@ -116,7 +117,7 @@ module _ {T : Type 0} (stored : T → Type 0) (code : T → ℕ × List ℕ) whe
 
   -- keys and values apart
   pub at_keys : (es : List (Bor (List ℕ) × T)) (ps : ItemPairs) → AreShownAt stored code es ps
-      → (key_bytes es ≡ keys_of ps)
+      → (map_keys es ≡ keys_of ps)
       × AreShown (λ e. stored e.1) (λ e. code e.1) es (values_of ps)
   at_keys [] ps h = rw h (refl, refl)
   at_keys (e ∷ es) [] h = absurd h
@@ -128,7 +129,7 @@ module _ {T : Type 0} (stored : T → Type 0) (code : T → ℕ × List ℕ) whe
 module _ {T : Type 0} (stored : T → Type 0) (code : T → ℕ × List ℕ)
     (es : List (Bor (List ℕ) × T)) (ps : ItemPairs) (h : AreShownAt stored code es ps) where
   pub object_made : AllByRecursion (λ e. stored e.1) es
-      → Fits (shapes.object (shapes_by (λ e. e.0.now) (λ e. code e.1) es))
+      → ShapeFits (shapes.object (shapes_by (λ e. e.0.now) (λ e. code e.1) es))
       → IsObjectOf ps (payload (shapes.object (shapes_by (λ e. e.0.now) (λ e. code e.1) es)))
   object_made all fits =
       let w = are_counted (λ e. e.0.now) (λ e. code e.1) es in
@@ -149,7 +150,7 @@ module _ {T : Type 0} (stored : T → Type 0) (code : T → ℕ × List ℕ)
       }
 
   pub object_fits : FitObject ps → AllByRecursion (λ e. stored e.1) es
-      × Fits (shapes.object (shapes_by (λ e. e.0.now) (λ e. code e.1) es))
+      × ShapeFits (shapes.object (shapes_by (λ e. e.0.now) (λ e. code e.1) es))
   object_fits fit =
       let w = are_counted (λ e. e.0.now) (λ e. code e.1) es in
       let (keys, values) = at_keys stored code es ps h in
@@ -182,7 +183,7 @@ pairs_held [] h = tt
 pairs_held (e ∷ es) h = (h.0, pairs_held es h.1)
 
 pub keys_shown : {A : Type 0} (view : A → ItemView) (es : List (Bor (List ℕ) × A))
-    → key_bytes es ≡ keys_of (pairs_by view es)
+    → map_keys es ≡ keys_of (pairs_by view es)
 keys_shown view [] = refl
 keys_shown view (e ∷ es) = ap (λ ks. e.0.now ∷ ks) (keys_shown view es)
 

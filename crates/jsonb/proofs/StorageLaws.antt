@@ -4,7 +4,7 @@ use Rattle.std.proofs.Common.{unwrap_or, true, false, refl, sym, ap, ap₂}
 use Rattle.std.proofs.Common.{◌∙◌, inl, inr, arith}
 use Rattle.std.proofs.lemmas.List.{length-map}
 use Rattle.jsonb_value.specs.Tree.{Tree}
-use Rattle.jsonb_codec.specs.Word.{word}
+use Rattle.jsonb_codec.specs.WordBytes.{word}
 use Rattle.jsonb_codec.specs.Doc.{Doc, Scalar, Payload, type_of}
 use Rattle.jsonb_codec.specs.Canon.{document_of}
 use Rattle.jsonb_codec.specs.Parts.{IsPayloadOf}
@@ -13,7 +13,7 @@ use Rattle.jsonb_codec.proofs.Words.{length-word, length-word-append, same_parts
 use Rattle.jsonb.specs.ItemView.{ItemView, boolean, raw, owned}
 use Rattle.jsonb.specs.Item.{Entry}
 use Rattle.jsonb.specs.Code.{HasCode, IsDocumentCode, scalar_bytes}
-use Rattle.jsonb.specs.Storage.{entry_under, scalar_entry, document_code, code_of, IsStored}
+use Rattle.jsonb.specs.Storage.{entry_under, scalar_entry, document_code, entry_of_item, IsStored}
 use Rattle.jsonb.specs.Storage.{AreStorable, codes_of}
 use Rattle.jsonb.specs.Building.{AreCodes, AreShort}
 use Rattle.jsonb.proofs.LeafLaws.{code_entries}
@@ -79,31 +79,34 @@ document_code-IsDocumentCode b t c (inr (is, h)) (inr (q, k)) =
     rw (document_code-container b t is h) (same_code _ _ k.0 k.1)
 
 -- An item is stored with its code.
-pub HasCode-code_of : (x : ItemView) → IsStored x → HasCode x (code_of x).type (code_of x).payload
-HasCode-code_of (boolean false) h = (refl, refl)
-HasCode-code_of (boolean true) h = (refl, refl)
-HasCode-code_of (raw b) h = (h.0, (h.1, IsDocumentCode-document_code b h.0 h.1))
-HasCode-code_of (owned b) h = (h.0, (h.1, IsDocumentCode-document_code b h.0 h.1))
-HasCode-code_of x h = (refl, refl)
+pub HasCode-entry_of_item : (x : ItemView) → IsStored x
+    → HasCode x (entry_of_item x).type (entry_of_item x).payload
+HasCode-entry_of_item (boolean false) h = (refl, refl)
+HasCode-entry_of_item (boolean true) h = (refl, refl)
+HasCode-entry_of_item (raw b) h = (h.0, (h.1, IsDocumentCode-document_code b h.0 h.1))
+HasCode-entry_of_item (owned b) h = (h.0, (h.1, IsDocumentCode-document_code b h.0 h.1))
+HasCode-entry_of_item x h = (refl, refl)
 
 pub IsStored-HasCode : (x : ItemView) (type : ℕ) (p : List ℕ) → HasCode x type p → IsStored x
 IsStored-HasCode (raw b) type p h = (h.0, h.1.0)
 IsStored-HasCode (owned b) type p h = (h.0, h.1.0)
 IsStored-HasCode x type p h = tt
 
-pub code_of-HasCode : (x : ItemView) (c : Entry) → HasCode x c.type c.payload → c ≡ code_of x
-code_of-HasCode (boolean false) c h = same_code _ _ h.0 h.1
-code_of-HasCode (boolean true) c h = same_code _ _ h.0 h.1
-code_of-HasCode (raw b) c h = document_code-IsDocumentCode b h.0 c h.1.0 h.1.1
-code_of-HasCode (owned b) c h = document_code-IsDocumentCode b h.0 c h.1.0 h.1.1
-code_of-HasCode x c h = same_code _ _ h.0 h.1
+pub entry_of_item-HasCode : (x : ItemView) (c : Entry) → HasCode x c.type c.payload
+    → c ≡ entry_of_item x
+entry_of_item-HasCode (boolean false) c h = same_code _ _ h.0 h.1
+entry_of_item-HasCode (boolean true) c h = same_code _ _ h.0 h.1
+entry_of_item-HasCode (raw b) c h = document_code-IsDocumentCode b h.0 c h.1.0 h.1.1
+entry_of_item-HasCode (owned b) c h = document_code-IsDocumentCode b h.0 c h.1.0 h.1.1
+entry_of_item-HasCode x c h = same_code _ _ h.0 h.1
 
 -- items are stored with their codes
 pub AreCodes-codes_of : (xs : List ItemView) → AreStorable xs → AreCodes xs (codes_of xs)
     × AreShort (codes_of xs)
 AreCodes-codes_of [] h = (refl, tt)
 AreCodes-codes_of (x ∷ xs) h =
-    let more = AreCodes-codes_of xs h.1 in ((HasCode-code_of x h.0.0, more.0), (h.0.1, more.1))
+    let more = AreCodes-codes_of xs h.1 in
+    ((HasCode-entry_of_item x h.0.0, more.0), (h.0.1, more.1))
 
 pub codes_of-AreCodes : (xs : List ItemView) (cs : List Entry) → AreCodes xs cs → AreShort cs
     → (cs ≡ codes_of xs) × AreStorable xs
@@ -111,13 +114,13 @@ codes_of-AreCodes [] cs h short = (h, tt)
 codes_of-AreCodes (x ∷ xs) [] h short = absurd h
 codes_of-AreCodes (x ∷ xs) (c ∷ cs) h short =
     let (same, storable) = codes_of-AreCodes xs cs h.1 short.1 in
-    let here = code_of-HasCode x c h.0 in (
+    let here = entry_of_item-HasCode x c h.0 in (
       ap₂ (λ d ds. d ∷ ds) here same,
       ((IsStored-HasCode x c.type c.payload h.0, rw here at short.0), storable),
     )
 
 pub length-codes_of : (xs : List ItemView) → length (codes_of xs) ≡ length xs
-length-codes_of xs = length-map xs code_of
+length-codes_of xs = length-map xs entry_of_item
 
 pub length-code_entries : (cs : List Entry) → length (code_entries cs) ≡ 4 * length cs
 length-code_entries [] = refl

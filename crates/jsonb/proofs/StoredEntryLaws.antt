@@ -8,7 +8,7 @@ use Rattle.std.proofs.lemmas.Map.Entries.{length-keys_of, length-values_of}
 use Rattle.jsonb_value.specs.declared.error.Error.{Error}
 use Rattle.jsonb_value.specs.Tree.{Tree, text, array, object, Trees, no_trees, tree, Pairs}
 use Rattle.jsonb_value.specs.Tree.{no_pairs, pair, count, pair_count}
-use Rattle.jsonb_codec.specs.Word.{word, header_at}
+use Rattle.jsonb_codec.specs.WordBytes.{word, header_at}
 use Rattle.jsonb_codec.specs.JEntry.{jentry_at}
 use Rattle.jsonb_codec.specs.Doc.{Keys, Values, Children, Payload, type_of}
 use Rattle.jsonb_codec.specs.Parts.{IsPayloadOf}
@@ -17,12 +17,13 @@ use Rattle.jsonb.specs.ItemView.{ItemView}
 use Rattle.jsonb.specs.Item.{Entry, entry_at}
 use Rattle.jsonb.specs.Building.{AreShort, AreTexts, key_codes}
 use Rattle.jsonb.proofs.LeafLaws.{code_entries, code_payloads, array_of-parts, object_of-parts}
-use Rattle.jsonb.specs.Building.{array_of, object_of}
-use Rattle.jsonb.specs.StoredEntries.{AreCodesOf, ArePairsOf, HasItems, HasMembers, entry_item}
+use Rattle.jsonb.specs.Building.{array_bytes, object_bytes}
+use Rattle.jsonb.specs.StoredEntries.{AreCodesOf, AreMemberEntriesOf, IsArrayOfEntries}
+use Rattle.jsonb.specs.StoredEntries.{IsObjectOfEntries, entry_item}
 use Rattle.jsonb.specs.StoredEntries.{member_item, find_entry, IsFoundIn}
 use Rattle.jsonb.specs.Lookup.{count_or_zero}
 use Rattle.jsonb.specs.Entries.{entries_of, item_run, key_run, payloads_end, run_from, value_run}
-use Rattle.jsonb.specs.Walk.{items_in, pairs_in}
+use Rattle.jsonb.specs.Walk.{items_read, pair_items}
 use Rattle.jsonb.specs.DocumentWalk.{IsItemOf, ShowsTrees, key_views, ShowsPairs}
 use Rattle.jsonb.proofs.Utf8.{is_text_yes}
 use Rattle.jsonb.proofs.Places.{At, At-whole, At-all, At-left, At-right, At-after_word, IsTag}
@@ -49,7 +50,7 @@ pub length-pair_keys : (ps : Pairs) → length (pair_keys ps) ≡ pair_count ps
 length-pair_keys no_pairs = refl
 length-pair_keys (pair k t ps) = ap suc (length-pair_keys ps)
 
-pub both_are : (ks : List (List ℕ)) (cs : List Entry) (ps : Pairs) → ArePairsOf ks cs ps
+pub both_are : (ks : List (List ℕ)) (cs : List Entry) (ps : Pairs) → AreMemberEntriesOf ks cs ps
     → (ks ≡ pair_keys ps) × AreCodesOf cs (value_trees ps)
 both_are [] [] ps h = (cc h, cc h)
 both_are (k ∷ ks) (c ∷ cs) (pair l t ps) h =
@@ -62,9 +63,10 @@ length-AreCodesOf [] ts h = cc h
 length-AreCodesOf (c ∷ cs) no_trees h = absurd h
 length-AreCodesOf (c ∷ cs) (tree t ts) h = ap suc (length-AreCodesOf cs ts h.1)
 
-pub length-ArePairsOf : (ks : List (List ℕ)) (cs : List Entry) (ps : Pairs) → ArePairsOf ks cs ps
+pub length-AreMemberEntriesOf : (ks : List (List ℕ)) (cs : List Entry) (ps : Pairs)
+    → AreMemberEntriesOf ks cs ps
     → length cs ≡ pair_count ps
-length-ArePairsOf ks cs ps h =
+length-AreMemberEntriesOf ks cs ps h =
     length-AreCodesOf cs (value_trees ps) (both_are ks cs ps h).1 ∙ count-value_trees ps
 
 -- an entry that is determined by its word
@@ -85,7 +87,8 @@ AreEntries-trees (c ∷ cs) (tree t ts) h short = (
   AreEntries-trees cs ts h.1 short.1,
 )
 
-pub AreEntries-pairs : (ks : List (List ℕ)) (cs : List Entry) (ps : Pairs) → ArePairsOf ks cs ps
+pub AreEntries-pairs : (ks : List (List ℕ)) (cs : List Entry) (ps : Pairs)
+    → AreMemberEntriesOf ks cs ps
     → AreShort cs → AreEntries cs
 AreEntries-pairs ks cs ps h = AreEntries-trees cs (value_trees ps) (both_are ks cs ps h).1
 
@@ -145,7 +148,7 @@ entry_item-tree c t h short =
 
 -- the items of entries that mean trees
 pub shown_items : (cs : List Entry) (ts : Trees) → AreCodesOf cs ts → AreShort cs
-    → (items_in (map Ok cs) ≡ map entry_item cs) × ShowsTrees ts (map entry_item cs)
+    → (items_read (map Ok cs) ≡ map entry_item cs) × ShowsTrees ts (map entry_item cs)
 shown_items [] ts h short = (refl, rw h)
 shown_items (c ∷ cs) no_trees h short = absurd h
 shown_items (c ∷ cs) (tree t ts) h short =
@@ -155,15 +158,16 @@ shown_items (c ∷ cs) (tree t ts) h short =
 
 -- the items of keys
 pub shown_keys : (ps : Pairs) → AreTexts (pair_keys ps)
-    → items_in (map Ok (key_codes (pair_keys ps))) ≡ key_views ps
+    → items_read (map Ok (key_codes (pair_keys ps))) ≡ key_views ps
 shown_keys no_pairs texts = refl
 shown_keys (pair k t ps) texts =
     rw (item_of-text k texts.0) (cc (shown_keys ps texts.1))
 
 -- the items of members
 pub shown_members : (ms : List (List ℕ × Entry)) (ps : Pairs)
-    → ArePairsOf (keys_of ms) (values_of ms) ps → AreTexts (keys_of ms) → AreShort (values_of ms)
-    → (pairs_in (map Ok (key_codes (keys_of ms))) (map Ok (values_of ms)) ≡ map member_item ms)
+    → AreMemberEntriesOf (keys_of ms) (values_of ms) ps → AreTexts (keys_of ms)
+    → AreShort (values_of ms)
+    → (pair_items (map Ok (key_codes (keys_of ms))) (map Ok (values_of ms)) ≡ map member_item ms)
     × ShowsPairs ps (map member_item ms)
 shown_members [] ps h texts short = (refl, rw h)
 shown_members (m ∷ ms) no_pairs h texts short = absurd h
@@ -198,9 +202,9 @@ from_children (tree t ts) e p h =
       payloads_are = (cc);
     }
 
-pub HasItems-Payload : (b : List ℕ) (ts : Trees) → Payload (array ts) b → (cs : List Entry)
-    × HasItems b ts cs
-HasItems-Payload b ts h =
+pub IsArrayOfEntries-Payload : (b : List ℕ) (ts : Trees) → Payload (array ts) b → (cs : List Entry)
+    × IsArrayOfEntries b ts cs
+IsArrayOfEntries-Payload b ts h =
     let body = h.later in
     let f = from_children ts body.entries body.payloads body.items in
     let n = length-AreCodesOf f.entries ts f.mean in (
@@ -216,7 +220,7 @@ HasItems-Payload b ts h =
 -- the members of an object's pairs
 record FromPairs (ps : Pairs) (ke kp ve vp : List ℕ) : Type 0 where
   members : List (List ℕ × Entry)
-  mean : ArePairsOf (keys_of members) (values_of members) ps
+  mean : AreMemberEntriesOf (keys_of members) (values_of members) ps
   texts : AreTexts (keys_of members)
   short_keys : AreShort (key_codes (keys_of members))
   short : AreShort (values_of members)
@@ -254,11 +258,11 @@ from_pairs (pair k t ps) ke kp ve vp h v =
 
 -- the members of an object, whose keys are UTF-8
 object_members : (b : List ℕ) (ps : Pairs) → Payload (object ps) b
-    → (ms : List (List ℕ × Entry)) × (HasMembers b ps ms × AreTexts (keys_of ms))
+    → (ms : List (List ℕ × Entry)) × (IsObjectOfEntries b ps ms × AreTexts (keys_of ms))
 object_members b ps h =
     let body = h.1.later in
     let f = from_pairs ps _ _ _ _ body.keys body.values in
-    let values = length-ArePairsOf (keys_of f.members) (values_of f.members) ps f.mean in
+    let values = length-AreMemberEntriesOf (keys_of f.members) (values_of f.members) ps f.mean in
     let members = length-values_of f.members in
     let laid = object_of-parts (keys_of f.members) (values_of f.members)
     (length-keys_of f.members ∙ sym members) in (
@@ -275,9 +279,9 @@ object_members b ps h =
       ),
     )
 
-pub HasMembers-Payload : (b : List ℕ) (ps : Pairs) → Payload (object ps) b
-    → (ms : List (List ℕ × Entry)) × HasMembers b ps ms
-HasMembers-Payload b ps h = let (ms, (stored, texts)) = object_members b ps h in (ms, stored)
+pub IsObjectOfEntries-Payload : (b : List ℕ) (ps : Pairs) → Payload (object ps) b
+    → (ms : List (List ℕ × Entry)) × IsObjectOfEntries b ps ms
+IsObjectOfEntries-Payload b ps h = let (ms, (stored, texts)) = object_members b ps h in (ms, stored)
 
 -- the positions of an array's entries
 pub record ItemsAt (b : List ℕ) (cs : List Entry) : Type 0 where
@@ -285,7 +289,8 @@ pub record ItemsAt (b : List ℕ) (cs : List Entry) : Type 0 where
   pub entries_at : At b 4 (code_entries cs)
   pub payloads_at : At b (4 + 4 * length cs) (code_payloads cs)
 
-pub items_at : (b : List ℕ) (cs : List Entry) → length cs < 2 ^ 29 → b ≡ array_of cs → ItemsAt b cs
+pub items_at : (b : List ℕ) (cs : List Entry) → length cs < 2 ^ 29 → b ≡ array_bytes cs
+    → ItemsAt b cs
 items_at b cs few laid =
     let written = laid ∙ array_of-parts cs in
     let whole = At-after_word b 0 4 (2147483648 + length cs)
@@ -314,7 +319,7 @@ length-key_codes [] = refl
 length-key_codes (k ∷ ks) = ap suc (length-key_codes ks)
 
 pub members_at : (b : List ℕ) (ms : List (List ℕ × Entry)) → length ms < 2 ^ 29
-    → b ≡ object_of (keys_of ms) (values_of ms) → MembersAt b ms
+    → b ≡ object_bytes (keys_of ms) (values_of ms) → MembersAt b ms
 members_at b ms few written =
     let ke = code_entries (key_codes (keys_of ms)) in
     let ve = code_entries (values_of ms) in
@@ -353,7 +358,7 @@ record MembersRead (b : List ℕ) (ms : List (List ℕ × Entry)) : Type 0 where
   ends : payloads_end b (length ms) 4 (4 + 8 * length ms) ≡ Ok end
   values : entries_of (run_from b (length ms) (4 + 4 * length ms) end) ≡ map Ok (values_of ms)
 
-members_read : (b : List ℕ) (ps : Pairs) (ms : List (List ℕ × Entry)) → HasMembers b ps ms
+members_read : (b : List ℕ) (ps : Pairs) (ms : List (List ℕ × Entry)) → IsObjectOfEntries b ps ms
     → MembersRead b ms
 members_read b ps ms h =
     let at = members_at b ms h.few h.written in
@@ -384,12 +389,12 @@ values_are b ms read = rw read.ends (ap Ok read.values)
 -- what is read from an array, and from an object
 pub record ArrayHolds (b : List ℕ) (ts : Trees) : Type 0 where
   pub entries : List Entry
-  pub stored : HasItems b ts entries
+  pub stored : IsArrayOfEntries b ts entries
   pub read : entries_of (item_run b (count ts)) ≡ map Ok entries
 
 pub array_holds : (b : List ℕ) (ts : Trees) → Payload (array ts) b → ArrayHolds b ts
 array_holds b ts h =
-    let (cs, stored) = HasItems-Payload b ts h in
+    let (cs, stored) = IsArrayOfEntries-Payload b ts h in
     let at = items_at b cs stored.few stored.written in
     record {
       entries = cs;
@@ -401,7 +406,7 @@ array_holds b ts h =
 
 pub record ObjectHolds (b : List ℕ) (ps : Pairs) : Type 0 where
   pub members : List (List ℕ × Entry)
-  pub stored : HasMembers b ps members
+  pub stored : IsObjectOfEntries b ps members
   pub texts : AreTexts (keys_of members)
   pub counted : length members ≡ pair_count ps
   pub keys : entries_of (key_run b (pair_count ps)) ≡ map Ok (key_codes (keys_of members))
@@ -415,7 +420,8 @@ object_holds b ps h =
     let (ms, (stored, texts)) = object_members b ps h in
     let read = members_read b ps ms stored in
     let counted =
-    sym (length-values_of ms) ∙ length-ArePairsOf (keys_of ms) (values_of ms) ps stored.mean in
+    sym (length-values_of ms)
+    ∙ length-AreMemberEntriesOf (keys_of ms) (values_of ms) ps stored.mean in
     record {
       members = ms;
       stored = stored;
@@ -451,9 +457,9 @@ same_members (m ∷ ms) (n ∷ ns) h k =
     ap₂ (λ x xs. x ∷ xs) (ap₂ (λ x c. (x, c)) key value) (same_members ms ns keys values)
 same_members ms ns h k = cc
 
-pub HasMembers-one : (b : List ℕ) (ps qs : Pairs) (ms ns : List (List ℕ × Entry))
-    → HasMembers b ps ms → HasMembers b qs ns → ms ≡ ns
-HasMembers-one b ps qs ms ns h k =
+pub IsObjectOfEntries-one : (b : List ℕ) (ps qs : Pairs) (ms ns : List (List ℕ × Entry))
+    → IsObjectOfEntries b ps ms → IsObjectOfEntries b qs ns → ms ≡ ns
+IsObjectOfEntries-one b ps qs ms ns h k =
     let left = members_read b ps ms h in
     let right = members_read b qs ns k in
     let n : length ms ≡ length ns = ap count_or_zero
@@ -472,7 +478,7 @@ HasMembers-one b ps qs ms ns h k =
 pub IsFoundIn-one : (accepts : List ℕ → Bool) (size : ℕ) (b : List ℕ) (t u : Tree) (x y : ItemView)
     → IsFoundIn accepts size b t (Some x) → IsFoundIn accepts size b u (Some y) → x ≡ y
 IsFoundIn-one accepts size b (object ps) (object qs) x y (ms, (h, found)) (ns, (k, also)) =
-    let same = HasMembers-one b ps qs ms ns h k in
+    let same = IsObjectOfEntries-one b ps qs ms ns h k in
     let also = subst (λ ms. option_map entry_item (find_entry accepts size ms) ≡ Some (Ok y))
     (sym same) also in
     cc

@@ -13,7 +13,8 @@ use Rattle.jsonb.specs.Entries.{Run, entries_of, entry_read, key_run, payloads_e
 use Rattle.jsonb.specs.Entries.{until_error, value_run}
 use Rattle.jsonb.specs.Walk.{Walk, ErrsLast, IsBounded, item_read, pair_read, count_under}
 use Rattle.jsonb.specs.Walk.{item_walk, pair_walk}
-use Rattle.jsonb.specs.Walk.{container_tag, walk_of_children, children_walk, pairs_of, pairs_walk}
+use Rattle.jsonb.specs.Walk.{container_tag, walk_of_children, children_walk, pairs_iterator}
+use Rattle.jsonb.specs.Walk.{pairs_walk}
 use Rattle.jsonb.proofs.EntryLaws.{length-placed_from}
 
 length-until_error : {A : Type 0} (xs : List (Result A Error)) → length (until_error xs) ≤ length xs
@@ -85,10 +86,11 @@ pub children_walk-bounded : (kind : ChildKind) (bytes : List ℕ)
 children_walk-bounded kind bytes = bounded_steps (walk_of_children kind bytes)
     (walk_of_children-bounded kind bytes) (count_under bytes (container_tag kind))
 
-pairs_of-bounded : (bytes : List ℕ) (o : Option ℕ) → AreBounded (pairs_of bytes o)
-pairs_of-bounded bytes None = tt
-pairs_of-bounded bytes (Some n) = bounded_steps _ (bounded_pairs bytes n) (value_run bytes n)
+pairs_iterator-bounded : (bytes : List ℕ) (o : Option ℕ) → AreBounded (pairs_iterator bytes o)
+pairs_iterator-bounded bytes None = tt
+pairs_iterator-bounded bytes (Some n) = bounded_steps _ (bounded_pairs bytes n) (value_run bytes n)
 
 pub pairs_walk-bounded : (bytes : List ℕ) → AreBounded (pairs_walk bytes)
 pairs_walk-bounded bytes =
-    bounded_steps (pairs_of bytes) (pairs_of-bounded bytes) (count_under bytes 1073741824)
+    bounded_steps (pairs_iterator bytes) (pairs_iterator-bounded bytes)
+    (count_under bytes 1073741824)

@@ -36,12 +36,12 @@ keyed_leaves (k ∷ ks) [] = no_shapes
 keyed_leaves (k ∷ ks) (c ∷ cs) = shape k (leaf c.type c.payload) (keyed_leaves ks cs)
 
 -- The array with these entries.
-abbrev pub array_of : List Entry → List ℕ
-array_of codes = payload (array (leaves codes))
+abbrev pub array_bytes : List Entry → List ℕ
+array_bytes codes = payload (array (leaves codes))
 
 -- The object with these keys and these entries of their values.
-abbrev pub object_of : List (List ℕ) → List Entry → List ℕ
-object_of keys codes = payload (object (keyed_leaves keys codes))
+abbrev pub object_bytes : List (List ℕ) → List Entry → List ℕ
+object_bytes keys codes = payload (object (keyed_leaves keys codes))
 
 -- The entries of these keys.
 abbrev pub key_codes : List (List ℕ) → List Entry
@@ -57,7 +57,7 @@ pub record FitArray (xs : List ItemView) : Type 0 where
 -- The bytes are the array of the items' entries, in order.
 pub record IsArrayOf (xs : List ItemView) (bytes : List ℕ) : Type 0 where
   pub fit : FitArray xs
-  pub written : bytes ≡ array_of fit.codes
+  pub written : bytes ≡ array_bytes fit.codes
 
 -- The pairs have one with this key.
 abbrev pub has_key : {A : Type 0} → List (List ℕ × A) → List ℕ → Bool
@@ -87,7 +87,7 @@ pub record FitObject (pairs : List (List ℕ × ItemView)) : Type 0 where
 -- The bytes are the object of the keys and the values' entries, in order.
 pub record IsObjectOf (pairs : List (List ℕ × ItemView)) (bytes : List ℕ) : Type 0 where
   pub fit : FitObject pairs
-  pub written : bytes ≡ object_of (keys_of pairs) fit.codes
+  pub written : bytes ≡ object_bytes (keys_of pairs) fit.codes
 
 -- Each key is UTF-8.
 abbrev pub AreTexts : List (List ℕ) → Type 0

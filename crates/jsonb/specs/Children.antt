@@ -19,8 +19,8 @@ abbrev pub pairs_by : {A : Type 0} → (A → ItemView) → List (Bor (List ℕ)
 pairs_by view es = map (λ e. (e.0.now, view e.1)) es
 
 -- The keys of a map, as bytes.
-abbrev pub key_bytes : {A : Type 0} → List (Bor (List ℕ) × A) → List (List ℕ)
-key_bytes es = map (λ e. e.0.now) es
+abbrev pub map_keys : {A : Type 0} → List (Bor (List ℕ) × A) → List (List ℕ)
+map_keys es = map (λ e. e.0.now) es
 
 -- Two lists of equal length are related element by element.
 abbrev pub Pairwise : {A B : Type 0} → (A → B → Type 0) → List A → List B → Type 0

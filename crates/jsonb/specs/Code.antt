@@ -10,19 +10,19 @@ use Rattle.jsonb_codec.specs.declared.constants.TheConstants.{SCALAR_CONTAINER_T
 use Rattle.jsonb_codec.specs.declared.constants.TheConstants.{STRING_TAG, NUMBER_TAG, FALSE_TAG}
 use Rattle.jsonb_codec.specs.declared.constants.TheConstants.{TRUE_TAG, CONTAINER_TAG}
 use Rattle.jsonb_codec.specs.declared.constants.TheConstants.{EXTENSION_TAG}
-use Rattle.jsonb_codec.specs.Word.{word}
+use Rattle.jsonb_codec.specs.WordBytes.{word}
 use Rattle.jsonb_codec.specs.Doc.{Doc, type_of}
 use Rattle.jsonb.specs.ItemView.{ItemView, null, boolean, number, text, extension, raw, owned}
 
 -- The item means the tree; bytes mean the tree of the document that they are.
-abbrev pub Means : ItemView → Tree → Type 0
-Means null t = t ≡ trees.null
-Means (boolean b) t = t ≡ trees.boolean b
-Means (number given x) t = t ≡ trees.number x
-Means (text s) t = t ≡ trees.text s
-Means (extension given e) t = t ≡ trees.extension e
-Means (raw b) t = Doc b t
-Means (owned b) t = Doc b t
+abbrev pub ItemMeans : ItemView → Tree → Type 0
+ItemMeans null t = t ≡ trees.null
+ItemMeans (boolean b) t = t ≡ trees.boolean b
+ItemMeans (number given x) t = t ≡ trees.number x
+ItemMeans (text s) t = t ≡ trees.text s
+ItemMeans (extension given e) t = t ≡ trees.extension e
+ItemMeans (raw b) t = Doc b t
+ItemMeans (owned b) t = Doc b t
 
 -- The document of a scalar, given the type and the payload of its entry.
 abbrev pub scalar_bytes : ℕ → List ℕ → List ℕ

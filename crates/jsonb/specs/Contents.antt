@@ -6,7 +6,7 @@ use Rattle.jsonb.specs.declared.document.Contents.TheVariants as contents
 use Rattle.jsonb.specs.EntryTrees.{rest_trees, rest_pairs}
 use Rattle.jsonb.specs.Item.{Entry}
 use Rattle.jsonb.specs.Node.{array_of, object_of}
-use Rattle.jsonb.specs.StoredEntries.{AreEntriesOf, HasItems, HasMembers}
+use Rattle.jsonb.specs.StoredEntries.{AreEntriesOf, IsArrayOfEntries, IsObjectOfEntries}
 
 -- The tree of the content.
 abbrev pub contents_tree : Contents → Tree
@@ -16,7 +16,7 @@ contents_tree (contents.Object members) = object_of (rest_pairs members)
 -- The content is read from the entries in the document b of the tree.
 abbrev pub AreStoredIn : List ℕ → Tree → Contents → Type 0
 AreStoredIn b (array ts) (contents.Array items) =
-    (entries : List Entry) × (HasItems b ts entries × (items ≡ map Ok entries))
+    (entries : List Entry) × (IsArrayOfEntries b ts entries × (items ≡ map Ok entries))
 AreStoredIn b (object ps) (contents.Object members) =
-    (stored : List (List ℕ × Entry)) × (HasMembers b ps stored × AreEntriesOf stored members)
+    (stored : List (List ℕ × Entry)) × (IsObjectOfEntries b ps stored × AreEntriesOf stored members)
 AreStoredIn b t content = ⊥

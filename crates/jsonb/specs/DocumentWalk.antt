@@ -12,9 +12,9 @@ use Rattle.jsonb.specs.declared.iterator.ChildKind.TheVariants.{ArrayItem, Objec
 use Rattle.jsonb.specs.ItemView.{ItemView}
 use Rattle.jsonb.specs.ItemView as items
 use Rattle.jsonb.specs.Item.{Entry, item_of}
-use Rattle.jsonb.specs.Code.{Means, HasCode}
+use Rattle.jsonb.specs.Code.{ItemMeans, HasCode}
 use Rattle.jsonb.specs.Walk.{Walk}
-use Rattle.jsonb.specs.StoredEntries.{HasItems, HasMembers, entry_item, member_item}
+use Rattle.jsonb.specs.StoredEntries.{IsArrayOfEntries, IsObjectOfEntries, entry_item, member_item}
 
 -- The item is that of some entry with the tree's type and a payload that means the tree; so the
 -- item means the tree and is stored with that entry.
@@ -23,7 +23,7 @@ pub record IsItemOf (t : Tree) (x : ItemView) : Type 0 where
   pub short : length payload < 2 ^ 28
   pub payload_means : Payload t payload
   pub item : item_of (type_of t) payload ≡ Ok x
-  pub means : Means x t
+  pub means : ItemMeans x t
   pub code : HasCode x (type_of t) payload
 
 -- The item of the document b of the tree t: all bytes of an array or object, the item of a scalar's
@@ -86,21 +86,21 @@ WalksPairs t r = r ≡ Ok None
 -- The results are the items of the entries in the document b of an array.
 pub record ShowsItems (b : List ℕ) (ts : Trees) (xs : List (Result ItemView Error)) : Type 0 where
   pub entries : List Entry
-  pub stored : HasItems b ts entries
+  pub stored : IsArrayOfEntries b ts entries
   pub items : xs ≡ map entry_item entries
 
 -- The results are the items of the values' entries in the document b of an object.
 pub record ShowsValueItems (b : List ℕ) (ps : Pairs)
     (xs : List (Result ItemView Error)) : Type 0 where
   pub members : List (List ℕ × Entry)
-  pub stored : HasMembers b ps members
+  pub stored : IsObjectOfEntries b ps members
   pub items : xs ≡ map entry_item (values_of members)
 
 -- The results are the keys, with the items of the values' entries, in the document b of an object.
 pub record ShowsMembers (b : List ℕ) (ps : Pairs)
     (xs : List (Result (List ℕ × ItemView) Error)) : Type 0 where
   pub members : List (List ℕ × Entry)
-  pub stored : HasMembers b ps members
+  pub stored : IsObjectOfEntries b ps members
   pub items : xs ≡ map member_item members
 
 -- For an array the result is an iterator over the items of its entries in b.

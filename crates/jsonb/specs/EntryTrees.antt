@@ -60,16 +60,16 @@ AreParts (Ok entry ∷ others) = IsSomePayload entry.type entry.payload × ArePa
 AreParts (Err e ∷ others) = ⊥
 
 -- All entries were read without an error and are strings.
-abbrev pub AreKeys : List (Result Entry Error) → Type 0
-AreKeys [] = ⊤
-AreKeys (Ok entry ∷ others) = (entry.type ≡ STRING_TAG) × AreKeys others
-AreKeys (Err e ∷ others) = ⊥
+abbrev pub AreKeyEntries : List (Result Entry Error) → Type 0
+AreKeyEntries [] = ⊤
+AreKeyEntries (Ok entry ∷ others) = (entry.type ≡ STRING_TAG) × AreKeyEntries others
+AreKeyEntries (Err e ∷ others) = ⊥
 
 -- All entries of keys and of values were read without an error, the keys are strings, each value
 -- means a tree, and there are as many values as keys.
-abbrev pub AreMembers : List (Result Entry Error) × List (Result Entry Error) → Type 0
-AreMembers left =
-    (AreParts left.0 × AreKeys left.0) × (AreParts left.1 × (length left.0 ≡ length left.1))
+abbrev pub AreMemberEntries : List (Result Entry Error) × List (Result Entry Error) → Type 0
+AreMemberEntries left =
+    (AreParts left.0 × AreKeyEntries left.0) × (AreParts left.1 × (length left.0 ≡ length left.1))
 
 -- The trees of the remaining entries of an array.
 abbrev pub rest_trees : List (Result Entry Error) → List Tree

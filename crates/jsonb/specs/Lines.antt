@@ -1,7 +1,7 @@
 -- The text of a container, line by line.
 use Rattle.std.specs.Prelude.{◌+◌, ◌<◌, ◌^◌, ℕ, ⊤, List, [], ◌∷◌, ◌++◌, codes}
 use Rattle.jsonb_value.specs.Tree.{Tree, Trees, no_trees, tree, Pairs, no_pairs, pair}
-use Rattle.jsonb_value.specs.Text.{Layout, in_one_line, on_lines, inside, line_start, colon}
+use Rattle.jsonb_value.specs.Text.{Layout, in_one_line, on_lines, inside, line_start, colon_text}
 use Rattle.jsonb_value.specs.Text.{laid_out, string_text}
 
 -- The text of the lines after the first.
@@ -17,7 +17,7 @@ bracket_text l front end (line ∷ lines) = front
 
 -- The text of a pair.
 abbrev pub pair_text : Layout → List ℕ → Tree → List ℕ
-pair_text l k t = string_text k ++ (colon l ++ laid_out l t)
+pair_text l k t = string_text k ++ (colon_text l ++ laid_out l t)
 
 -- The lines of an array's items.
 abbrev pub item_lines : Layout → Trees → List (List ℕ)
@@ -30,6 +30,6 @@ pair_lines l no_pairs = []
 pair_lines l (pair k t ps) = pair_text l k t ∷ pair_lines l ps
 
 -- The indentation inside n more containers fits 64 bits.
-abbrev pub HasRoom : Layout → ℕ → Type 0
-HasRoom in_one_line n = ⊤
-HasRoom (on_lines depth) n = depth + n < 2 ^ 64
+abbrev pub HasIndentRoom : Layout → ℕ → Type 0
+HasIndentRoom in_one_line n = ⊤
+HasIndentRoom (on_lines depth) n = depth + n < 2 ^ 64

@@ -10,7 +10,7 @@ use Rattle.jsonb_value.specs.declared.error.Error.TheVariants.{InvalidUtf8, Inva
 use Rattle.jsonb_value.specs.declared.error.Error.TheVariants.{InvalidJsonbExtension}
 use Rattle.jsonb_value.specs.Tree.{Tree, object, Pairs, no_pairs, pair, pair_count}
 use Rattle.jsonb_codec.specs.declared.constants.TheConstants.{OBJECT_CONTAINER_TAG}
-use Rattle.jsonb_codec.specs.Word.{header_at}
+use Rattle.jsonb_codec.specs.WordBytes.{header_at}
 use Rattle.jsonb.specs.declared.entries.Entry.{Entry as PlacedEntry}
 use Rattle.jsonb.specs.declared.item.JsonbItem.{JsonbItem}
 use Rattle.jsonb.specs.declared.reads.lookup.Accepted.{Accepted}
@@ -21,7 +21,7 @@ use Rattle.jsonb.specs.Item.{Entry}
 use Rattle.jsonb.specs.Entries.{entry_there}
 use Rattle.jsonb.specs.Parts.{part_start, value_entry, PassedBefore, IsAccepted, IsNoneFound}
 use Rattle.jsonb.specs.Parts.{IsPlaceOf, IsUnreadable, IsValueFound}
-use Rattle.jsonb.specs.StoredEntries.{HasMembers, entry_item}
+use Rattle.jsonb.specs.StoredEntries.{IsObjectOfEntries, entry_item}
 use Rattle.jsonb.specs.Walk.{count_under}
 use Rattle.jsonb.specs.DocumentWalk.{IsItemOf}
 
@@ -51,7 +51,7 @@ pub record IsFound (answers : List ℕ → Bool → Type 0) (size : ℕ) (b : Li
   pub first : IsFirstAccepted answers size ps index value
   pub item : IsItemOf value x
   pub members : List (List ℕ × Entry)
-  pub stored : HasMembers b ps members
+  pub stored : IsObjectOfEntries b ps members
   pub entry : option_map entry_item (slice_get (values_of members) index) ≡ Some (Ok x)
   pub cost : reads ≡ pair_count ps + index + 2
 
@@ -107,9 +107,9 @@ words_read accepts size (object ps) =
 words_read accepts size t = 1
 
 -- how many pairs an object has; anything else has none
-abbrev pub pairs_in : Tree → ℕ
-pairs_in (object ps) = pair_count ps
-pairs_in t = 0
+abbrev pub pair_count_in : Tree → ℕ
+pair_count_in (object ps) = pair_count ps
+pair_count_in t = 0
 
 -- For keys of this size the closure returns what the predicate does.
 abbrev pub AnswersBy : (List ℕ → Bool) → (List ℕ → Bool → Type 0) → ℕ → Type 0
@@ -182,8 +182,8 @@ count_or_zero (Ok header) = header.1
 count_or_zero (Err e) = 0
 
 -- The count in the header of the bytes; 0 if it cannot be read.
-unfoldable pub header_count : List ℕ → ℕ
-header_count bytes = count_or_zero (header_at bytes 0)
+unfoldable pub count_in_header : List ℕ → ℕ
+count_in_header bytes = count_or_zero (header_at bytes 0)
 
 -- A look-up can return this error.
 abbrev pub IsRefusal : Error → Type 0

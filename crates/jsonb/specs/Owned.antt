@@ -7,6 +7,6 @@ abbrev pub owned_bytes : OwnedJsonb → List ℕ
 owned_bytes owned = owned.bytes.items
 
 -- The bytes in a result, or its error.
-abbrev pub bytes_of : {E : Type 0} → Result OwnedJsonb E → Result (List ℕ) E
-bytes_of (Ok owned) = Ok (owned_bytes owned)
-bytes_of (Err e) = Err e
+abbrev pub result_bytes : {E : Type 0} → Result OwnedJsonb E → Result (List ℕ) E
+result_bytes (Ok owned) = Ok (owned_bytes owned)
+result_bytes (Err e) = Err e

@@ -17,20 +17,20 @@ use Rattle.jsonb.specs.Document.{document_bytes, tree_in}
 use Rattle.jsonb.specs.Raw.{raw_bytes}
 use Rattle.jsonb.specs.Storage.{document_code}
 use Rattle.jsonb.specs.ItemView.{ItemView, raw}
-use Rattle.jsonb.specs.Code.{Means}
+use Rattle.jsonb.specs.Code.{ItemMeans}
 use Rattle.jsonb.specs.Building.{IsArrayOf, in_order, FitObject, IsObjectOf}
 
 -- The items mean these trees, in order.
 abbrev pub AllMean : List ItemView → Trees → Type 0
 AllMean [] ts = ts ≡ no_trees
 AllMean (x ∷ xs) no_trees = ⊥
-AllMean (x ∷ xs) (tree t ts) = Means x t × AllMean xs ts
+AllMean (x ∷ xs) (tree t ts) = ItemMeans x t × AllMean xs ts
 
 -- The items at keys mean these pairs, in order.
 abbrev pub AllMeanAt : List (List ℕ × ItemView) → Pairs → Type 0
 AllMeanAt [] ps = ps ≡ no_pairs
 AllMeanAt (x ∷ xs) no_pairs = ⊥
-AllMeanAt (x ∷ xs) (pair k t ps) = (x.0 ≡ k) × (Means x.1 t × AllMeanAt xs ps)
+AllMeanAt (x ∷ xs) (pair k t ps) = (x.0 ≡ k) × (ItemMeans x.1 t × AllMeanAt xs ps)
 
 -- The byte strings are documents of these trees.
 abbrev pub AreDocuments : List (List ℕ) → Trees → Type 0

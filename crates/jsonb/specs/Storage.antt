@@ -11,7 +11,7 @@ use Rattle.jsonb_codec.specs.declared.constants.TheConstants.{SCALAR_CONTAINER_T
 use Rattle.jsonb_codec.specs.declared.constants.TheConstants.{STRING_TAG, NUMBER_TAG, FALSE_TAG}
 use Rattle.jsonb_codec.specs.declared.constants.TheConstants.{TRUE_TAG, CONTAINER_TAG}
 use Rattle.jsonb_codec.specs.declared.constants.TheConstants.{EXTENSION_TAG}
-use Rattle.jsonb_codec.specs.Word.{header_at}
+use Rattle.jsonb_codec.specs.WordBytes.{header_at}
 use Rattle.jsonb_codec.specs.Doc.{IsDocument}
 use Rattle.jsonb.specs.ItemView.{ItemView, null, boolean, number, text, extension, raw, owned}
 use Rattle.jsonb.specs.Item.{Entry, entry_at}
@@ -32,15 +32,16 @@ abbrev pub document_code : List ℕ → Entry
 document_code b = unwrap_or (scalar_entry b) (record { type = CONTAINER_TAG; payload = b })
 
 -- The entry with which an item is stored, if it has one.
-abbrev pub code_of : ItemView → Entry
-code_of null = record { type = NULL_TAG; payload = [] }
-code_of (boolean false) = record { type = FALSE_TAG; payload = [] }
-code_of (boolean true) = record { type = TRUE_TAG; payload = [] }
-code_of (number given x) = record { type = NUMBER_TAG; payload = number_bytes given x }
-code_of (text s) = record { type = STRING_TAG; payload = s }
-code_of (extension given e) = record { type = EXTENSION_TAG; payload = extension_bytes given e }
-code_of (raw b) = document_code b
-code_of (owned b) = document_code b
+abbrev pub entry_of_item : ItemView → Entry
+entry_of_item null = record { type = NULL_TAG; payload = [] }
+entry_of_item (boolean false) = record { type = FALSE_TAG; payload = [] }
+entry_of_item (boolean true) = record { type = TRUE_TAG; payload = [] }
+entry_of_item (number given x) = record { type = NUMBER_TAG; payload = number_bytes given x }
+entry_of_item (text s) = record { type = STRING_TAG; payload = s }
+entry_of_item (extension given e) =
+    record { type = EXTENSION_TAG; payload = extension_bytes given e }
+entry_of_item (raw b) = document_code b
+entry_of_item (owned b) = document_code b
 
 -- The type and the payload of an entry, as a pair.
 abbrev pub pair_of : Entry → ℕ × List ℕ
@@ -48,7 +49,7 @@ pair_of entry = (entry.type, entry.payload)
 
 -- The type and the payload with which an item is stored.
 abbrev pub stored_code : ItemView → ℕ × List ℕ
-stored_code x = pair_of (code_of x)
+stored_code x = pair_of (entry_of_item x)
 
 -- The item has an entry: its bytes, if it holds bytes, are a document.
 abbrev pub IsStored : ItemView → Type 0
@@ -62,7 +63,7 @@ IsStored (owned b) = IsDocument b
 
 -- The item has an entry, and its payload does not exceed the limit.
 abbrev pub IsStorable : ItemView → Type 0
-IsStorable x = IsStored x × (length (code_of x).payload < 2 ^ 28)
+IsStorable x = IsStored x × (length (entry_of_item x).payload < 2 ^ 28)
 
 -- Each item satisfies `IsStorable`.
 abbrev pub AreStorable : List ItemView → Type 0
@@ -71,7 +72,7 @@ AreStorable (x ∷ xs) = IsStorable x × AreStorable xs
 
 -- The entries with which these items are stored.
 abbrev pub codes_of : List ItemView → List Entry
-codes_of xs = map code_of xs
+codes_of xs = map entry_of_item xs
 
 -- The contents of an item are consistent: a number is in the range of its type, a text is UTF-8,
 -- and given bytes encode the value.

@@ -8,7 +8,7 @@ use Rattle.jsonb_codec.specs.Parts.{IsPayloadOf}
 use Rattle.jsonb.specs.Steps.{◌>>=◌}
 use Rattle.jsonb.specs.ItemView.{ItemView}
 use Rattle.jsonb.specs.Item.{Entry, item_of}
-use Rattle.jsonb.specs.Building.{AreShort, array_of, key_codes, object_of}
+use Rattle.jsonb.specs.Building.{AreShort, array_bytes, key_codes, object_bytes}
 
 -- The entries mean these trees, in order: each has its tree's type and a payload that means the
 -- tree.
@@ -18,28 +18,29 @@ AreCodesOf (c ∷ cs) no_trees = ⊥
 AreCodesOf (c ∷ cs) (tree t ts) = IsPayloadOf c.type c.payload t × AreCodesOf cs ts
 
 -- The keys are those of the pairs, and the entries mean their trees.
-abbrev pub ArePairsOf : List (List ℕ) → List Entry → Pairs → Type 0
-ArePairsOf [] [] ps = ps ≡ no_pairs
-ArePairsOf [] (c ∷ cs) ps = ⊥
-ArePairsOf (k ∷ ks) [] ps = ⊥
-ArePairsOf (k ∷ ks) (c ∷ cs) no_pairs = ⊥
-ArePairsOf (k ∷ ks) (c ∷ cs) (pair l t ps) =
-    (k ≡ l) × (IsPayloadOf c.type c.payload t × ArePairsOf ks cs ps)
+abbrev pub AreMemberEntriesOf : List (List ℕ) → List Entry → Pairs → Type 0
+AreMemberEntriesOf [] [] ps = ps ≡ no_pairs
+AreMemberEntriesOf [] (c ∷ cs) ps = ⊥
+AreMemberEntriesOf (k ∷ ks) [] ps = ⊥
+AreMemberEntriesOf (k ∷ ks) (c ∷ cs) no_pairs = ⊥
+AreMemberEntriesOf (k ∷ ks) (c ∷ cs) (pair l t ps) =
+    (k ≡ l) × (IsPayloadOf c.type c.payload t × AreMemberEntriesOf ks cs ps)
 
 -- The bytes are the array of these entries, which mean the trees.
-pub record HasItems (b : List ℕ) (ts : Trees) (entries : List Entry) : Type 0 where
+pub record IsArrayOfEntries (b : List ℕ) (ts : Trees) (entries : List Entry) : Type 0 where
   pub mean : AreCodesOf entries ts
   pub short : AreShort entries
   pub few : length entries < 2 ^ 29
-  pub written : b ≡ array_of entries
+  pub written : b ≡ array_bytes entries
 
 -- The bytes are the object of these keys and entries, which mean the pairs.
-pub record HasMembers (b : List ℕ) (ps : Pairs) (members : List (List ℕ × Entry)) : Type 0 where
-  pub mean : ArePairsOf (keys_of members) (values_of members) ps
+pub record IsObjectOfEntries (b : List ℕ) (ps : Pairs) (members : List (List ℕ × Entry))
+    : Type 0 where
+  pub mean : AreMemberEntriesOf (keys_of members) (values_of members) ps
   pub short_keys : AreShort (key_codes (keys_of members))
   pub short : AreShort (values_of members)
   pub few : length members < 2 ^ 29
-  pub written : b ≡ object_of (keys_of members) (values_of members)
+  pub written : b ≡ object_bytes (keys_of members) (values_of members)
 
 -- What was read of the keys' and of the values' entry words are the entries of these members.
 abbrev pub AreEntriesOf : List (List ℕ × Entry)
@@ -64,6 +65,6 @@ find_entry accepts size members = lookup (λ key. (length key == size) && accept
 abbrev pub IsFoundIn : (List ℕ → Bool) → ℕ → List ℕ → Tree → Option ItemView → Type 0
 IsFoundIn accepts size b (object ps) found =
     (members : List (List ℕ × Entry))
-    × (HasMembers b ps members
+    × (IsObjectOfEntries b ps members
     × (option_map entry_item (find_entry accepts size members) ≡ option_map Ok found))
 IsFoundIn accepts size b t found = found ≡ None

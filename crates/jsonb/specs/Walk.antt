@@ -7,7 +7,7 @@ use Rattle.jsonb_value.specs.declared.error.Error.{Error}
 use Rattle.jsonb_value.specs.declared.error.Error.TheVariants.{InvalidJsonb, InvalidUtf8}
 use Rattle.jsonb_codec.specs.declared.constants.TheConstants.{ARRAY_CONTAINER_TAG}
 use Rattle.jsonb_codec.specs.declared.constants.TheConstants.{OBJECT_CONTAINER_TAG, STRING_TAG}
-use Rattle.jsonb_codec.specs.Word.{header_at}
+use Rattle.jsonb_codec.specs.WordBytes.{header_at}
 use Rattle.jsonb.specs.declared.iterator.ChildKind.{ChildKind}
 use Rattle.jsonb.specs.declared.iterator.ChildKind.TheVariants.{ArrayItem, ObjectKey, ObjectValue}
 use Rattle.jsonb.specs.Steps.{◌>>=◌}
@@ -36,8 +36,8 @@ abbrev pub item_read : Result Entry Error → Result ItemView Error
 item_read read = read >>= λ entry. item_of entry.type entry.payload
 
 -- The items of entries, up to the first error.
-abbrev pub items_in : List (Result Entry Error) → List (Result ItemView Error)
-items_in entries = until_error (map item_read entries)
+abbrev pub items_read : List (Result Entry Error) → List (Result ItemView Error)
+items_read entries = until_error (map item_read entries)
 
 -- The key of an entry, which must be a string of UTF-8.
 abbrev pub key_of : Entry → Result (List ℕ) Error
@@ -52,9 +52,9 @@ pair_read read = do
   Ok (key, value)
 
 -- The pairs of keys and values, up to the first error.
-abbrev pub pairs_in : List (Result Entry Error) → List (Result Entry Error)
+abbrev pub pair_items : List (Result Entry Error) → List (Result Entry Error)
     → List (Result (List ℕ × ItemView) Error)
-pairs_in keys values = until_error (map pair_read (zip keys values))
+pair_items keys values = until_error (map pair_read (zip keys values))
 
 -- The count in a header of this kind; none for any other kind.
 abbrev pub count_if : ℕ → ℕ × ℕ → Option ℕ
@@ -66,7 +66,7 @@ count_under bytes tag = header_at bytes 0 >>= λ header. Ok (count_if tag header
 
 -- The iterator over the items of a run of n entries.
 abbrev pub item_walk : ℕ → Run → Walk ItemView
-item_walk n run = record { count = n; rest = items_in (entries_of run) }
+item_walk n run = record { count = n; rest = items_read (entries_of run) }
 
 -- The tag in the header of the containers that have children of this kind.
 abbrev pub container_tag : ChildKind → ℕ
@@ -93,17 +93,17 @@ children_walk kind bytes = count_under bytes (container_tag kind) >>= walk_of_ch
 -- The iterator over the pairs of n keys and values.
 abbrev pub pair_walk : ℕ → Run → Run → Walk (List ℕ × ItemView)
 pair_walk n keys values =
-    record { count = n; rest = pairs_in (entries_of keys) (entries_of values) }
+    record { count = n; rest = pair_items (entries_of keys) (entries_of values) }
 
 -- The iterator over the pairs of an object with this count.
-abbrev pub pairs_of : List ℕ → Option ℕ → Result (Option (Walk (List ℕ × ItemView))) Error
-pairs_of bytes None = Ok None
-pairs_of bytes (Some n) =
+abbrev pub pairs_iterator : List ℕ → Option ℕ → Result (Option (Walk (List ℕ × ItemView))) Error
+pairs_iterator bytes None = Ok None
+pairs_iterator bytes (Some n) =
     value_run bytes n >>= λ values. Ok (Some (pair_walk n (key_run bytes n) values))
 
 -- The iterator over the pairs of an object.
 abbrev pub pairs_walk : List ℕ → Result (Option (Walk (List ℕ × ItemView))) Error
-pairs_walk bytes = count_under bytes OBJECT_CONTAINER_TAG >>= pairs_of bytes
+pairs_walk bytes = count_under bytes OBJECT_CONTAINER_TAG >>= pairs_iterator bytes
 
 -- An error can only be the last result.
 abbrev pub ErrsLast : {A : Type 0} → List (Result A Error) → Type 0

@@ -16,7 +16,8 @@ pub use Rattle.jsonb_value.specs.Meaning.{document, meaning_cmp, other_bytes}
 pub use Rattle.jsonb_value.specs.Norm.{norm}
 pub use Rattle.jsonb_value.specs.NumCode.{NumCode}
 pub use Rattle.jsonb_value.specs.Plain.{IsPlain}
-pub use Rattle.jsonb_value.specs.Text.{colon, compact, extension_text, inside, laid_out, line_start}
+pub use Rattle.jsonb_value.specs.Text.{colon_text, compact, extension_text, inside, laid_out}
+pub use Rattle.jsonb_value.specs.Text.{line_start}
 pub use Rattle.jsonb_value.specs.Text.{pretty, quoted_text}
 pub use Rattle.jsonb_value.specs.Tree.{Extension, Pairs, Tree, Trees, array, no_pairs, no_trees}
 pub use Rattle.jsonb_value.specs.Tree.{pair, text, tree}
@@ -36,7 +37,7 @@ pub use Rattle.jsonb_codec.specs.Fault.{IsTreeFault}
 pub use Rattle.jsonb_codec.specs.JEntry.{jentry_at}
 pub use Rattle.jsonb_codec.specs.Reread.{MeansAgain}
 pub use Rattle.jsonb_codec.specs.Stored.{code_of_some}
-pub use Rattle.jsonb_codec.specs.Word.{word_at}
+pub use Rattle.jsonb_codec.specs.WordBytes.{word_at}
 pub use Rattle.jsonb_codec.specs.declared.constants.TheConstants.{CONTAINER_TAG, EXTENSION_TAG}
 pub use Rattle.jsonb_codec.specs.declared.constants.TheConstants.{NUMBER_TAG}
 pub use Rattle.jsonb_codec.specs.declared.constants.TheConstants.{OBJECT_CONTAINER_TAG}
@@ -62,14 +63,14 @@ pub use Rattle.jsonb.specs.ItemValues.{extension_of_item, extension_source, numb
 pub use Rattle.jsonb.specs.ItemValues.{number_source}
 pub use Rattle.jsonb.specs.ItemView.{ItemView, extension, item_view, null, pair_view, result_view}
 pub use Rattle.jsonb.specs.Kind.{kind, kind_of_tree, kind_of_type, kind_rank, rank_order}
-pub use Rattle.jsonb.specs.Lines.{HasRoom, pair_text}
+pub use Rattle.jsonb.specs.Lines.{HasIndentRoom, pair_text}
 pub use Rattle.jsonb.specs.Lookup.{AnswersBy, IsItemFound, IsRefusal, LooksUp, LooksUpBytes}
-pub use Rattle.jsonb.specs.Lookup.{LooksUpIn, LooksUpInBytes, find, find_pair, header_count}
+pub use Rattle.jsonb.specs.Lookup.{LooksUpIn, LooksUpInBytes, find, find_pair, count_in_header}
 pub use Rattle.jsonb.specs.Lookup.{FindsEntry, FindsKey, found_view, value_view}
 pub use Rattle.jsonb.specs.Node.{HoldsNoScalar, IsContainer, array_of, container_of, first_key_of}
 pub use Rattle.jsonb.specs.Node.{item_at_index, items_of, members_of, node_tree, node_view}
 pub use Rattle.jsonb.specs.Node.{object_of, value_of_key, words_for_key}
-pub use Rattle.jsonb.specs.Owned.{bytes_of, owned_bytes}
+pub use Rattle.jsonb.specs.Owned.{result_bytes, owned_bytes}
 pub use Rattle.jsonb.specs.Parts.{HasParts, IsPlaceOf, part_length, part_start}
 pub use Rattle.jsonb.specs.Payloads.{extension_error}
 pub use Rattle.jsonb.specs.Raw.{raw_bytes}
@@ -91,7 +92,7 @@ pub use Rattle.jsonb.specs.Texts.{pretty_display_text}
 pub use Rattle.jsonb.specs.Values.{bytes_in}
 pub use Rattle.jsonb.specs.ItemAnswers.{kind_of_view, raw_in, text_in}
 pub use Rattle.jsonb.specs.Walk.{Advances, IsBounded, Walk, child_run, children_walk}
-pub use Rattle.jsonb.specs.Walk.{container_tag, count_under, item_read, items_in, key_of}
+pub use Rattle.jsonb.specs.Walk.{container_tag, count_under, item_read, items_read, key_of}
 pub use Rattle.jsonb.specs.Walk.{pair_read, pairs_walk}
 pub use Rattle.jsonb.specs.Within.{meaning_within}
 pub use Rattle.jsonb.specs.declared.item.JsonbItem.{JsonbItem}

@@ -54,8 +54,8 @@ impl<'a> Document<'a> {
     ghost use Rattle.std.specs.Prelude.{◌≡◌, ◌↔◌, ◌<◌, ◌≤◌, ◌+◌, ◌*◌, ◌^◌, length, nat_eq};
     ghost use Rattle.std.specs.Prelude.{None, Some, Err, IfOk, IfErr, IfSome, IsSome, IsTrue};
     ghost use Rattle.std.specs.Prelude.{MatchOption, option_map, string_bytes};
-    ghost use Rattle.jsonb_codec.specs.Contents.{Means};
-    ghost use Rattle.jsonb.specs.Lookup.{pairs_in};
+    ghost use Rattle.jsonb_codec.specs.Contents.{PartMeans};
+    ghost use Rattle.jsonb.specs.Lookup.{pair_count_in};
     ghost use Rattle.jsonb.specs.Words.{pointwise, compact, pretty, Tree, tree_of, canon};
     ghost use Rattle.jsonb.specs.Words.{Fits, IsCanonical, CONTAINER_TAG, depth, Doc};
     ghost use Rattle.jsonb.specs.Words.{MadeIfFit, AreStoredIn, IsFoundIn, node_view};
@@ -103,7 +103,7 @@ impl<'a> Document<'a> {
     // An array or object inside another one is a document itself.
     fn of_container(part: Part<'a>) -> Self
         requires { part.type_code ≡ CONTAINER_TAG }
-        ensures tree { (t : Tree) → Means part.entry t → document_tree result ≡ t }
+        ensures tree { (t : Tree) → PartMeans part.entry t → document_tree result ≡ t }
         ensures bytes { document_bytes result ≡ part.entry.payload.now }
     {
         Document {
@@ -140,7 +140,7 @@ impl<'a> Document<'a> {
     /// The single part that the document consists of.
     #[inline(always)]
     pub fn part(&self) -> Part<'a>
-        ensures means { Means result (document_tree self.now) }
+        ensures means { PartMeans result (document_tree self.now) }
         ensures len { length result.payload.now < 2 ^ 64 }
     {
         self.bytes.part()
@@ -277,7 +277,7 @@ impl<'a> Document<'a> {
         ensures value { option_map node_tree result
             ≡ value_of_key name.now (document_tree self.now) }
         ensures cost { reads.new ≡ reads.old + words_for_key name.now (document_tree self.now) }
-        ensures bound { reads.new ≤ reads.old + (2 * pairs_in (document_tree self.now) + 1) }
+        ensures bound { reads.new ≤ reads.old + (2 * pair_count_in (document_tree self.now) + 1) }
     {
         let part = self.find_counted(name, reads)?;
         Some(Node::of_part(part))
@@ -288,9 +288,9 @@ impl<'a> Document<'a> {
         requires { reads.old ≤ MAX_READS }
         ensures found { MatchOption result (value_of_key name.now (document_tree self.now) ≡ None)
             (λ part. (t : Tree)
-            × ((value_of_key name.now (document_tree self.now) ≡ Some t) × Means part t)) }
+            × ((value_of_key name.now (document_tree self.now) ≡ Some t) × PartMeans part t)) }
         ensures cost { reads.new ≡ reads.old + words_for_key name.now (document_tree self.now) }
-        ensures bound { reads.new ≤ reads.old + (2 * pairs_in (document_tree self.now) + 1) }
+        ensures bound { reads.new ≤ reads.old + (2 * pair_count_in (document_tree self.now) + 1) }
     {
         let bytes = self.as_bytes();
         let count = match count_pairs(bytes, reads) {
@@ -357,7 +357,7 @@ impl<'a> Document<'a> {
 
 impl<'a> Node<'a> {
     ghost use Rattle.std.specs.Prelude.{◌≡◌, ◌↔◌, Ok, Some, IfOk, IfErr, IsSome, string_bytes};
-    ghost use Rattle.jsonb_codec.specs.Contents.{Means};
+    ghost use Rattle.jsonb_codec.specs.Contents.{PartMeans};
     ghost use Rattle.jsonb.specs.Words.{Tree, compact, kind_of_tree, node_tree, HoldsNoScalar};
     ghost use Rattle.jsonb.specs.Words.{IsContainer, MadeIfFit, CanBeStored, container_of};
     ghost use Rattle.jsonb.specs.Words.{node_view, item_of, item_document, owned_bytes};
@@ -422,7 +422,7 @@ impl<'a> Node<'a> {
     #[inline(always)]
     #[tactic(auto, unfolding(crate::specs::Item::item_of))]
     pub fn of_part(part: Part<'a>) -> Node<'a>
-        ensures means { (t : Tree) → Means part.entry t → node_tree result ≡ t }
+        ensures means { (t : Tree) → PartMeans part.entry t → node_tree result ≡ t }
         ensures item { item_of part.entry.type_code part.entry.payload.now
             ≡ Ok (node_view result) }
         ensures container { HoldsNoScalar result }

@@ -106,7 +106,7 @@ pub fn count_under(bytes: &[u8], tag: u32) -> Result<Option<usize>, Error>
 
 /// The offset at which the payloads of `count` entries end. Their words begin at `word`, and their
 /// payloads at `start`. `InvalidEOF` if a word is cut off. The words must end at 2^34 at most, the
-/// payloads at 2^63 if each has 2^32 bytes, and if there are none, `word` must be inside the bytes.
+/// payloads at 2^63 if each has 2^32 bytes; if `count` is 0, `word` must be inside the bytes.
 #[inline(always)]
 pub fn payloads_end(bytes: &[u8], word: usize, start: usize, count: usize) -> Result<usize, Error>
     requires words { word + 4 * count ≤ 2 ^ 34 }

@@ -24,7 +24,7 @@ impl<'a> ExtensionItem<'a> {
     ghost use Rattle.jsonb.specs.Words.{extension_error, extension, IsHeld, payload_bytes};
     ghost use Rattle.jsonb.specs.Words.{extension_bytes, Tree, EXTENSION_TAG, extension_item};
     ghost use Rattle.jsonb_value.specs.Tree as trees;
-    ghost use Rattle.jsonb_codec.specs.Contents.{Means};
+    ghost use Rattle.jsonb_codec.specs.Contents.{PartMeans};
     ghost use Rattle.std.specs.Prelude.{Ok};
 
     /// The extension value of these payload bytes, which are kept. `InvalidJsonbNumber` if the
@@ -47,7 +47,7 @@ impl<'a> ExtensionItem<'a> {
     #[inline(always)]
     pub(crate) fn of_part(part: Part<'a>) -> ExtensionItem<'a>
         requires { part.type_code ≡ EXTENSION_TAG }
-        ensures means { (t : Tree) → Means part.entry t
+        ensures means { (t : Tree) → PartMeans part.entry t
             → t ≡ trees.extension (extension_of_item result) }
         ensures item { extension_item part.entry.payload.now
             ≡ Ok (extension (extension_source result) (extension_of_item result)) }

@@ -1,11 +1,11 @@
 //! Iterators over the children of an array or object, read from the bytes one by one.
 
 ghost use Rattle.std.specs.Prelude.{◌≡◌, ◌<◌, ◌≤◌, ◌^◌, ℕ, List, length, IfOk, IfErr, IfSome};
-ghost use Rattle.jsonb.specs.Walk.{pairs_in};
+ghost use Rattle.jsonb.specs.Walk.{pair_items};
 ghost use Rattle.jsonb.specs.Words.{YieldsFirstBy, Advances, item_count, raw_bytes, ItemView};
 ghost use Rattle.jsonb.specs.Words.{result_view, pair_view, IsEntryIn, entries_of, entry_read};
 ghost use Rattle.jsonb.specs.Words.{entry_there, Walk, item_read};
-ghost use Rattle.jsonb.specs.Words.{key_of, pair_read, items_in, container_tag, child_run};
+ghost use Rattle.jsonb.specs.Words.{key_of, pair_read, items_read, container_tag, child_run};
 ghost use Rattle.jsonb.specs.Words.{children_walk, pairs_walk, IsBounded, Tree, Doc, WalksChildren};
 ghost use Rattle.jsonb.specs.Words.{WalksEntries, WalksPairs, WalksMembers};
 
@@ -134,7 +134,7 @@ pub struct ItemIterator<'a, C: Children> {
 impl<'a, C: Children> Model for ItemIterator<'a, C> {
     ghost Value = { Walk ItemView };
 
-    ghost view = { λ s. record { count = s.count; rest = items_in (entries_of s.entries) } };
+    ghost view = { λ s. record { count = s.count; rest = items_read (entries_of s.entries) } };
 }
 
 impl<'a, C: Children> ItemIterator<'a, C> {
@@ -254,7 +254,7 @@ impl<'a> Model for ObjectIterator<'a> {
 
     ghost view = { λ s. record {
       count = s.pair_count;
-      rest = pairs_in (entries_of s.keys) (entries_of s.values);
+      rest = pair_items (entries_of s.keys) (entries_of s.values);
     } };
 
     ghost invariant = { λ s. s.keys.bytes ≡ s.values.bytes };

@@ -7,7 +7,8 @@ ghost use Rattle.std.specs.Iterator.{YieldsFirstBy, MakesProgress, item_count};
 ghost use Rattle.jsonb_value.specs.declared.error.Error.{Error};
 ghost use Rattle.jsonb.specs.Entries.{entries_of};
 ghost use Rattle.jsonb.specs.Item.{Entry};
-ghost use Rattle.jsonb.specs.EntryTrees.{AreParts, AreMembers, rest_trees, rest_pairs, part_tree};
+ghost use Rattle.jsonb.specs.EntryTrees.{AreParts, AreMemberEntries, rest_trees, rest_pairs};
+ghost use Rattle.jsonb.specs.EntryTrees.{part_tree};
 ghost use Rattle.jsonb.specs.EntryTrees.{member_part_tree, entry_of_part};
 ghost use Rattle.jsonb.specs.StoredEntries.{AreEntriesOf, find_entry};
 ghost use Rattle.jsonb.specs.Node.{node_tree, member_tree, HoldsNoScalar};
@@ -101,13 +102,13 @@ impl<'a> Model for Members<'a> {
 
     ghost view = { λ s. (entries_of s.keys, entries_of s.values) };
 
-    ghost invariant = { λ s. AreMembers (entries_of s.keys, entries_of s.values) };
+    ghost invariant = { λ s. AreMemberEntries (entries_of s.keys, entries_of s.values) };
 }
 
 impl<'a> Members<'a> {
     /// The members with these entries of keys and values.
     pub(crate) fn new(keys: Cursor<'a>, values: Cursor<'a>) -> Self
-        requires { AreMembers (entries_of keys, entries_of values) }
+        requires { AreMemberEntries (entries_of keys, entries_of values) }
         ensures { result ≡ (entries_of keys.entry, entries_of values.entry) }
     {
         Members { keys, values }

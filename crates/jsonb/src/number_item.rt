@@ -22,7 +22,7 @@ impl<'a> NumberItem<'a> {
     ghost use Rattle.jsonb.specs.Words.{Number, NumCode, number_source, number_of_item, IsHeld};
     ghost use Rattle.jsonb.specs.Words.{payload_bytes, number_bytes, Tree, NUMBER_TAG, number_item};
     ghost use Rattle.jsonb_value.specs.Tree as trees;
-    ghost use Rattle.jsonb_codec.specs.Contents.{Means};
+    ghost use Rattle.jsonb_codec.specs.Contents.{PartMeans};
     ghost use Rattle.std.specs.Prelude.{Ok};
 
     /// The number of these payload bytes, which are kept. `InvalidJsonbNumber` if they are not the
@@ -44,7 +44,7 @@ impl<'a> NumberItem<'a> {
     #[inline(always)]
     pub(crate) fn of_part(part: Part<'a>) -> NumberItem<'a>
         requires { part.type_code ≡ NUMBER_TAG }
-        ensures means { (t : Tree) → Means part.entry t
+        ensures means { (t : Tree) → PartMeans part.entry t
             → t ≡ trees.number (number_of_item result) }
         ensures item { number_item part.entry.payload.now
             ≡ Ok (number (number_source result) (number_of_item result)) }

@@ -1,7 +1,7 @@
 //! The order of byte strings and of items by their meaning. No comparison allocates.
 
 ghost use Rattle.std.specs.Prelude.{◌≡◌, ℕ, List, Some, Ok, IfSome, MatchOption};
-ghost use Rattle.jsonb.specs.Code.{Means};
+ghost use Rattle.jsonb.specs.Code.{ItemMeans};
 ghost use Rattle.jsonb.specs.Words.{IsTotalOrder, on, document, other_bytes, meaning_cmp, norm};
 ghost use Rattle.jsonb.specs.Words.{Tree, tree_cmp, Doc, IsDocument, kind, rank_order, meaning_of};
 ghost use Rattle.jsonb.specs.Words.{view_meaning, item_meaning, ItemView, item_view};
@@ -10,29 +10,29 @@ ghost use Rattle.jsonb.specs.Words.{as_partial_cmp, eq_by_cmp};
 ghost use Rattle.jsonb.specs.KeyOrder.{key_cmp, key_partial_cmp, key_eq};
 
 mod document;
-mod documents;
 mod item;
 mod node;
 mod owned;
 mod raw;
+mod walk;
 
 use crate::document::{Document, Node};
 use crate::item::{JsonbItem, text_of};
 use crate::item_type::JsonbItemType;
 use crate::sort_key::SortKey;
-use documents::cmp_nodes;
 use jsonb_codec::document_text;
 use std::cmp::Ordering;
+use walk::cmp_nodes;
 
 // Bytes of at most this length are compared by their meaning at once: checking takes few steps.
-const SHORT: usize = 128;
+const QUICK_TO_CHECK: usize = 128;
 
 /// The meaning of bytes and of items: a document means its tree, other bytes mean themselves, and
 /// an item means the tree of its value or, if it holds bytes, their meaning.
 pub fn meaning_laws()
     ensures document { (b : List ℕ) (t : Tree) → Doc b t → meaning_of b ≡ document t }
     ensures other { (b : List ℕ) → (IsDocument b → ⊥) → meaning_of b ≡ other_bytes b }
-    ensures item { (x : ItemView) (t : Tree) → Means x t → view_meaning x ≡ document t }
+    ensures item { (x : ItemView) (t : Tree) → ItemMeans x t → view_meaning x ≡ document t }
 {}
 
 /// The order of byte strings by meaning is total. Two documents compare as their trees, so
@@ -45,7 +45,7 @@ pub fn byte_order_laws()
         → meaning_cmp (meaning_of l) (meaning_of r) ≡ tree_cmp t u }
     ensures one_tree { (l r : List ℕ) (t : Tree) → Doc l t → Doc r t
         → meaning_cmp (meaning_of l) (meaning_of r) ≡ Ordering.Equal }
-    ensures items { (x y : ItemView) (t : Tree) → Means x t → Means y t
+    ensures items { (x y : ItemView) (t : Tree) → ItemMeans x t → ItemMeans y t
         → meaning_cmp (view_meaning x) (view_meaning y) ≡ Ordering.Equal }
     ensures kinds { (l r : List ℕ) (k m : JsonbItemType) (o : Ordering) → IsDocument l
         → IsDocument r → kind l ≡ Ok k → kind r ≡ Ok m → rank_order k m ≡ Some o
@@ -74,7 +74,7 @@ pub fn cmp_bytes(left: &[u8], right: &[u8]) -> Ordering
         return left.cmp(right);
     }
     // Equal bytes mean the same, whatever they are, and a check of both sides costs more than this.
-    if left.len() > SHORT && left == right {
+    if left.len() > QUICK_TO_CHECK && left == right {
         return Ordering::Equal;
     }
     SortKey::new(left).cmp(&SortKey::new(right))

@@ -25,7 +25,8 @@ impl OwnedJsonb {
     ghost use Rattle.std.specs.Prelude.{◌↔◌, IfSome, IsSome, IsTrue};
     ghost use Rattle.jsonb.specs.Words.{IsParsed, IsParsedUnder, IsParsedWithExponents, ParsesTo};
     ghost use Rattle.jsonb.specs.Words.{ParsesUnder, ParsesWithin, ParsesUnderWithin};
-    ghost use Rattle.jsonb.specs.Words.{ParsesWithExponentsTo, ParsesWithExponentsWithin, bytes_of};
+    ghost use Rattle.jsonb.specs.Words.{ParsesWithExponentsTo, ParsesWithExponentsWithin};
+    ghost use Rattle.jsonb.specs.Words.{result_bytes};
     ghost use Rattle.jsonb.specs.Words.{IsDocumentWithin, IsDocument, raw_bytes, item_document};
     ghost use Rattle.jsonb.specs.Words.{CanBeStored, document_bytes, item_view};
 
@@ -126,7 +127,7 @@ impl OwnedJsonb {
     /// a payload, a key or a count of its value exceeds its limit, `OutOfMemory` if an allocation
     /// fails. No stack is taken for the depth of the text.
     pub fn parse(alloc: Global, text: &str) -> Result<OwnedJsonb, Error>
-        ensures value { ParsesTo text.now (bytes_of result) }
+        ensures value { ParsesTo text.now (result_bytes result) }
         ensures parsed { IfOk result (λ owned. IsParsed text.now (owned_bytes owned)) }
     {
         OwnedJsonb::parse_under(alloc, text, Exponents::Forbidden)
@@ -138,7 +139,7 @@ impl OwnedJsonb {
     /// `parse_value_with_exponents`, among them numbers past 128 bits or with more than 255 digits
     /// after the point; the other errors are those of `parse`.
     pub fn parse_with_exponents(alloc: Global, text: &str) -> Result<OwnedJsonb, Error>
-        ensures value { ParsesWithExponentsTo text.now (bytes_of result) }
+        ensures value { ParsesWithExponentsTo text.now (result_bytes result) }
         ensures parsed { IfOk result
             (λ owned. IsParsedWithExponents text.now (owned_bytes owned)) }
     {
@@ -147,7 +148,7 @@ impl OwnedJsonb {
 
     // The document of a text, with exponents if they are allowed.
     fn parse_under(alloc: Global, text: &str, exponents: Exponents) -> Result<OwnedJsonb, Error>
-        ensures value { ParsesUnder exponents text.now (bytes_of result) }
+        ensures value { ParsesUnder exponents text.now (result_bytes result) }
         ensures parsed { IfOk result
             (λ owned. IsParsedUnder exponents text.now (owned_bytes owned)) }
     {
@@ -163,7 +164,7 @@ impl OwnedJsonb {
     /// count too (`json_laws`). Every other text has the result of `parse`: its document, which is
     /// within the depth, or `Refused` with the error of `parse`.
     pub fn parse_within(alloc: Global, text: &str, depth: usize) -> Result<OwnedJsonb, ParseError>
-        ensures value { ParsesWithin depth text.now (bytes_of result) }
+        ensures value { ParsesWithin depth text.now (result_bytes result) }
         ensures parsed { IfOk result (λ owned. IsParsed text.now (owned_bytes owned)) }
         ensures within { IfOk result (λ owned. IsDocumentWithin depth (owned_bytes owned)) }
     {
@@ -178,7 +179,7 @@ impl OwnedJsonb {
         text: &str,
         depth: usize,
     ) -> Result<OwnedJsonb, ParseError>
-        ensures value { ParsesWithExponentsWithin depth text.now (bytes_of result) }
+        ensures value { ParsesWithExponentsWithin depth text.now (result_bytes result) }
         ensures parsed { IfOk result
             (λ owned. IsParsedWithExponents text.now (owned_bytes owned)) }
         ensures within { IfOk result (λ owned. IsDocumentWithin depth (owned_bytes owned)) }
@@ -193,7 +194,7 @@ impl OwnedJsonb {
         depth: usize,
         exponents: Exponents,
     ) -> Result<OwnedJsonb, ParseError>
-        ensures value { ParsesUnderWithin exponents depth text.now (bytes_of result) }
+        ensures value { ParsesUnderWithin exponents depth text.now (result_bytes result) }
         ensures parsed { IfOk result
             (λ owned. IsParsedUnder exponents text.now (owned_bytes owned)) }
         ensures within { IfOk result (λ owned. IsDocumentWithin depth (owned_bytes owned)) }

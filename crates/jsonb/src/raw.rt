@@ -29,9 +29,9 @@ impl<'a> RawJsonb<'a> {
     ghost use Rattle.jsonb.specs.Words.{pretty, tree_cmp, tree_of, canon, Fits, IsCanonical, Doc};
     ghost use Rattle.jsonb.specs.Words.{IsDocumentWithin, IsDocument, IsTreeFault, MeansAgain};
     ghost use Rattle.jsonb.specs.Words.{document_bytes, document_tree, kind, kind_of_tree, LooksUp};
-    ghost use Rattle.jsonb.specs.Words.{header_count, IsRefusal, LooksUpIn, LooksUpBytes, find};
+    ghost use Rattle.jsonb.specs.Words.{count_in_header, IsRefusal, LooksUpIn, LooksUpBytes, find};
     ghost use Rattle.jsonb.specs.Words.{LooksUpInBytes, value_view, AnswersBy, IsItemFound};
-    ghost use Rattle.jsonb.specs.Words.{found_view, IsPlaceOf, RewritesTo, bytes_of};
+    ghost use Rattle.jsonb.specs.Words.{found_view, IsPlaceOf, RewritesTo, result_bytes};
     ghost use Rattle.jsonb.specs.Words.{raw_meaning, owned_bytes, raw_bytes, item_view, IsFoundIn};
     ghost use Rattle.jsonb.specs.Words.{other_text, display_text, pretty_display_text};
 
@@ -166,7 +166,7 @@ impl<'a> RawJsonb<'a> {
         requires callable { (a b : _) → a.now ≡ name.now → length b.now ≡ length name.now
             → F.pre eq_func a b }
         ensures bound { (reads.old ≤ reads.new)
-            × (reads.new ≤ reads.old + (2 * header_count (raw_bytes self.now) + 1)) }
+            × (reads.new ≤ reads.old + (2 * count_in_header (raw_bytes self.now) + 1)) }
         ensures refused { IfErr result IsRefusal }
 
         // On any bytes: the result or the error, given the results of the closure.
@@ -199,7 +199,7 @@ impl<'a> RawJsonb<'a> {
         requires callable { (a b : _) → a.now ≡ name.now → length b.now ≡ length name.now
             → F.pre eq_func a b }
         ensures bound { (reads.old ≤ reads.new)
-            × (reads.new ≤ reads.old + (2 * header_count (raw_bytes self.now) + 1)) }
+            × (reads.new ≤ reads.old + (2 * count_in_header (raw_bytes self.now) + 1)) }
         ensures refused { IfErr result IsRefusal }
 
         // On any bytes: the result or the error, given the results of the closure.
@@ -208,7 +208,7 @@ impl<'a> RawJsonb<'a> {
 
         // The entry is the one whose word was read last.
         ensures place { IfOk result (λ o. IfSome o (λ found.
-            IsPlaceOf (raw_bytes self.now) (header_count (raw_bytes self.now))
+            IsPlaceOf (raw_bytes self.now) (count_in_header (raw_bytes self.now))
             (reads.new - reads.old - 2) found.entry)) }
     {
         let bytes = self.as_bytes();
@@ -335,7 +335,7 @@ impl<'a> RawJsonb<'a> {
     /// fails. Everything is measured first and written with a single growth of the buffer; no tree
     /// is built.
     pub fn to_canonical(&self, alloc: Global) -> Result<OwnedJsonb, Error>
-        ensures value { RewritesTo (raw_bytes self.now) (bytes_of result) }
+        ensures value { RewritesTo (raw_bytes self.now) (result_bytes result) }
 
         // How the result relates to its source; its own canonical form is itself.
         ensures same { IfOk result (λ owned. (owned_bytes owned ≡ raw_bytes self.now)

@@ -2,12 +2,13 @@
 
 ghost use Rattle.std.specs.Prelude.{◌≡◌, ◌++◌, ◌^◌, ◌<◌, ℕ, string_bytes, IsOk, IfOk, IfErr, OnOk};
 ghost use Rattle.jsonb.specs.Words.{WritesStyledOnOk, formatter_writer, Tree, norm, IsTree, pretty};
-ghost use Rattle.jsonb.specs.Words.{extension_of, compact, inside, line_start, colon, laid_out};
+ghost use Rattle.jsonb.specs.Words.{extension_of, compact, inside, line_start, colon_text};
+ghost use Rattle.jsonb.specs.Words.{laid_out};
 ghost use Rattle.jsonb.specs.Words.{quoted_text, extension_text, depth, Doc, document_tree};
 ghost use Rattle.jsonb.specs.Words.{part_tree, rest_trees, rest_pairs, node_tree, array_of};
 ghost use Rattle.jsonb.specs.Words.{object_of, IsContainer, HoldsNoScalar, layout_of, lossy_text};
 ghost use Rattle.jsonb.specs.Words.{display_text, pretty_display_text, pair_text};
-ghost use Rattle.jsonb.specs.Words.{HasRoom};
+ghost use Rattle.jsonb.specs.Words.{HasIndentRoom};
 
 use crate::document::{Contents, Document, Node};
 use crate::nodes::{Items, Members};
@@ -48,7 +49,7 @@ pub enum Layout {
 impl Layout {
     // The layout of a container's content.
     fn inside(self) -> Layout
-        requires { HasRoom (layout_of self) 1 }
+        requires { HasIndentRoom (layout_of self) 1 }
         ensures { layout_of result ≡ inside (layout_of self) }
     {
         match self {
@@ -76,7 +77,8 @@ impl Layout {
     // which the compiler copies without a call.
     #[inline(always)]
     fn write_colon<W: fmt::Write>(self, f: &mut fmt::Formatter<W>) -> fmt::Result
-        ensures { WritesStyledOnOk W.write_str_gives f.old result (colon (layout_of self)) f.new }
+        ensures { WritesStyledOnOk W.write_str_gives f.old result
+            (colon_text (layout_of self)) f.new }
     {
         match self {
             Layout::InOneLine => f.write_str(":"),
@@ -121,7 +123,7 @@ fn write_lossy<W: fmt::Write>(bytes: &[u8], f: &mut fmt::Formatter<W>) -> fmt::R
 
 /// The text of a document in this layout. `OutOfMemory` is the only error.
 pub fn document_text(alloc: Global, document: Document, layout: Layout) -> Result<String, Error>
-    requires room { (n : ℕ) → n < 2 ^ 64 → HasRoom (layout_of layout) n }
+    requires room { (n : ℕ) → n < 2 ^ 64 → HasIndentRoom (layout_of layout) n }
     ensures text { IfOk result (λ text. string_bytes text
         ≡ laid_out (layout_of layout) (document_tree document.entry)) }
     ensures memory { IfErr result (λ e. e ≡ Error.OutOfMemory) }
@@ -139,7 +141,7 @@ pub fn write_document<W: fmt::Write>(
     layout: Layout,
     f: &mut fmt::Formatter<W>,
 ) -> fmt::Result
-    requires room { (n : ℕ) → n < 2 ^ 64 → HasRoom (layout_of layout) n }
+    requires room { (n : ℕ) → n < 2 ^ 64 → HasIndentRoom (layout_of layout) n }
     ensures { WritesStyledOnOk W.write_str_gives f.old result
         (laid_out (layout_of layout) (document_tree document.entry)) f.new }
 {
@@ -175,7 +177,7 @@ fn write_node<W: fmt::Write>(
     f: &mut fmt::Formatter<W>,
 ) -> fmt::Result
     requires container { HoldsNoScalar node }
-    requires room { HasRoom (layout_of layout) (depth (node_tree node)) }
+    requires room { HasIndentRoom (layout_of layout) (depth (node_tree node)) }
     ensures { WritesStyledOnOk W.write_str_gives f.old result
         (laid_out (layout_of layout) (node_tree node.entry)) f.new }
 {
@@ -197,7 +199,7 @@ fn write_container<W: fmt::Write>(
     f: &mut fmt::Formatter<W>,
 ) -> fmt::Result
     requires container { IsContainer (document_tree document) }
-    requires room { HasRoom (layout_of layout) (depth (document_tree document)) }
+    requires room { HasIndentRoom (layout_of layout) (depth (document_tree document)) }
     ensures { WritesStyledOnOk W.write_str_gives f.old result
         (laid_out (layout_of layout) (document_tree document.entry)) f.new }
 {
@@ -214,7 +216,7 @@ fn write_items<W: fmt::Write>(
     layout: Layout,
     f: &mut fmt::Formatter<W>,
 ) -> fmt::Result
-    requires room { HasRoom (layout_of layout) (depth (array_of (rest_trees items))) }
+    requires room { HasIndentRoom (layout_of layout) (depth (array_of (rest_trees items))) }
     ensures { WritesStyledOnOk W.write_str_gives f.old result
         (laid_out (layout_of layout) (array_of (rest_trees items.entry))) f.new }
 {
@@ -239,7 +241,7 @@ fn write_line<W: fmt::Write>(
     layout: Layout,
     f: &mut fmt::Formatter<W>,
 ) -> fmt::Result
-    requires room { HasRoom (layout_of layout) (depth (part_tree item)) }
+    requires room { HasIndentRoom (layout_of layout) (depth (part_tree item)) }
     ensures { WritesStyledOnOk W.write_str_gives f.old result
         (line_start (layout_of layout)
         ++ laid_out (layout_of layout) (part_tree item.entry)) f.new }
@@ -255,7 +257,7 @@ fn write_members<W: fmt::Write>(
     layout: Layout,
     f: &mut fmt::Formatter<W>,
 ) -> fmt::Result
-    requires room { HasRoom (layout_of layout) (depth (object_of (rest_pairs members))) }
+    requires room { HasIndentRoom (layout_of layout) (depth (object_of (rest_pairs members))) }
     ensures { WritesStyledOnOk W.write_str_gives f.old result
         (laid_out (layout_of layout) (object_of (rest_pairs members.entry))) f.new }
 {
@@ -281,7 +283,7 @@ fn write_member<W: fmt::Write>(
     layout: Layout,
     f: &mut fmt::Formatter<W>,
 ) -> fmt::Result
-    requires room { HasRoom (layout_of layout) (depth (part_tree value)) }
+    requires room { HasIndentRoom (layout_of layout) (depth (part_tree value)) }
     ensures { WritesStyledOnOk W.write_str_gives f.old result (line_start (layout_of layout)
         ++ pair_text (layout_of layout) key.now (part_tree value.entry)) f.new }
 {

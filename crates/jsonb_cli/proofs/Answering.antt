@@ -44,7 +44,7 @@ said_of e = error_line (name_of e)
 
 -- A call fails with one error, which the answer reports, or for lack of memory.
 pub failed : {IsAnswered : Type 0} {e wrong : Error} → (e ≡ wrong) ⊎ (e ≡ OutOfMemory)
-    → (e ≡ wrong → IsAnswered) → IsAnswered ⊎ session.IsRefused (said_of e)
+    → (e ≡ wrong → IsAnswered) → IsAnswered ⊎ session.IsNoMemoryReply (said_of e)
 failed (inl is) answered = inl (answered is)
 failed (inr is) answered = inr (ap said_of is)
 
@@ -66,7 +66,7 @@ canon_refused word bytes e hex never = absurd never
 -- an outcome that is this line, or lack of memory
 pub come_out : {IsAnswered : Type 0} {line : List ℕ} (r : Result Answer Refusal)
     → OnOk r (outcome_line r ≡ line) → IfErr r (λ refusal. refusal ≡ Call OutOfMemory)
-    → (outcome_line r ≡ line → IsAnswered) → IsAnswered ⊎ session.IsRefused (outcome_line r)
+    → (outcome_line r ≡ line → IsAnswered) → IsAnswered ⊎ session.IsNoMemoryReply (outcome_line r)
 come_out (Ok answer) ok refused answered = inl (answered ok)
 come_out (Err refusal) ok refused answered = inr (rw refused)
 

@@ -30,7 +30,7 @@ use Rattle.jsonb.specs.DocumentWalk.{IsItemOf}
 use Rattle.jsonb.specs.declared.item_type.JsonbItemType.{JsonbItemType}
 use Rattle.jsonb.specs.declared.item_type.JsonbItemType.TheVariants.{Null, Boolean, Number, String}
 use Rattle.jsonb.specs.declared.item_type.JsonbItemType.TheVariants.{Extension, Array, Object}
-use Rattle.answer_lines.specs.Session.{IsRefused}
+use Rattle.answer_lines.specs.Session.{IsNoMemoryReply}
 use Rattle.jsonb_cli.specs.AnswerLine.{ok_line, error_line}
 use Rattle.jsonb_cli.specs.Each.{Each}
 use Rattle.jsonb_cli.specs.Commands.{Form, enc, dec, pretty, item_type, get, cmp, arr, canon}
@@ -177,7 +177,7 @@ pub data IsAnswer (line answer : List ℕ) : Type 0 where
 
 -- The reply is an answer, or reports that there was not enough memory.
 abbrev pub IsAnswerOrRefusal : {A : Type 0} → (A → List ℕ → Type 0) → A → List ℕ → Type 0
-IsAnswerOrRefusal Answers asked reply = Answers asked reply ⊎ IsRefused reply
+IsAnswerOrRefusal Answers asked reply = Answers asked reply ⊎ IsNoMemoryReply reply
 
 -- The possible replies to a line.
 abbrev pub IsLineReply : List ℕ → List ℕ → Type 0

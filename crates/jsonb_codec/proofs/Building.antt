@@ -14,7 +14,7 @@ use Rattle.jsonb_value.specs.declared.value.Value.{Value, fold-Value}
 use Rattle.jsonb_value.specs.declared.error.Error.{Error}
 use Rattle.jsonb_value.specs.Tree.{Tree, Trees, no_trees, tree, Pairs, no_pairs, pair, Ascends}
 use Rattle.jsonb_value.specs.Tree.{Ascend}
-use Rattle.jsonb_value.specs.Value.{trees_of, pairs_of, tree_of, tree_step, pairs_view}
+use Rattle.jsonb_value.specs.Value.{trees_of, string_pairs, tree_of, tree_step, pairs_view}
 use Rattle.jsonb_codec.specs.Doc.{Doc, IsDocument}
 use Rattle.jsonb_codec.specs.Parts.{IsPayloadOf}
 use Rattle.jsonb_codec.proofs.Unique.{same_tree}
@@ -38,7 +38,7 @@ abbrev pub pairs_and : List (String Global × Tree) → Pairs → Pairs
 pairs_and [] qs = qs
 pairs_and (p ∷ ps) qs = pair (string_bytes p.0) p.1 (pairs_and ps qs)
 
-pub pairs_and-none : (ps : List (String Global × Tree)) → pairs_and ps no_pairs ≡ pairs_of ps
+pub pairs_and-none : (ps : List (String Global × Tree)) → pairs_and ps no_pairs ≡ string_pairs ps
 pairs_and-none [] = refl
 pairs_and-none (p ∷ ps) = ap (pair (string_bytes p.0) p.1) (pairs_and-none ps)
 
@@ -73,7 +73,7 @@ pub meant : (ty : ℕ) (p : List ℕ) (t u : Tree) → IsPayloadOf ty p t → Is
 meant ty p t u h k = same_tree t u (h.0 ∙ sym k.0) p h.1 k.1
 
 pairs_of-map : (es : List (String Global × Value))
-    → pairs_of
+    → string_pairs
     (map ((Former.pair (Former.const (String Global)) Former.this).map Value Tree
     (fold-Value Tree tree_step)) es) ≡ pairs_view es
 pairs_of-map [] = refl

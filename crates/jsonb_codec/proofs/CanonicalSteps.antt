@@ -10,7 +10,7 @@ use Rattle.jsonb_value.specs.ExtCode.{ExtCode, extension_payload}
 use Rattle.jsonb_value.specs.Tree.{Extension, Tree, Trees, number, extension, no_trees}
 use Rattle.jsonb_value.proofs.BigEndian.{AreBytes}
 use Rattle.jsonb_value.proofs.Output.{number_payload-NumCode, extension_payload-ExtCode}
-use Rattle.jsonb_codec.specs.Word.{word}
+use Rattle.jsonb_codec.specs.WordBytes.{word}
 use Rattle.jsonb_codec.specs.Doc.{type_of, Doc, IsDocument, Children}
 use Rattle.jsonb_codec.specs.Parts.{IsPayloadOf}
 use Rattle.jsonb_codec.specs.Canon.{payload_of, document_of}

@@ -4,7 +4,7 @@ use Rattle.std.proofs.Common.{◌≡◌, ◌⊎◌, ℕ, ◌+◌, ◌*◌, ◌^�
 use Rattle.std.proofs.Common.{ap, subst, ◌∙◌, arith, length-append, append_assoc}
 use Rattle.jsonb_value.specs.Tree.{Tree, array, object, Trees, no_trees, Pairs, no_pairs, pair}
 use Rattle.jsonb_value.specs.Tree.{count, pair_count}
-use Rattle.jsonb_codec.specs.Word.{word}
+use Rattle.jsonb_codec.specs.WordBytes.{word}
 use Rattle.jsonb_codec.specs.Doc.{type_of, PairsBody, Keys, Values, Children, Payload}
 use Rattle.jsonb_codec.proofs.Words.{length-word-append}
 use Rattle.jsonb_codec.proofs.Entries.{keys_and, values_of, Values-children}

@@ -16,7 +16,7 @@ use Rattle.std.specs.declared.cmp.Ordering.TheVariants.{Less}
 use Rattle.jsonb_value.specs.Tree.{text, no_trees, tree, no_pairs, pair}
 use Rattle.jsonb_value.proofs.ExtCodes.{front_of}
 use Rattle.jsonb_value.proofs.PayloadDecision.{Decided, decided_by, decide_number, decide_extension}
-use Rattle.jsonb_codec.specs.Word.{word}
+use Rattle.jsonb_codec.specs.WordBytes.{word}
 use Rattle.jsonb_codec.specs.Doc.{One, IsDocument}
 use Rattle.jsonb_codec.specs.Depth.{IsDocumentWithin}
 use Rattle.jsonb_codec.specs.Parts.{IsSomePayload, AreSomeChildren, IsSomeObject, HasPayload}

@@ -10,7 +10,7 @@ use Rattle.jsonb_codec.specs.Canon as tree
 use Rattle.jsonb_codec.specs.Canon.{canon}
 use Rattle.jsonb_codec.specs.Doc.{Doc}
 use Rattle.jsonb_codec.specs.Made.{MadeIfFit}
-use Rattle.jsonb_codec.specs.Shape.{Shape, document, Fits}
+use Rattle.jsonb_codec.specs.Shape.{Shape, document, ShapeFits}
 use Rattle.jsonb_codec.proofs.CanonLaws.{Doc-canon}
 use Rattle.jsonb_codec.proofs.MadeLaws.{made_if_fit}
 use Rattle.std.proofs.lemmas.Result.{on_ok_weaker}
@@ -18,20 +18,20 @@ use Rattle.jsonb_codec.specs.Canon.{shape_of}
 
 module _ (LevelIs : Shape → Type 0) (t : Tree) (is : LevelIs (shape_of t)) where
   pub measured : (r : Result ℕ Error)
-      → IfOk r (λ n. (s : Shape) → LevelIs s → Fits s × (n ≡ length (document s)))
+      → IfOk r (λ n. (s : Shape) → LevelIs s → ShapeFits s × (n ≡ length (document s)))
       → IfOk r (λ n. n ≡ length (canon t))
   measured (Ok n) ok = (ok (shape_of t) is).1
   measured (Err e) ok = tt
 
   pub measured_fits : (r : Result ℕ Error)
-      → IfOk r (λ n. (s : Shape) → LevelIs s → Fits s × (n ≡ length (document s)))
-      → OnErr r ((s : Shape) → LevelIs s → Fits s → ⊥) → IsOk r ↔ tree.Fits t
+      → IfOk r (λ n. (s : Shape) → LevelIs s → ShapeFits s × (n ≡ length (document s)))
+      → OnErr r ((s : Shape) → LevelIs s → ShapeFits s → ⊥) → IsOk r ↔ tree.Fits t
   measured_fits (Ok n) ok err = (λ _. (ok (shape_of t) is).0, λ _. refl)
   measured_fits (Err e) ok err =
       (search rules, λ fits. absurd (err (shape_of t) is fits))
 
   pub appended : {A : Type 0} (r : Result A Error) (new old : List ℕ)
-      → OnOk r ((s : Shape) → LevelIs s → Fits s × (new ≡ old ++ document s))
+      → OnOk r ((s : Shape) → LevelIs s → ShapeFits s × (new ≡ old ++ document s))
       → OnOk r (tree.Fits t × (new ≡ old ++ canon t))
   appended (Ok x) new old ok =
       let (fits, is_new) = ok (shape_of t) is in
@@ -40,16 +40,16 @@ module _ (LevelIs : Shape → Type 0) (t : Tree) (is : LevelIs (shape_of t)) whe
 
   -- What is appended means the tree's normal form.
   pub meant : {A : Type 0} (r : Result A Error) (new old : List ℕ)
-      → OnOk r ((s : Shape) → LevelIs s → Fits s × (new ≡ old ++ document s))
+      → OnOk r ((s : Shape) → LevelIs s → ShapeFits s × (new ≡ old ++ document s))
       → OnOk r (IsTree t) → OnOk r (Doc (canon t) (norm t))
   meant (Ok x) new old ok held = Doc-canon t held (ok (shape_of t) is).0
   meant (Err e) new old ok held = tt
 
   -- If the tree does not fit, nothing is appended or allocated.
   pub limits : {A : Type 0} (r : Result A Error) (new old : List ℕ)
-      → OnOk r ((s : Shape) → LevelIs s → Fits s × (new ≡ old ++ document s))
-      → (r ≡ Err InvalidJsonb) ↔ ((s : Shape) → LevelIs s → Fits s → ⊥)
-      → (r ≡ Err OutOfMemory → (s : Shape) → LevelIs s → Fits s)
+      → OnOk r ((s : Shape) → LevelIs s → ShapeFits s × (new ≡ old ++ document s))
+      → (r ≡ Err InvalidJsonb) ↔ ((s : Shape) → LevelIs s → ShapeFits s → ⊥)
+      → (r ≡ Err OutOfMemory → (s : Shape) → LevelIs s → ShapeFits s)
       → IfErr r (λ e. (e ≡ InvalidJsonb) ⊎ (e ≡ OutOfMemory)) → MadeIfFit (tree.Fits t) r
   limits r new old ok past memory only =
       made_if_fit r (on_ok_weaker r (λ known. (known (shape_of t) is).0) ok)

@@ -3,7 +3,7 @@ use Rattle.std.proofs.Common.{◌≡◌, ℕ, ◌+◌, ◌*◌, ◌%◌, ◌^◌
 use Rattle.std.proofs.Common.{ap, ◌∙◌, arith, length-append}
 use Rattle.jsonb_value.specs.Tree.{Tree, text, Trees, no_trees, tree, Pairs, no_pairs, pair, count}
 use Rattle.jsonb_value.specs.Tree.{pair_count}
-use Rattle.jsonb_codec.specs.Word.{word}
+use Rattle.jsonb_codec.specs.WordBytes.{word}
 use Rattle.jsonb_codec.specs.Doc.{type_of, IsKey, NoMore, One, Children, Keys, Values, Payload}
 use Rattle.jsonb_codec.proofs.Words.{length-word-append, same_words}
 

@@ -9,7 +9,7 @@ use Rattle.jsonb_value.specs.declared.ast.JsonAst.{JsonAst}
 use Rattle.jsonb_value.specs.declared.value.Value.{Value}
 use Rattle.jsonb_value.specs.Ast.{asts_view, ast_pairs_view}
 use Rattle.jsonb_value.specs.Value.{items_view, pairs_view}
-use Rattle.jsonb_codec.specs.Word.{word}
+use Rattle.jsonb_codec.specs.WordBytes.{word}
 use Rattle.jsonb_codec.specs.Doc.{type_of}
 use Rattle.jsonb_codec.specs.Canon.{document_of, canon, payload_of}
 use Rattle.jsonb_codec.proofs.TreeShapes.{entries_of, payloads_of, key_entries, value_entries}

@@ -9,7 +9,7 @@ use Rattle.jsonb_value.specs.TreeOrder.{tree_cmp}
 use Rattle.jsonb_value.specs.WellFormed.{IsTree}
 use Rattle.jsonb_value.proofs.KindLaws.{norm_tied}
 use Rattle.jsonb_value.proofs.ExtCodes.{front_of, back_of}
-use Rattle.jsonb_codec.specs.Word.{word}
+use Rattle.jsonb_codec.specs.WordBytes.{word}
 use Rattle.jsonb_codec.specs.Doc.{type_of, Doc}
 use Rattle.jsonb_codec.specs.Parts.{IsPayloadOf}
 use Rattle.jsonb_codec.specs.Canon.{canon, payload_of, Fits}

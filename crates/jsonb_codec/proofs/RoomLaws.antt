@@ -4,19 +4,19 @@ use Rattle.std.proofs.Common.{length, rules, take, drop, ap, ◌∙◌, arith, l
 use Rattle.std.proofs.Common.{append_assoc}
 use Rattle.std.specs.Int.{w32, from_be_bytes}
 use Rattle.std.proofs.lemmas.List.{drop_at, take_at, append-nil}
-use Rattle.jsonb_codec.specs.Word.{word, word_at}
-use Rattle.jsonb_codec.specs.Room.{AppendsBytes, IsAt}
+use Rattle.jsonb_codec.specs.WordBytes.{word, word_at}
+use Rattle.jsonb_codec.specs.Room.{AppendsBytes, HasWordsAt}
 use Rattle.jsonb_codec.proofs.Words.{length-word, length-word-append, word-value}
 
 -- appended words are at the old end
-pub IsAt-Appended : {old new : Vec ℕ Global} {words : List ℕ} → AppendsBytes old new words
-    → IsAt (length old.items) words new.items
-IsAt-Appended {old} h = grind (arith, append-nil)
+pub HasWordsAt-Appended : {old new : Vec ℕ Global} {words : List ℕ} → AppendsBytes old new words
+    → HasWordsAt (length old.items) words new.items
+HasWordsAt-Appended {old} h = grind (arith, append-nil)
 
 -- words stay at their index when more is appended
-pub IsAt-more : {old new : Vec ℕ Global} {bytes : List ℕ} (at : ℕ) (words : List ℕ)
-    → IsAt at words old.items → AppendsBytes old new bytes → IsAt at words new.items
-IsAt-more {bytes = bytes} at words s h = record {
+pub HasWordsAt-more : {old new : Vec ℕ Global} {bytes : List ℕ} (at : ℕ) (words : List ℕ)
+    → HasWordsAt at words old.items → AppendsBytes old new bytes → HasWordsAt at words new.items
+HasWordsAt-more {bytes = bytes} at words s h = record {
   front = s.front;
   rest = s.rest ++ bytes;
   parts = simp (h.items, s.parts, append_assoc);
@@ -24,9 +24,9 @@ IsAt-more {bytes = bytes} at words s h = record {
 }
 
 -- the words after the first one
-pub IsAt-next : (at k : ℕ) (others bytes : List ℕ) → IsAt at (word k ++ others) bytes
-    → IsAt (at + 4) others bytes
-IsAt-next at k others bytes s = record {
+pub HasWordsAt-next : (at k : ℕ) (others bytes : List ℕ) → HasWordsAt at (word k ++ others) bytes
+    → HasWordsAt (at + 4) others bytes
+HasWordsAt-next at k others bytes s = record {
   front = s.front ++ word k;
   rest = s.rest;
   parts = rw append_assoc (rw append_assoc at s.parts);
@@ -34,9 +34,10 @@ IsAt-next at k others bytes s = record {
 }
 
 -- the first ones alone
-pub IsAt-first : (at : ℕ) (words others bytes : List ℕ) → IsAt at (words ++ others) bytes
-    → IsAt at words bytes
-IsAt-first at words others bytes s = record {
+pub HasWordsAt-first : (at : ℕ) (words others bytes : List ℕ)
+    → HasWordsAt at (words ++ others) bytes
+    → HasWordsAt at words bytes
+HasWordsAt-first at words others bytes s = record {
   front = s.front;
   rest = others ++ s.rest;
   parts = rw append_assoc at s.parts;
@@ -44,8 +45,9 @@ IsAt-first at words others bytes s = record {
 }
 
 -- A word is inside the bytes.
-IsAt-within : (at k : ℕ) (bytes : List ℕ) → IsAt at (word k) bytes → at + 4 ≤ length bytes
-IsAt-within at k bytes s = omega (
+HasWordsAt-within : (at k : ℕ) (bytes : List ℕ) → HasWordsAt at (word k) bytes
+    → at + 4 ≤ length bytes
+HasWordsAt-within at k bytes s = omega (
   arith,
   ap length s.parts ∙ length-append s.front (word k ++ s.rest),
   length-word-append k s.rest,
@@ -53,9 +55,9 @@ IsAt-within at k bytes s = omega (
 )
 
 -- Reading at the index gives the word.
-IsAt-read : (at k : ℕ) (bytes : List ℕ) → k < 2 ^ 32 → IsAt at (word k) bytes
+HasWordsAt-read : (at k : ℕ) (bytes : List ℕ) → k < 2 ^ 32 → HasWordsAt at (word k) bytes
     → from_be_bytes w32 (take 4 (drop at bytes)) ≡ k
-IsAt-read at k bytes small s = ap (from_be_bytes w32)
+HasWordsAt-read at k bytes small s = ap (from_be_bytes w32)
     (ap (λ (x : List ℕ). take 4 (drop at x)) s.parts
     ∙ ap (take 4) (drop_at s.front (word k ++ s.rest) at s.is_at)
     ∙ take_at (word k) s.rest 4 (length-word k))
@@ -65,7 +67,8 @@ pub word_at-inside : (bytes : List ℕ) (at : ℕ) → at + 4 ≤ length bytes
     → word_at bytes at ≡ Ok (from_be_bytes w32 (take 4 (drop at bytes)))
 word_at-inside bytes at inside = search (rules, inside)
 
-pub IsAt-word : (at k : ℕ) (bytes : List ℕ) → k < 2 ^ 32 → IsAt at (word k) bytes
+pub HasWordsAt-word : (at k : ℕ) (bytes : List ℕ) → k < 2 ^ 32 → HasWordsAt at (word k) bytes
     → word_at bytes at ≡ Ok k
-IsAt-word at k bytes small s =
-    word_at-inside bytes at (IsAt-within at k bytes s) ∙ ap Ok (IsAt-read at k bytes small s)
+HasWordsAt-word at k bytes small s =
+    word_at-inside bytes at (HasWordsAt-within at k bytes s)
+    ∙ ap Ok (HasWordsAt-read at k bytes small s)

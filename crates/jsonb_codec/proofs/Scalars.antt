@@ -10,8 +10,8 @@ use Rattle.jsonb_value.specs.NumCode.{NumCode}
 use Rattle.jsonb_value.specs.ExtCode.{ExtCode}
 use Rattle.jsonb_value.specs.Tree.{Extension, Tree, null, boolean, number, text, extension}
 use Rattle.jsonb_codec.specs.Doc.{type_of, Payload}
-use Rattle.jsonb_codec.specs.declared.document.FaultTable.{FaultTable}
-use Rattle.jsonb_codec.specs.Parts.{IsFault, HoldsOrFaults, Excludes, HoldsOrExcludes, HasPayload}
+use Rattle.jsonb_codec.specs.declared.document.fault.FaultTable.{FaultTable}
+use Rattle.jsonb_codec.specs.Parts.{IsFaultOf, HoldsOrFaults, Excludes, HoldsOrExcludes, HasPayload}
 
 empty_after : (t : Tree) (p : List ℕ)
     → (type_of t ≡ 0) ⊎ ((type_of t ≡ 805306368) ⊎ (type_of t ≡ 1073741824)) → Payload t p → p ≡ []
@@ -75,9 +75,9 @@ not_empty b (x ∷ p) e never z = omega arith
 
 -- an error that `?` passes on
 pub raised : {A : Type 0} (faults : FaultTable) (P : Type 0) (r : Result A Error) (e : Error)
-    → IsErrAnd r (λ x. x ≡ e) → IsFault faults e → ¬ P → HoldsOrFaults faults r P
+    → IsErrAnd r (λ x. x ≡ e) → IsFaultOf faults e → ¬ P → HoldsOrFaults faults r P
 raised faults P (Ok x) e h fault never = absurd h
-raised faults P (Err x) e h fault never = (subst (IsFault faults) (sym h) fault, never)
+raised faults P (Err x) e h fault never = (subst (IsFaultOf faults) (sym h) fault, never)
 
 pub raised_as : {A : Type 0} (P : Error → Type 0) (r : Result A Error) (e : Error)
     → IsErrAnd r (λ x. x ≡ e) → P e → IfErr r P
@@ -91,11 +91,11 @@ tells_iff faults (Err e) h k = (h.0, λ q. h.1 (k.1 q))
 
 -- the same of a check within a depth
 pub raised_within : {A : Type 0} (faults : FaultTable) (limit : ℕ) (P : ℕ → Type 0)
-    (r : Result A Error) (e : Error) → IsErrAnd r (λ x. x ≡ e) → IsFault faults e
+    (r : Result A Error) (e : Error) → IsErrAnd r (λ x. x ≡ e) → IsFaultOf faults e
     → Excludes faults limit e P → HoldsOrExcludes faults limit r P
 raised_within faults limit P (Ok x) e h fault never = absurd h
 raised_within faults limit P (Err x) e h fault never =
-    (subst (IsFault faults) (sym h) fault, λ d r. never d (λ is. r (h ∙ is)))
+    (subst (IsFaultOf faults) (sym h) fault, λ d r. never d (λ is. r (h ∙ is)))
 
 -- what a check within a depth tells of a statement that follows from the checked one, and from
 -- which the checked one follows at every depth

@@ -6,18 +6,19 @@ use Rattle.jsonb_codec.specs.declared.constants.TheConstants.{ARRAY_CONTAINER_TA
 use Rattle.jsonb_codec.specs.declared.constants.TheConstants.{OBJECT_CONTAINER_TAG, CONTAINER_TAG}
 use Rattle.jsonb_codec.specs.declared.writer.source.Level.{Level}
 use Rattle.jsonb_codec.specs.declared.writer.source.Level.TheVariants as levels
-use Rattle.jsonb_codec.specs.Word.{word}
-use Rattle.jsonb_codec.specs.Shape.{Shape, array, object, Shapes, no_shapes, shape, count, type_of}
+use Rattle.jsonb_codec.specs.WordBytes.{word}
+use Rattle.jsonb_codec.specs.Shape.{Shape, array, object, Shapes, no_shapes, shape, shape_count}
+use Rattle.jsonb_codec.specs.Shape.{shape_type}
 use Rattle.jsonb_codec.specs.Shape.{payload, entries, payloads}
 use Rattle.jsonb_codec.specs.Shape.{key_entries, key_payloads, body, AllFit}
 use Rattle.jsonb_codec.specs.Shape.{FitsEntry}
-use Rattle.jsonb_codec.specs.Source.{Meaning, LevelIs}
-use Rattle.jsonb_codec.specs.Room.{HasRoom, AppendsBytes, IsAt}
+use Rattle.jsonb_codec.specs.Source.{SourceMeaning, LevelIs}
+use Rattle.jsonb_codec.specs.Room.{HasRoom, AppendsBytes, HasWordsAt}
 use Rattle.jsonb_codec.specs.Writing.{AreFew, CanGoOn, TakesLeft}
 use Rattle.jsonb_codec.proofs.Appending.{Underway, underway_start, underway_next, underway_on}
 use Rattle.jsonb_codec.proofs.Appending.{underway_end}
 use Rattle.jsonb_codec.proofs.Appending.{length-Appended}
-use Rattle.jsonb_codec.proofs.RoomLaws.{IsAt-Appended, IsAt-more}
+use Rattle.jsonb_codec.proofs.RoomLaws.{HasWordsAt-Appended, HasWordsAt-more}
 use Rattle.jsonb_codec.proofs.Shapes.{First, first_fits, first_body}
 
 -- The children that were written, and those that are left.
@@ -50,7 +51,7 @@ module _ {C W : Type 0} {IsKey : List ℕ → Type 0} {IsChild : C → Shape →
   going_fit = first_fits f w.few.fit
 
   pub going_few : AreFew f.others
-  going_few = record { fit = going_fit.1.1; few = omega (arith, w.few.few, ap count f.made) }
+  going_few = record { fit = going_fit.1.1; few = omega (arith, w.few.few, ap shape_count f.made) }
 
   -- the child's part of the length that is left
   pub going_takes : {size : ℕ} → size + length f.key ≡ body w.left → TakesLeft Are x.1 f.child size
@@ -93,27 +94,28 @@ going_end {Bytes = Bytes} {start} {old} {now} w one empty none ss are =
     (underway_end (subst (Underway old now (Bytes w.all)) (ap Bytes none ∙ empty) w.underway))
 
 -- A leaf is written unchanged, and a level that is not a leaf has a container's type.
-pub is_leaf : {L C I O M : Type 0} (code : L → ℕ × List ℕ) (m : Meaning C I O M) {v : Level L I O}
+pub is_leaf : {L C I O M : Type 0} (code : L → ℕ × List ℕ) (m : SourceMeaning C I O M)
+    {v : Level L I O}
     {x : L} (s : Shape) → v ≡ levels.Leaf x → LevelIs code m v s
-    → (type_of s ≡ (code x).0) × (payload s ≡ (code x).1)
+    → (shape_type s ≡ (code x).0) × (payload s ≡ (code x).1)
 is_leaf code m s e is =
     let same = subst (λ v. LevelIs code m v s) e is in
-    (ap type_of same, ap payload same)
+    (ap shape_type same, ap payload same)
 
-pub is_container : {L C I O M : Type 0} (code : L → ℕ × List ℕ) (m : Meaning C I O M)
+pub is_container : {L C I O M : Type 0} (code : L → ℕ × List ℕ) (m : SourceMeaning C I O M)
     (v : Level L I O) (s : Shape) → ((x : L) → v ≡ levels.Leaf x → ⊥) → LevelIs code m v s
-    → type_of s ≡ CONTAINER_TAG
+    → shape_type s ≡ CONTAINER_TAG
 is_container code m (levels.Leaf x) s other is = absurd (other x refl)
-is_container code m (levels.Array x) s other (ss, (e, h)) = ap type_of e
-is_container code m (levels.Object x) s other (ss, (e, h)) = ap type_of e
+is_container code m (levels.Array x) s other (ss, (e, h)) = ap shape_type e
+is_container code m (levels.Object x) s other (ss, (e, h)) = ap shape_type e
 
 -- The entry word of the first child precedes those of the others.
 pub stored_first : {C W : Type 0} {IsKey : List ℕ → Type 0} {IsChild : C → Shape → Type 0}
     {Are : W → Shapes → Type 0} {x : C × W} {ss : Shapes} (f : First IsKey IsChild Are x ss)
-    (at : ℕ) (bytes : List ℕ) → IsAt at (entries ss) bytes
-    → IsAt at (word (type_of f.child + length (payload f.child)) ++ entries f.others) bytes
+    (at : ℕ) (bytes : List ℕ) → HasWordsAt at (entries ss) bytes
+    → HasWordsAt at (word (shape_type f.child + length (payload f.child)) ++ entries f.others) bytes
 stored_first f at bytes stored =
-    subst (λ (us : Shapes). IsAt at (entries us) bytes) f.made stored
+    subst (λ (us : Shapes). HasWordsAt at (entries us) bytes) f.made stored
 
 -- Appending twice appends the concatenation.
 Appends-both : {a b c : Vec ℕ} {x y : List ℕ} → AppendsBytes a b x → AppendsBytes b c y
@@ -133,13 +135,13 @@ room_first v x y room = omega (arith, room, length-append x y)
 
 -- The parts of an array, appended one after another.
 pub array_entries_room : (a b : Vec ℕ) (ss : Shapes) → HasRoom a (payload (array ss))
-    → AppendsBytes a b (word (ARRAY_CONTAINER_TAG + count ss)) → HasRoom b (entries ss)
+    → AppendsBytes a b (word (ARRAY_CONTAINER_TAG + shape_count ss)) → HasRoom b (entries ss)
 array_entries_room a b ss room header =
     room_first b (entries ss) (payloads ss) (room_after (entries ss ++ payloads ss) header room)
 
 -- The parts of an object.
 module _ (a b c : Vec ℕ) (ss : Shapes) (room : HasRoom a (payload (object ss)))
-    (header : AppendsBytes a b (word (OBJECT_CONTAINER_TAG + count ss)))
+    (header : AppendsBytes a b (word (OBJECT_CONTAINER_TAG + shape_count ss)))
     (key_words : AppendsBytes b c (key_entries ss)) where
   bodies : List ℕ
   bodies = key_payloads ss ++ payloads ss
@@ -158,11 +160,12 @@ module _ (a b c : Vec ℕ) (ss : Shapes) (room : HasRoom a (payload (object ss))
     unfolding bodies
     object_payloads_room = room_after (payloads ss) keys (room_after bodies words entries_room)
 
-    pub object_words : IsAt (length c.items) (entries ss) e.items
-    object_words = IsAt-more (length c.items) (entries ss) (IsAt-Appended words) keys
+    pub object_words : HasWordsAt (length c.items) (entries ss) e.items
+    object_words = HasWordsAt-more (length c.items) (entries ss) (HasWordsAt-Appended words) keys
 
 pub object_written : (a b c d e f : Vec ℕ) (ss : Shapes)
-    → AppendsBytes a b (word (OBJECT_CONTAINER_TAG + count ss)) → AppendsBytes b c (key_entries ss)
+    → AppendsBytes a b (word (OBJECT_CONTAINER_TAG + shape_count ss))
+    → AppendsBytes b c (key_entries ss)
     → AppendsBytes c d (entries ss) → AppendsBytes d e (key_payloads ss)
     → AppendsBytes e f (payloads ss) → AppendsBytes a f (payload (object ss))
 object_written a b c d e f ss header key_words words keys put =

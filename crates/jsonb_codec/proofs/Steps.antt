@@ -6,7 +6,7 @@ use Rattle.std.specs.Prelude.{⊤}
 use Rattle.std.proofs.lemmas.List.{take-append-drop, length-take-le, take_all}
 use Rattle.jsonb_value.specs.Tree.{Tree, array, object, Trees, no_trees, tree, Pairs}
 use Rattle.jsonb_value.proofs.ExtCodes.{front_of, back_of}
-use Rattle.jsonb_codec.specs.Word.{word}
+use Rattle.jsonb_codec.specs.WordBytes.{word}
 use Rattle.jsonb_codec.specs.Canon.{document_of}
 use Rattle.jsonb_codec.specs.Doc.{IsDocument, Doc, type_of, NoMore, One, Children, Payload, Scalar}
 use Rattle.jsonb_codec.specs.Depth.{depth, IsDocumentWithin}

@@ -4,7 +4,7 @@ use Rattle.std.proofs.Common.{arith}
 use Rattle.std.specs.Str.{IsUtf8}
 use Rattle.jsonb_value.specs.Tree.{text}
 use Rattle.jsonb_codec.specs.Doc.{Doc}
-use Rattle.jsonb_codec.specs.Word.{word}
+use Rattle.jsonb_codec.specs.WordBytes.{word}
 use Rattle.jsonb_codec.proofs.Words.{length-word-append, same_words}
 use Rattle.jsonb_codec.proofs.Entries.{IsType-type_of, same_entry}
 use Rattle.jsonb_codec.proofs.Steps.{Read, read_type}

@@ -6,19 +6,19 @@ use Rattle.jsonb_value.specs.Tree.{Tree, null, boolean, array, object}
 use Rattle.jsonb_value.specs.Tree.{Trees, no_trees, tree, Pairs, no_pairs, pair, pair_count}
 use Rattle.jsonb_codec.specs.Doc as doc
 use Rattle.jsonb_codec.specs.Shape as shapes
-use Rattle.jsonb_codec.specs.Shape.{count, type_of, entries, payloads}
+use Rattle.jsonb_codec.specs.Shape.{shape_count, shape_type, entries, payloads}
 use Rattle.jsonb_codec.specs.Canon.{shape_of, items_shapes, pairs_shapes, payload_of, document_of}
 use Rattle.jsonb_codec.specs.Canon.{canon, Fits}
 
-pub count-items_shapes : (ts : Trees) → count (items_shapes ts) ≡ trees.count ts
+pub count-items_shapes : (ts : Trees) → shape_count (items_shapes ts) ≡ trees.count ts
 count-items_shapes no_trees = refl
 count-items_shapes (tree t ts) = ap suc (count-items_shapes ts)
 
-pub count-pairs_shapes : (ps : Pairs) → count (pairs_shapes ps) ≡ pair_count ps
+pub count-pairs_shapes : (ps : Pairs) → shape_count (pairs_shapes ps) ≡ pair_count ps
 count-pairs_shapes no_pairs = refl
 count-pairs_shapes (pair k t ps) = ap suc (count-pairs_shapes ps)
 
-pub type_of-shape_of : (t : Tree) → type_of (shape_of t) ≡ doc.type_of t
+pub type_of-shape_of : (t : Tree) → shape_type (shape_of t) ≡ doc.type_of t
 type_of-shape_of null = refl
 type_of-shape_of t = refl
 

@@ -6,7 +6,7 @@ use Rattle.jsonb_value.specs.Tree.{Tree, null, boolean, number, text, extension,
 use Rattle.jsonb_value.specs.Tree.{Trees, no_trees, tree, Pairs, no_pairs, pair, pair_count}
 use Rattle.jsonb_value.proofs.Codes.{NumCode-unique}
 use Rattle.jsonb_value.proofs.ExtCodes.{ExtCode-unique}
-use Rattle.jsonb_codec.specs.Word.{word}
+use Rattle.jsonb_codec.specs.WordBytes.{word}
 use Rattle.jsonb_codec.specs.Doc.{type_of, Children, Keys, Values, PairsBody, Payload, Scalar, Doc}
 use Rattle.jsonb_codec.specs.Parts.{IsObject, ArePairsOf}
 use Rattle.jsonb_codec.proofs.Words.{same_parts, same_beginning, words_begin}

@@ -3,17 +3,17 @@ use Rattle.std.proofs.Common.{◌≡◌, ◌<◌, ℕ, ap, sym, ◌∙◌, arith
 use Rattle.jsonb_value.specs.Tree as trees
 use Rattle.jsonb_value.specs.Tree.{Trees, Pairs, pair_count}
 use Rattle.jsonb_codec.specs.Depth.{size}
-use Rattle.jsonb_codec.specs.Shape.{Shapes, count}
+use Rattle.jsonb_codec.specs.Shape.{Shapes, shape_count}
 use Rattle.jsonb_codec.specs.Canon.{items_shapes, pairs_shapes}
 use Rattle.jsonb_codec.proofs.TreeShapes.{count-items_shapes, count-pairs_shapes}
 
 pub items_count : (ts : Trees) (n : ℕ) (ss : Shapes) → trees.count ts ≡ n → items_shapes ts ≡ ss
-    → n ≡ count ss
-items_count ts n ss e h = sym e ∙ (sym (count-items_shapes ts) ∙ ap count h)
+    → n ≡ shape_count ss
+items_count ts n ss e h = sym e ∙ (sym (count-items_shapes ts) ∙ ap shape_count h)
 
 pub pairs_count : (ps : Pairs) (n : ℕ) (ss : Shapes) → pair_count ps ≡ n → pairs_shapes ps ≡ ss
-    → n ≡ count ss
-pairs_count ps n ss e h = sym e ∙ (sym (count-pairs_shapes ps) ∙ ap count h)
+    → n ≡ shape_count ss
+pairs_count ps n ss e h = sym e ∙ (sym (count-pairs_shapes ps) ∙ ap shape_count h)
 
 pub size_positive : (t : trees.Tree) → 0 < size t
 size_positive trees.null = omega arith

@@ -6,7 +6,7 @@ use Rattle.jsonb_value.specs.declared.number.Number.TheVariants.{Int64, UInt64, 
 use Rattle.jsonb_value.specs.declared.number.Number.TheVariants.{Decimal128}
 use Rattle.jsonb_value.specs.Tree.{boolean, number, text, extension, array, object, no_trees, tree}
 use Rattle.jsonb_value.specs.Tree.{no_pairs, pair, timestamp_tz, interval, opaque}
-use Rattle.jsonb_codec.specs.Word.{word}
+use Rattle.jsonb_codec.specs.WordBytes.{word}
 use Rattle.jsonb_codec.specs.Doc.{Doc}
 use Rattle.jsonb_codec.specs.Canon.{canon}
 

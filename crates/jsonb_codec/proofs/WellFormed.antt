@@ -6,7 +6,7 @@ use Rattle.jsonb_value.specs.Tree.{tree, Pairs, no_pairs, pair}
 use Rattle.jsonb_value.specs.WellFormed.{IsTree, AreTrees, ArePairs}
 use Rattle.jsonb_value.proofs.BigEndian.{AreBytes, AreBytes-equal, AreBytes-front, AreBytes-back}
 use Rattle.jsonb_value.proofs.PayloadLaws.{IsNumber-NumCode, IsExtension-ExtCode}
-use Rattle.jsonb_codec.specs.Word.{word}
+use Rattle.jsonb_codec.specs.WordBytes.{word}
 use Rattle.jsonb_codec.specs.Doc.{type_of, Keys, Values, Children, Payload, Doc}
 use Rattle.jsonb_codec.proofs.Containers.{Container, array_container, object_container}
 

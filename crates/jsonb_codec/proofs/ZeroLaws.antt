@@ -6,9 +6,9 @@ use Rattle.std.proofs.lemmas.List.Elements.{All-nil, All-cons, All-head, All-tai
 use Rattle.std.specs.List.{All}
 use Rattle.jsonb_value.specs.Tree.{Tree, text, array, object, Trees, no_trees, tree, Pairs}
 use Rattle.jsonb_value.specs.Tree.{no_pairs, pair, count, pair_count}
-use Rattle.jsonb_codec.specs.Word.{word}
+use Rattle.jsonb_codec.specs.WordBytes.{word}
 use Rattle.jsonb_codec.specs.Doc.{type_of, One, Keys, Values, Children, Payload, Doc}
-use Rattle.jsonb_codec.specs.Payloads.{items_in, keys_in, values_in, payloads_in}
+use Rattle.jsonb_codec.specs.Payloads.{item_payloads, keys_in, values_in, payloads_in}
 use Rattle.jsonb_codec.proofs.Entries.{IsType, IsType-type_of, length-One-payloads}
 use Rattle.jsonb_codec.proofs.Containers.{members, count_of, two_kinds, count-members, Container}
 use Rattle.jsonb_codec.proofs.Containers.{array_container, object_container, container}
@@ -46,7 +46,7 @@ one_least is zero_free h =
 
 -- Each payload is long.
 items_long : (ts : Trees) (e p : List ℕ) → NoZero e → (h : Children ts e p)
-    → All Long (items_in ts e p h)
+    → All Long (item_payloads ts e p h)
 items_long no_trees e p zero_free h = All-nil Long
 items_long (tree t ts) e p zero_free h =
     let first = one_least (IsType-type_of t) zero_free h in
@@ -67,7 +67,7 @@ values_long (pair k t ps) e p zero_free h =
 
 -- There are as many payloads as the header counts.
 length-items : (ts : Trees) (e p : List ℕ) (h : Children ts e p)
-    → length (items_in ts e p h) ≡ count ts
+    → length (item_payloads ts e p h) ≡ count ts
 length-items no_trees e p h = refl
 length-items (tree t ts) e p h = ap suc (length-items ts _ _ h.others)
 

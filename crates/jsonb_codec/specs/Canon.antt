@@ -6,7 +6,7 @@ use Rattle.jsonb_value.specs.Tree.{Trees, no_trees, tree, Pairs, no_pairs, pair}
 use Rattle.jsonb_value.specs.NumCode.{number_payload}
 use Rattle.jsonb_value.specs.ExtCode.{extension_payload}
 use Rattle.jsonb_codec.specs.declared.constants.TheConstants.{SCALAR_CONTAINER_TAG, CONTAINER_TAG}
-use Rattle.jsonb_codec.specs.Word.{word}
+use Rattle.jsonb_codec.specs.WordBytes.{word}
 use Rattle.jsonb_codec.specs.Doc.{type_of}
 use Rattle.jsonb_codec.specs.Shape as shapes
 use Rattle.jsonb_codec.specs.Shape.{Shape, leaf, Shapes, no_shapes, shape, key_payloads}
@@ -43,7 +43,7 @@ canon t = shapes.document (shape_of t)
 
 -- The tree has a canonical document.
 abbrev pub Fits : Tree → Type 0
-Fits t = shapes.Fits (shape_of t)
+Fits t = shapes.ShapeFits (shape_of t)
 
 -- The document of an entry with this type and payload: a container's payload, or a scalar after its
 -- header.

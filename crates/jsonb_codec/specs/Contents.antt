@@ -10,8 +10,8 @@ use Rattle.jsonb_codec.specs.Doc.{Children}
 use Rattle.jsonb_codec.specs.Parts.{IsPayloadOf, IsObject, ArePairsOf}
 
 -- The part means the tree.
-abbrev pub Means : Part → Tree → Type 0
-Means part t = IsPayloadOf part.type_code part.payload.now t
+abbrev pub PartMeans : Part → Tree → Type 0
+PartMeans part t = IsPayloadOf part.type_code part.payload.now t
 
 -- The children are these trees.
 abbrev pub AreChildren : Trees → declared.Children → Type 0

@@ -12,7 +12,7 @@ use Rattle.jsonb_codec.specs.declared.constants.TheConstants.{SCALAR_CONTAINER_T
 use Rattle.jsonb_codec.specs.declared.constants.TheConstants.{STRING_TAG, NUMBER_TAG, FALSE_TAG}
 use Rattle.jsonb_codec.specs.declared.constants.TheConstants.{TRUE_TAG, CONTAINER_TAG}
 use Rattle.jsonb_codec.specs.declared.constants.TheConstants.{EXTENSION_TAG}
-use Rattle.jsonb_codec.specs.Word.{word}
+use Rattle.jsonb_codec.specs.WordBytes.{word}
 
 -- The type of a tree's entry.
 abbrev pub type_of : Tree → ℕ

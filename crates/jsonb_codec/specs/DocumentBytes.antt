@@ -1,6 +1,6 @@
 -- The bytes of a checked document.
 use Rattle.std.specs.Prelude.{ℕ, List}
-use Rattle.jsonb_codec.specs.declared.document.DocumentBytes.{DocumentBytes}
+use Rattle.jsonb_codec.specs.declared.document.bytes.DocumentBytes.{DocumentBytes}
 
 -- The bytes of a `DocumentBytes`.
 abbrev pub bytes_of : DocumentBytes → List ℕ

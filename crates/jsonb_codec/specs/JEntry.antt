@@ -4,7 +4,7 @@ use Rattle.std.specs.Ordering.{nat_cmp, on, then_cmp}
 use Rattle.std.specs.declared.cmp.Ordering.{Ordering}
 use Rattle.jsonb_value.specs.declared.error.Error.{Error}
 use Rattle.jsonb_codec.specs.declared.jentry.JEntry.{JEntry}
-use Rattle.jsonb_codec.specs.Word.{word_at}
+use Rattle.jsonb_codec.specs.WordBytes.{word_at}
 
 -- The type and the length of an entry word, whose top bit is ignored.
 abbrev pub jentry_of : ℕ → JEntry

@@ -1,4 +1,4 @@
-pub mod Word
+pub mod WordBytes
 pub mod JEntry
 pub mod Doc
 pub mod Fault

@@ -5,10 +5,10 @@ use Rattle.jsonb_codec.specs.declared.parts.Children.{Children}
 use Rattle.jsonb_codec.specs.declared.parts.Members.{Members}
 use Rattle.jsonb_codec.specs.declared.parts.Object.{Object}
 use Rattle.jsonb_codec.specs.declared.parts.Part.{Part}
-use Rattle.jsonb_codec.specs.Contents.{Means, AreChildren, AreMembers}
+use Rattle.jsonb_codec.specs.Contents.{PartMeans, AreChildren, AreMembers}
 use Rattle.jsonb_codec.specs.Parts.{IsObject}
 use Rattle.jsonb_codec.specs.Shape.{Shape, Shapes, key_payloads}
-use Rattle.jsonb_codec.specs.Source.{Meaning, Laws}
+use Rattle.jsonb_codec.specs.Source.{SourceMeaning, Laws}
 use Rattle.jsonb_codec.specs.Canon.{shape_of, items_shapes, pairs_shapes, bare}
 
 -- Something is meant, and everything that is meant has these shapes.
@@ -23,18 +23,18 @@ one_shaped IsMeant shapes ss us h k = h.1 h.0.0 h.0.1 ∙ sym (k.1 h.0.0 h.0.1)
 
 -- The shape of the tree that a part means.
 abbrev pub PartIs : Part → Shape → Type 0
-PartIs part = Shaped (λ t. Means part t) shape_of
+PartIs part = Shaped (λ t. PartMeans part t) shape_of
 
 -- The shapes of the trees that children mean.
-abbrev pub ItemsAre : Children → Shapes → Type 0
-ItemsAre children = Shaped (λ ts. AreChildren ts children) items_shapes
+abbrev pub PartItemsAre : Children → Shapes → Type 0
+PartItemsAre children = Shaped (λ ts. AreChildren ts children) items_shapes
 
-abbrev pub ObjectIs : Object → Shapes → Type 0
-ObjectIs object = Shaped (λ ps. IsObject object.count object.body.now ps) pairs_shapes
+abbrev pub PartObjectIs : Object → Shapes → Type 0
+PartObjectIs object = Shaped (λ ps. IsObject object.count object.body.now ps) pairs_shapes
 
 -- The shapes of the pairs that members mean.
-abbrev pub MembersAre : Members → Shapes → Type 0
-MembersAre members = Shaped (λ ps. AreMembers ps members) pairs_shapes
+abbrev pub PartMembersAre : Members → Shapes → Type 0
+PartMembersAre members = Shaped (λ ps. AreMembers ps members) pairs_shapes
 
 -- The number of bytes in the entry words and payloads, which is less than that of the enclosing
 -- payload.
@@ -42,14 +42,14 @@ abbrev pub items_size : Children → ℕ
 items_size children = length children.entries.now + length children.payloads.now
 
 -- The meaning of parts as a source of the writer; there are no invariants to keep.
-abbrev pub part_meaning : Meaning Part Children Object Members
+abbrev pub part_meaning : SourceMeaning Part Children Object Members
 part_meaning = record {
   child = PartIs;
   child_size = λ part. length part.payload.now;
   child_held = λ part. ⊤;
-  items = ItemsAre;
-  object = ObjectIs;
-  members = MembersAre;
+  items = PartItemsAre;
+  object = PartObjectIs;
+  members = PartMembersAre;
   items_size = items_size;
   object_size = λ object. length object.body.now;
   members_size = λ members. items_size members.values;

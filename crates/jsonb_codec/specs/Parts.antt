@@ -8,15 +8,15 @@ use Rattle.jsonb_value.specs.declared.error.Error.TheVariants.{InvalidJsonb, Out
 use Rattle.jsonb_value.specs.Tree.{Tree, Trees, Pairs, count, pair_count, Ascend, Ascends}
 use Rattle.jsonb_codec.specs.declared.constants.TheConstants.{CONTAINER_TAG, STRING_TAG}
 use Rattle.jsonb_codec.specs.Doc.{type_of, Keys, Values, Children, Payload, Body, PairsBody, Scalar}
-use Rattle.jsonb_codec.specs.declared.document.FaultTable.{FaultTable}
+use Rattle.jsonb_codec.specs.declared.document.fault.FaultTable.{FaultTable}
 use Rattle.jsonb_codec.specs.Fault.{IsTreeFault, IsDecoderFault}
 use Rattle.jsonb_codec.specs.Depth.{depth, depths, pair_depths}
 
 -- This error is one that the table uses for faults.
-abbrev pub IsFault : FaultTable → Error → Type 0
-IsFault FaultTable.Tree e = IsTreeFault e
-IsFault FaultTable.Decoder e = IsDecoderFault e
-IsFault FaultTable.Depth e = IsTreeFault e ⊎ (e ≡ OutOfMemory)
+abbrev pub IsFaultOf : FaultTable → Error → Type 0
+IsFaultOf FaultTable.Tree e = IsTreeFault e
+IsFaultOf FaultTable.Decoder e = IsDecoderFault e
+IsFaultOf FaultTable.Depth e = IsTreeFault e ⊎ (e ≡ OutOfMemory)
 
 -- The error by which the table names a container beyond the depth.
 abbrev pub depth_fault : FaultTable → Error
@@ -27,7 +27,7 @@ depth_fault FaultTable.Depth = OutOfMemory
 -- The result is a success exactly if the statement holds, and an error is one of the table's.
 abbrev pub HoldsOrFaults : {A : Type 0} → FaultTable → Result A Error → Type 0 → Type 0
 HoldsOrFaults faults (Ok x) P = P
-HoldsOrFaults faults (Err e) P = IsFault faults e × (P → ⊥)
+HoldsOrFaults faults (Err e) P = IsFaultOf faults e × (P → ⊥)
 
 -- The error rules the statement out: at each depth, or, if it can be that of a container beyond the
 -- limit, at each depth within it.
@@ -38,7 +38,7 @@ Excludes faults limit e P = (d : ℕ) → (e ≡ depth_fault faults → d ≤ li
 -- table's, which rules the statement out.
 abbrev pub HoldsOrExcludes : {A : Type 0} → FaultTable → ℕ → Result A Error → (ℕ → Type 0) → Type 0
 HoldsOrExcludes faults limit (Ok x) P = P limit
-HoldsOrExcludes faults limit (Err e) P = IsFault faults e × Excludes faults limit e P
+HoldsOrExcludes faults limit (Err e) P = IsFaultOf faults e × Excludes faults limit e P
 
 -- The payload, in an entry of this type, means the tree.
 abbrev pub IsPayloadOf : ℕ → List ℕ → Tree → Type 0

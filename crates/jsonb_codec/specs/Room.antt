@@ -12,7 +12,7 @@ pub record AppendsBytes (old new : Vec ℕ) (bytes : List ℕ) : Type 0 where
   pub capacity : vec_capacity old ≤ vec_capacity new
 
 -- The bytes have these words at `index`.
-pub record IsAt (index : ℕ) (words bytes : List ℕ) : Type 0 where
+pub record HasWordsAt (index : ℕ) (words bytes : List ℕ) : Type 0 where
   pub front : List ℕ
   pub rest : List ℕ
   pub parts : bytes ≡ front ++ (words ++ rest)

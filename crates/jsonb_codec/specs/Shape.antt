@@ -4,7 +4,7 @@ use Rattle.jsonb_codec.specs.declared.constants.TheConstants.{ARRAY_CONTAINER_TA
 use Rattle.jsonb_codec.specs.declared.constants.TheConstants.{OBJECT_CONTAINER_TAG}
 use Rattle.jsonb_codec.specs.declared.constants.TheConstants.{SCALAR_CONTAINER_TAG, STRING_TAG}
 use Rattle.jsonb_codec.specs.declared.constants.TheConstants.{CONTAINER_TAG}
-use Rattle.jsonb_codec.specs.Word.{word}
+use Rattle.jsonb_codec.specs.WordBytes.{word}
 
 mutual
   pub data Shape : Type 0 where
@@ -18,15 +18,15 @@ mutual
     shape : List ℕ → Shape → Shapes → Shapes
 
 -- The number of children.
-abbrev pub count : Shapes → ℕ
-count no_shapes = 0
-count (shape k s ss) = suc (count ss)
+abbrev pub shape_count : Shapes → ℕ
+shape_count no_shapes = 0
+shape_count (shape k s ss) = suc (shape_count ss)
 
 -- The type of the entry.
-abbrev pub type_of : Shape → ℕ
-type_of (leaf type p) = type
-type_of (array ss) = CONTAINER_TAG
-type_of (object ss) = CONTAINER_TAG
+abbrev pub shape_type : Shape → ℕ
+shape_type (leaf type p) = type
+shape_type (array ss) = CONTAINER_TAG
+shape_type (object ss) = CONTAINER_TAG
 
 -- The entry words of keys.
 abbrev pub key_entries : Shapes → List ℕ
@@ -42,14 +42,14 @@ abbrev mutual
   -- The payload of a shape.
   pub payload : Shape → List ℕ
   payload (leaf type p) = p
-  payload (array ss) = word (ARRAY_CONTAINER_TAG + count ss) ++ (entries ss ++ payloads ss)
-  payload (object ss) = word (OBJECT_CONTAINER_TAG + count ss)
+  payload (array ss) = word (ARRAY_CONTAINER_TAG + shape_count ss) ++ (entries ss ++ payloads ss)
+  payload (object ss) = word (OBJECT_CONTAINER_TAG + shape_count ss)
       ++ (key_entries ss ++ (entries ss ++ (key_payloads ss ++ payloads ss)))
 
   -- The entry words of children.
   pub entries : Shapes → List ℕ
   entries no_shapes = []
-  entries (shape k s ss) = word (type_of s + length (payload s)) ++ entries ss
+  entries (shape k s ss) = word (shape_type s + length (payload s)) ++ entries ss
 
   -- The payloads of children.
   pub payloads : Shapes → List ℕ
@@ -70,8 +70,8 @@ abbrev mutual
   -- No count, no key and no payload inside the shape exceeds its limit.
   pub FitsInside : Shape → Type 0
   FitsInside (leaf type p) = ⊤
-  FitsInside (array ss) = (count ss < 2 ^ 29) × AllFit ss
-  FitsInside (object ss) = (count ss < 2 ^ 29) × AllFit ss
+  FitsInside (array ss) = (shape_count ss < 2 ^ 29) × AllFit ss
+  FitsInside (object ss) = (shape_count ss < 2 ^ 29) × AllFit ss
 
   -- No count, no key and no payload in these children exceeds its limit.
   pub AllFit : Shapes → Type 0
@@ -85,7 +85,7 @@ pub record FitsEntry (s : Shape) : Type 0 where
   pub short : length (payload s) < 2 ^ 28
 
 -- The shape can be written as a document.
-abbrev pub Fits : Shape → Type 0
-Fits (leaf type p) = length p < 2 ^ 28
-Fits (array ss) = FitsInside (array ss)
-Fits (object ss) = FitsInside (object ss)
+abbrev pub ShapeFits : Shape → Type 0
+ShapeFits (leaf type p) = length p < 2 ^ 28
+ShapeFits (array ss) = FitsInside (array ss)
+ShapeFits (object ss) = FitsInside (object ss)

@@ -7,7 +7,7 @@ use Rattle.jsonb_codec.specs.Shape.{key_payloads}
 
 -- For a source's children, arrays, objects and iterations over members: the shapes that they are
 -- written as, a size that decreases level by level, and the invariants that their types guarantee.
-pub record Meaning (C I O M : Type 0) : Type 1 where
+pub record SourceMeaning (C I O M : Type 0) : Type 1 where
   pub child : C → Shape → Type 0
   pub items : I → Shapes → Type 0
   pub object : O → Shapes → Type 0
@@ -22,14 +22,15 @@ pub record Meaning (C I O M : Type 0) : Type 1 where
   pub members_held : M → Type 0
 
 -- Each of them is written as only one list of shapes, and an array's items have no keys.
-pub record Laws {C I O M : Type 0} (m : Meaning C I O M) : Type 0 where
+pub record Laws {C I O M : Type 0} (m : SourceMeaning C I O M) : Type 0 where
   pub one_items : (x : I) (ss us : Shapes) → m.items x ss → m.items x us → ss ≡ us
   pub one_object : (x : O) (ss us : Shapes) → m.object x ss → m.object x us → ss ≡ us
   pub one_members : (x : M) (ss us : Shapes) → m.members x ss → m.members x us → ss ≡ us
   pub bare_items : (x : I) (ss : Shapes) → m.items x ss → key_payloads ss ≡ []
 
 -- A level is written as this shape: a leaf by its code, a container by its children.
-abbrev pub LevelIs : {L C I O M : Type 0} → (L → ℕ × List ℕ) → Meaning C I O M → Level L I O → Shape
+abbrev pub LevelIs : {L C I O M : Type 0} → (L → ℕ × List ℕ) → SourceMeaning C I O M
+    → Level L I O → Shape
     → Type 0
 LevelIs code m (levels.Leaf x) s = s ≡ leaf (code x).0 (code x).1
 LevelIs code m (levels.Array x) s = (ss : Shapes) × ((s ≡ array ss) × m.items x ss)
@@ -42,13 +43,13 @@ AreSplit IsKey IsChild AreOthers x no_shapes = ⊥
 AreSplit IsKey IsChild AreOthers x (shape k s ss) = IsKey k × (IsChild x.0 s × AreOthers x.1 ss)
 
 -- The size of a level's content.
-abbrev pub level_size : {L C I O M : Type 0} → Meaning C I O M → Level L I O → ℕ
+abbrev pub level_size : {L C I O M : Type 0} → SourceMeaning C I O M → Level L I O → ℕ
 level_size m (levels.Leaf x) = 0
 level_size m (levels.Array x) = m.items_size x
 level_size m (levels.Object x) = m.object_size x
 
 -- The content of a level satisfies the invariants of its types.
-abbrev pub LevelHeld : {L C I O M : Type 0} → Meaning C I O M → Level L I O → Type 0
+abbrev pub LevelHeld : {L C I O M : Type 0} → SourceMeaning C I O M → Level L I O → Type 0
 LevelHeld m (levels.Leaf x) = ⊤
 LevelHeld m (levels.Array x) = m.items_held x
 LevelHeld m (levels.Object x) = m.object_held x

@@ -7,7 +7,7 @@ use Rattle.std.specs.Str.{IsUtf8}
 use Rattle.std.specs.BTreeMap.{BTreeMap}
 use Rattle.jsonb_codec.specs.declared.parts.Part.{Part}
 use Rattle.jsonb_codec.specs.Shape.{Shapes, no_shapes, shape, leaf, key_payloads}
-use Rattle.jsonb_codec.specs.Source.{Meaning, Laws}
+use Rattle.jsonb_codec.specs.Source.{SourceMeaning, Laws}
 
 -- The shapes of a list of values, given their keys and codes.
 abbrev pub shapes_by : {A : Type 0} → (A → List ℕ) → (A → ℕ × List ℕ) → List A → Shapes
@@ -32,23 +32,23 @@ module _ {T : Type 0} (stored : T → Type 0) (code : T → ℕ × List ℕ) (he
   AreItems = AreStored stored (λ x. []) code
 
   -- The values of a map are stored as an object's members of these shapes.
-  abbrev pub AreMembers : List (Bor (List ℕ) × T) → Shapes → Type 0
-  AreMembers = AreStored (λ e. stored e.1) (λ e. e.0.now) (λ e. code e.1)
+  abbrev pub AreStoredMembers : List (Bor (List ℕ) × T) → Shapes → Type 0
+  AreStoredMembers = AreStored (λ e. stored e.1) (λ e. e.0.now) (λ e. code e.1)
 
   -- Each key is UTF-8, and each value satisfies the invariants of its type.
   abbrev pub MembersHeld : List (Bor (List ℕ) × T) → Type 0
   MembersHeld = AllByRecursion (λ e. IsUtf8 e.0.now × held e.1)
 
   -- The meaning of stored values as a source of the writer.
-  abbrev pub stored_meaning : Meaning (Bor T) (Bor (List T)) (Bor (BTreeMap (Bor (List ℕ)) T))
+  abbrev pub stored_meaning : SourceMeaning (Bor T) (Bor (List T)) (Bor (BTreeMap (Bor (List ℕ)) T))
       (List (Bor (List ℕ) × T))
   stored_meaning = record {
     child = λ x s. stored x.now × (s ≡ leaf (code x.now).0 (code x.now).1);
     child_size = λ x. 0;
     child_held = λ x. held x.now;
     items = λ xs ss. AreItems xs.now ss;
-    object = λ m ss. AreMembers m.now.entries ss;
-    members = λ es ss. AreMembers es ss;
+    object = λ m ss. AreStoredMembers m.now.entries ss;
+    members = λ es ss. AreStoredMembers es ss;
     items_size = λ xs. length xs.now;
     object_size = λ m. length m.now.entries;
     members_size = λ es. length es;

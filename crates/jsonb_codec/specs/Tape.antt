@@ -14,9 +14,9 @@ use Rattle.jsonb_value.specs.Json.Syntax.{Entries, pairs, insert_all}
 use Rattle.jsonb_value.specs.Reader.Resume.{Content, State, items, members, at_key, going, whole}
 use Rattle.jsonb_value.specs.Reader.Resume.{lost}
 use Rattle.std.specs.Global.{Vec}
-use Rattle.jsonb_codec.specs.Word.{word}
+use Rattle.jsonb_codec.specs.WordBytes.{word}
 use Rattle.jsonb_codec.specs.declared.constants.TheConstants.{STRING_TAG}
-use Rattle.jsonb_codec.specs.Shape.{Shapes, AllFit, FitsInside, entries, payloads, type_of}
+use Rattle.jsonb_codec.specs.Shape.{Shapes, AllFit, FitsInside, entries, payloads, shape_type}
 use Rattle.jsonb_codec.specs.Canon.{shape_of, items_shapes, payload_of}
 use Rattle.jsonb_codec.specs.declared.tape.pieces.Run.{Run}
 use Rattle.jsonb_codec.specs.declared.tape.pieces.Block.{Block}
@@ -74,7 +74,7 @@ pub record PayloadsAre (s : Storage) (v : Payloads) (p : List ℕ) : Type 0 wher
 pub record EntryIs (s : Storage) (e : Entry) (t : Tree) : Type 0 where
   pub tree : IsTree t
   pub fits : FitsInside (shape_of t)
-  pub type : e.type_code ≡ type_of (shape_of t)
+  pub type : e.type_code ≡ shape_type (shape_of t)
   pub size : e.size ≡ length (payload_of t)
   pub piece : PieceIs s e.piece (payload_of t)
 
@@ -82,7 +82,7 @@ pub record EntryIs (s : Storage) (e : Entry) (t : Tree) : Type 0 where
 pub record IsScalar (type : ℕ) (p : List ℕ) (t : Tree) : Type 0 where
   pub tree : IsTree t
   pub fits : FitsInside (shape_of t)
-  pub type_is : type ≡ type_of (shape_of t)
+  pub type_is : type ≡ shape_type (shape_of t)
   pub payload_is : p ≡ payload_of t
 
 -- The entry is that of the tree, or there is none since something inside the tree does not fit.
@@ -95,7 +95,7 @@ abbrev pub shapes_of : List Tree → Shapes
 shapes_of ts = items_shapes (trees_of ts)
 
 -- The array has these items, all of which fit.
-pub record ItemsAre (s : Storage) (a : OpenArray) (ts : List Tree) : Type 0 where
+pub record TapeItemsAre (s : Storage) (a : OpenArray) (ts : List Tree) : Type 0 where
   pub trees : AreTrees (trees_of ts)
   pub fit : AllFit (shapes_of ts)
   pub words : a.words.items ≡ entries (shapes_of ts)
@@ -103,23 +103,23 @@ pub record ItemsAre (s : Storage) (a : OpenArray) (ts : List Tree) : Type 0 wher
   pub size : a.size ≡ length (payloads (shapes_of ts))
 
 -- The array has these items if all fit, and else one of them does not fit.
-abbrev pub HasItems : Bool → Storage → OpenArray → List Tree → Type 0
-HasItems true s a ts = ItemsAre s a ts
-HasItems false s a ts = AllFit (shapes_of ts) → ⊥
+abbrev pub HasItemsIfFit : Bool → Storage → OpenArray → List Tree → Type 0
+HasItemsIfFit true s a ts = TapeItemsAre s a ts
+HasItemsIfFit false s a ts = AllFit (shapes_of ts) → ⊥
 
 -- The array that is being read has these items so far.
-abbrev pub ArrayIs : Storage → OpenArray → List Tree → Type 0
-ArrayIs s a = HasItems a.fits s a
+abbrev pub TapeArrayIs : Storage → OpenArray → List Tree → Type 0
+TapeArrayIs s a = HasItemsIfFit a.fits s a
 
 -- The member has this key and this value.
 abbrev pub MemberIs : Storage → Member → List ℕ × Tree → Type 0
 MemberIs s m e = (cow_bytes m.key ≡ e.0) × (IsUtf8 e.0 × IsMade s m.entry e.1)
 
 -- The members have these keys and values, in this order.
-abbrev pub MembersAre : Storage → List Member → Entries → Type 0
-MembersAre s [] [] = ⊤
-MembersAre s (m ∷ ms) (e ∷ es) = MemberIs s m e × MembersAre s ms es
-MembersAre s _ _ = ⊥
+abbrev pub TapeMembersAre : Storage → List Member → Entries → Type 0
+TapeMembersAre s [] [] = ⊤
+TapeMembersAre s (m ∷ ms) (e ∷ es) = MemberIs s m e × TapeMembersAre s ms es
+TapeMembersAre s _ _ = ⊥
 
 -- A pair of a map as a member.
 abbrev pub member_of : CowStr Global × Option Entry → Member
@@ -132,16 +132,16 @@ LastBelow before (e ∷ es) k = LastBelow (Some e.0) es k
 
 -- The object that is being read has these members so far; `ascends`: whether the keys ascend in the
 -- order read.
-pub record ObjectIs (s : Storage) (o : OpenObject) (front : Entries) : Type 0 where
+pub record TapeObjectIs (s : Storage) (o : OpenObject) (front : Entries) : Type 0 where
   pub read : Entries
-  pub members : MembersAre s o.members.items read
+  pub members : TapeMembersAre s o.members.items read
   pub is : front ≡ insert_all [] read
   pub ascend : o.ascends ≡ true → Ascend (pairs read)
 
 -- The same after a key.
 pub record ObjectAt (s : Storage) (o : OpenObject) (front : Entries) (key : List ℕ) : Type 0 where
   pub read : Entries
-  pub members : MembersAre s o.members.items read
+  pub members : TapeMembersAre s o.members.items read
   pub is : front ≡ insert_all [] read
   pub is_key : cow_bytes o.key ≡ key
   pub utf8 : IsUtf8 key
@@ -151,28 +151,28 @@ pub record ObjectAt (s : Storage) (o : OpenObject) (front : Entries) (key : List
 
 -- The container has this content.
 abbrev pub ContainerIs : Storage → Container → Content → Type 0
-ContainerIs s (containers.Array a) (items front) = ArrayIs s a front
-ContainerIs s (containers.Object o) (members front) = ObjectIs s o front
+ContainerIs s (containers.Array a) (items front) = TapeArrayIs s a front
+ContainerIs s (containers.Object o) (members front) = TapeObjectIs s o front
 ContainerIs s (containers.Object o) (at_key front key) = ObjectAt s o front key
 ContainerIs s _ _ = ⊥
 
 -- The containers, the innermost first, have these contents; the outermost is the place of the whole
 -- value.
-abbrev pub AreOpen : Storage → List Container → List Content → Type 0
-AreOpen s (containers.Whole e ∷ []) [] = ⊤
-AreOpen s (d ∷ ds) (c ∷ cs) = ContainerIs s d c × AreOpen s ds cs
-AreOpen s _ _ = ⊥
+abbrev pub AreOpenOnTape : Storage → List Container → List Content → Type 0
+AreOpenOnTape s (containers.Whole e ∷ []) [] = ⊤
+AreOpenOnTape s (d ∷ ds) (c ∷ cs) = ContainerIs s d c × AreOpenOnTape s ds cs
+AreOpenOnTape s _ _ = ⊥
 
 -- The containers are those of the state.
-abbrev pub AreIn : Storage → List Container → State → Type 0
-AreIn s ds (going cs) = AreOpen s ds cs
-AreIn s (containers.Whole e ∷ []) (whole t) = IsMade s e t
-AreIn s _ (whole t) = ⊥
-AreIn s ds lost = ⊤
+abbrev pub AreOnTape : Storage → List Container → State → Type 0
+AreOnTape s ds (going cs) = AreOpenOnTape s ds cs
+AreOnTape s (containers.Whole e ∷ []) (whole t) = IsMade s e t
+AreOnTape s _ (whole t) = ⊥
+AreOnTape s ds lost = ⊤
 
 -- The tape is in the state.
 abbrev pub tape_is : Tape → State → Type 0
-tape_is t = AreIn t.storage (t.innermost ∷ reverse t.outer.items)
+tape_is t = AreOnTape t.storage (t.innermost ∷ reverse t.outer.items)
 
 -- ---- growth
 
@@ -190,5 +190,5 @@ pub record IsPushed (old new : Storage) (old_keys new_keys : Vec ℕ) (before af
   pub word_is : new.bytes.items
       ≡ old.bytes.items ++ word (STRING_TAG + length (cow_bytes m.key))
   pub keys_are : new_keys.items ≡ old_keys.items ++ cow_bytes m.key
-  pub value : (s : Storage) (front : List Tree) (t : Tree) → ArrayIs s before front
-      → IsMade s m.entry t → ArrayIs s after (front ++ t ∷ [])
+  pub value : (s : Storage) (front : List Tree) (t : Tree) → TapeArrayIs s before front
+      → IsMade s m.entry t → TapeArrayIs s after (front ++ t ∷ [])

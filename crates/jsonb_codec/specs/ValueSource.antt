@@ -12,13 +12,13 @@ use Rattle.jsonb_value.specs.Ast.{ast_tree, asts_view, ast_pairs_view, AllAscend
 use Rattle.jsonb_value.specs.Ast.{AscendEverywhere}
 use Rattle.jsonb_value.specs.WellFormed.{IsTree, AreTrees, ArePairs}
 use Rattle.jsonb_codec.specs.Depth.{size, sizes, pair_sizes}
-use Rattle.jsonb_codec.specs.Source.{Meaning, Laws}
+use Rattle.jsonb_codec.specs.Source.{SourceMeaning, Laws}
 use Rattle.jsonb_codec.specs.Shape.{key_payloads}
 use Rattle.jsonb_codec.specs.Canon.{shape_of, items_shapes, pairs_shapes, bare}
 use Rattle.std.proofs.Common.{sym, ap, ◌∙◌}
 
 -- The meaning of values as a source of the writer.
-abbrev pub value_meaning : Meaning (Bor Value) (Bor (List Value))
+abbrev pub value_meaning : SourceMeaning (Bor Value) (Bor (List Value))
     (Bor (BTreeMap (String Global) Value))
     (List (String Global × Value))
 value_meaning = record {
@@ -46,7 +46,7 @@ value_laws = record {
 
 -- The meaning of values whose objects are lists of pairs, whose invariants hold only if keys
 -- ascend.
-abbrev pub ast_meaning : Meaning (Bor JsonAst) (Bor (List JsonAst)) Pairs Pairs
+abbrev pub ast_meaning : SourceMeaning (Bor JsonAst) (Bor (List JsonAst)) Pairs Pairs
 ast_meaning = record {
   child = λ v s. shape_of (ast_tree v.now) ≡ s;
   child_size = λ v. size (ast_tree v.now) - 1;

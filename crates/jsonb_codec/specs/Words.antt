@@ -19,7 +19,7 @@ pub use Rattle.jsonb_codec.specs.Canon.{canon, document_of, shape_of}
 pub use Rattle.jsonb_codec.specs.Canonical.{AreWritten, IsCanonical, IsWritten}
 pub use Rattle.jsonb_codec.specs.Code.{code_of, scalar_code}
 pub use Rattle.jsonb_codec.specs.Contents.{AreChildren, AreContents, AreInside, AreMembers}
-pub use Rattle.jsonb_codec.specs.Contents.{FirstMember, Means}
+pub use Rattle.jsonb_codec.specs.Contents.{FirstMember, PartMeans}
 pub use Rattle.jsonb_codec.specs.Decoder.{input_of}
 pub use Rattle.jsonb_codec.specs.Depth.{size}
 pub use Rattle.jsonb_codec.specs.Doc.{Doc, IsDocument, Payload}
@@ -30,15 +30,16 @@ pub use Rattle.jsonb_codec.specs.Fault.{IsDecoderFault, IsTreeFault}
 pub use Rattle.jsonb_codec.specs.JEntry.{jentry_at, jentry_cmp, jentry_of}
 pub use Rattle.jsonb_codec.specs.PartSource.{part_laws, part_meaning}
 pub use Rattle.jsonb_codec.specs.Made.{MadeIfFit}
-pub use Rattle.jsonb_codec.specs.Parts.{IsFault, IsObject}
+pub use Rattle.jsonb_codec.specs.Parts.{IsFaultOf, IsObject}
 pub use Rattle.jsonb_codec.specs.Reread.{MeansAgain}
 pub use Rattle.jsonb_codec.specs.Rewriting.{ContainerParts, FirstChild}
-pub use Rattle.jsonb_codec.specs.Room.{AppendsBytes, HasRoom, IsAt}
-pub use Rattle.jsonb_codec.specs.Shape.{AllFit, FitsEntry, FitsInside, Shape, Shapes, body, count}
+pub use Rattle.jsonb_codec.specs.Room.{AppendsBytes, HasRoom, HasWordsAt}
+pub use Rattle.jsonb_codec.specs.Shape.{AllFit, FitsEntry, FitsInside, Shape, Shapes, body}
+pub use Rattle.jsonb_codec.specs.Shape.{shape_count}
 pub use Rattle.jsonb_codec.specs.Shape.{document, entries, key_entries, key_payloads, payload}
-pub use Rattle.jsonb_codec.specs.Shape.{payloads, type_of}
+pub use Rattle.jsonb_codec.specs.Shape.{payloads, shape_type}
 pub use Rattle.jsonb_codec.specs.Source.{LevelIs, LevelHeld, level_size}
 pub use Rattle.jsonb_codec.specs.Stored.{code_of_some, part_code, stored_laws, stored_meaning}
 pub use Rattle.jsonb_codec.specs.ValueSource.{ast_laws, ast_meaning, value_laws, value_meaning}
-pub use Rattle.jsonb_codec.specs.Word.{header_at, header_of, word, word_at}
+pub use Rattle.jsonb_codec.specs.WordBytes.{header_at, header_of, word, word_at}
 pub use Rattle.jsonb_codec.specs.Writing.{AreFew, CanGoOn, CanWrite, TakesLeft}

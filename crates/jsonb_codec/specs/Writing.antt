@@ -1,7 +1,8 @@
 -- When shapes can be written into reserved capacity.
 use Rattle.std.specs.Prelude.{◌≡◌, ◌<◌, ◌+◌, ◌^◌, ℕ, List, length}
 use Rattle.std.specs.Global.{Vec}
-use Rattle.jsonb_codec.specs.Shape.{Shape, Shapes, count, body, payload, FitsInside, FitsEntry}
+use Rattle.jsonb_codec.specs.Shape.{Shape, Shapes, shape_count, body, payload, FitsInside}
+use Rattle.jsonb_codec.specs.Shape.{FitsEntry}
 use Rattle.jsonb_codec.specs.Shape.{AllFit}
 use Rattle.jsonb_codec.specs.Room.{HasRoom}
 
@@ -14,7 +15,7 @@ pub record CanWrite (out : Vec ℕ) (s : Shape) (size : ℕ) : Type 0 where
 -- The children fit, and there are fewer than 2 ^ 29.
 pub record AreFew (ss : Shapes) : Type 0 where
   pub fit : AllFit ss
-  pub few : count ss < 2 ^ 29
+  pub few : shape_count ss < 2 ^ 29
 
 -- The child's length is `left` minus the lengths of its later siblings, and all of them fit.
 pub record TakesLeft {W : Type 0} (Are : W → Shapes → Type 0) (later : W) (s : Shape) (left : ℕ)

@@ -5,7 +5,7 @@ mod rewrite;
 ghost use Rattle.std.specs.Prelude.{◌↔◌, IsTrue};
 ghost use Rattle.jsonb_codec.specs.Words.{Tree, Trees, number, extension, extension_of, IsWritten};
 ghost use Rattle.jsonb_codec.specs.Words.{IsCanonical, AreWritten, IsDocument, Payload, bytes_of};
-ghost use Rattle.jsonb_codec.specs.Words.{Means, AreChildren};
+ghost use Rattle.jsonb_codec.specs.Words.{PartMeans, AreChildren};
 
 use crate::constants::{CONTAINER_TAG, EXTENSION_TAG, NUMBER_TAG};
 use crate::document::DocumentBytes;
@@ -45,7 +45,7 @@ fn is_written_document(bytes: &[u8]) -> bool
 // Whether all payloads in the part are those that are written.
 #[cycle(written)]
 fn is_written(part: Part<'_>) -> bool
-    ensures { (t : Tree) → Means part.entry t
+    ensures { (t : Tree) → PartMeans part.entry t
         → IsTrue result ↔ IsWritten t part.entry.payload.now }
 {
     match part.type_code {

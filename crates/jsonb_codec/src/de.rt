@@ -4,8 +4,10 @@
 ghost use Rattle.std.specs.Prelude.{◌≡◌, ◌≢◌, ◌⊎◌, ◌++◌, ◌∷◌, [], string_cmp, IfOk, IfErr, OnOk};
 ghost use Rattle.std.specs.Prelude.{OnErr};
 ghost use Rattle.jsonb_codec.specs.Words.{insert_entry, Value, extension_of, Tree, Trees, Pairs};
-ghost use Rattle.jsonb_codec.specs.Words.{extension, tree_of, items_view, pairs_view, Doc, IsFault};
-ghost use Rattle.jsonb_codec.specs.Words.{IsDocument, IsTreeFault, IsDecoderFault, Means, bytes_of};
+ghost use Rattle.jsonb_codec.specs.Words.{extension, tree_of, items_view, pairs_view, Doc};
+ghost use Rattle.jsonb_codec.specs.Words.{IsFaultOf};
+ghost use Rattle.jsonb_codec.specs.Words.{IsDocument, IsTreeFault, IsDecoderFault, PartMeans};
+ghost use Rattle.jsonb_codec.specs.Words.{bytes_of};
 ghost use Rattle.jsonb_codec.specs.Words.{AreChildren, AreMembers};
 
 use crate::constants::{CONTAINER_TAG, FALSE_TAG, NULL_TAG, NUMBER_TAG, STRING_TAG, TRUE_TAG};
@@ -14,10 +16,10 @@ use crate::parts::{Children, Contents, Members, Part};
 use jsonb_value::{Error, ExtensionValue, Number, Object, Value};
 use std::alloc::Global;
 use std::borrow::CowStr;
-use std::collections::BTreeMap;
-
 // The number of pairs in one leaf of a map.
 const LEAF_PAIRS: usize = 15;
+
+use std::collections::BTreeMap;
 
 /// Decodes a document. Strings and extension data in the value are borrowed from the bytes.
 ///
@@ -82,7 +84,7 @@ fn read<'a>(alloc: Global, faults: FaultTable, bytes: &'a [u8]) -> Result<Value<
     ensures ok { IfOk result (λ v. Doc bytes.now (tree_of v)) }
     ensures one_tree { IfOk result (λ v. (t : Tree) → Doc bytes.now t → tree_of v ≡ t) }
     ensures fault { IfErr result
-        (λ e. (e ≡ Error.OutOfMemory) ⊎ (IsFault faults e × (IsDocument bytes.now → ⊥))) }
+        (λ e. (e ≡ Error.OutOfMemory) ⊎ (IsFaultOf faults e × (IsDocument bytes.now → ⊥))) }
     ensures memory { IfErr result (λ e. e ≡ Error.OutOfMemory → IsDocument bytes.now) }
 {
     value_of_document(alloc, check(faults, bytes.len(), bytes)?)
@@ -108,7 +110,7 @@ pub fn value_of_document<'a>(alloc: Global, document: DocumentBytes<'a>) -> Resu
 #[inline(always)]
 fn push_part<'a>(alloc: Global, items: &mut Vec<Value<'a>>, part: Part<'a>) -> Result<(), Error>
     ensures ok { OnOk result ((v : Value) × ((items.new.items ≡ items.old.items ++ v ∷ [])
-        × ((t : Tree) → Means part.entry t → tree_of v ≡ t))) }
+        × ((t : Tree) → PartMeans part.entry t → tree_of v ≡ t))) }
     ensures memory { IfErr result (λ e. e ≡ Error.OutOfMemory) }
 {
     match part.type_code {
@@ -145,7 +147,7 @@ fn insert_part<'a>(
 ) -> Result<(), Error>
     ensures ok { OnOk result ((v : Value)
         × ((members.new.entries ≡ insert_entry string_cmp members.old.entries key v)
-        × ((t : Tree) → Means part.entry t → tree_of v ≡ t))) }
+        × ((t : Tree) → PartMeans part.entry t → tree_of v ≡ t))) }
     ensures memory { IfErr result (λ e. e ≡ Error.OutOfMemory) }
 {
     let value = if part.type_code == CONTAINER_TAG {
@@ -167,7 +169,7 @@ fn push_pair<'a>(
 ) -> Result<(), Error>
     ensures ok { OnOk result ((v : Value)
         × ((pairs.new.items ≡ pairs.old.items ++ (key, v) ∷ [])
-        × ((t : Tree) → Means part.entry t → tree_of v ≡ t))) }
+        × ((t : Tree) → PartMeans part.entry t → tree_of v ≡ t))) }
     ensures memory { IfErr result (λ e. e ≡ Error.OutOfMemory) }
 {
     let value = if part.type_code == CONTAINER_TAG {
@@ -195,7 +197,7 @@ fn insert_member<'a>(members: &mut Object<'a>, key: String, value: Value<'a>) ->
 #[cycle(value)]
 fn build_container<'a>(alloc: Global, part: Part<'a>) -> Result<Value<'a>, Error>
     requires { part.type_code ≡ CONTAINER_TAG }
-    ensures ok { IfOk result (λ v. (t : Tree) → Means part.entry t → tree_of v ≡ t) }
+    ensures ok { IfOk result (λ v. (t : Tree) → PartMeans part.entry t → tree_of v ≡ t) }
     ensures memory { IfErr result (λ e. e ≡ Error.OutOfMemory) }
 {
     match part.contents() {
@@ -264,7 +266,7 @@ fn build_many<'a>(alloc: Global, members: Members<'a>) -> Result<Object<'a>, Err
 #[inline(always)]
 fn build_scalar<'a>(part: Part<'a>) -> Value<'a>
     requires { part.type_code ≢ CONTAINER_TAG }
-    ensures { (t : Tree) → Means part.entry t → tree_of result ≡ t }
+    ensures { (t : Tree) → PartMeans part.entry t → tree_of result ≡ t }
 {
     match part.type_code {
         NULL_TAG => Value::Null,

@@ -81,13 +81,13 @@ pub struct Container<'a> {
 impl<'a> Part<'a> {
     ghost use Rattle.std.specs.Prelude.{◌+◌, ◌++◌};
     ghost use Rattle.jsonb_codec.specs.Words.{extension_of, Tree, number, text, extension, word};
-    ghost use Rattle.jsonb_codec.specs.Words.{Means, AreContents, AreInside, ContainerParts};
+    ghost use Rattle.jsonb_codec.specs.Words.{PartMeans, AreContents, AreInside, ContainerParts};
 
     /// The text of a string.
     #[inline(always)]
     pub fn text(self) -> &'a str
         requires { self.type_code ≡ STRING_TAG }
-        ensures means { (t : Tree) → Means self.entry t → t ≡ text result.now }
+        ensures means { (t : Tree) → PartMeans self.entry t → t ≡ text result.now }
         ensures bytes { result.now ≡ self.entry.payload.now }
     {
         unsafe { str::from_utf8_unchecked(self.payload) }
@@ -97,7 +97,7 @@ impl<'a> Part<'a> {
     #[inline(always)]
     pub fn number(self) -> Number
         requires { self.type_code ≡ NUMBER_TAG }
-        ensures { (t : Tree) → Means self.entry t → t ≡ number result }
+        ensures { (t : Tree) → PartMeans self.entry t → t ≡ number result }
     {
         let Ok(number) = Number::decode(self.payload) else {
             unreachable!();
@@ -109,7 +109,7 @@ impl<'a> Part<'a> {
     #[inline(always)]
     pub fn extension(self) -> ExtensionValue<'a>
         requires { self.type_code ≡ EXTENSION_TAG }
-        ensures { (t : Tree) → Means self.entry t → t ≡ extension (extension_of result) }
+        ensures { (t : Tree) → PartMeans self.entry t → t ≡ extension (extension_of result) }
     {
         let Ok(value) = ExtensionValue::decode(self.payload) else {
             unreachable!();
@@ -121,7 +121,7 @@ impl<'a> Part<'a> {
     #[inline(always)]
     pub fn contents(self) -> Contents<'a>
         requires { self.type_code ≡ CONTAINER_TAG }
-        ensures contents { (t : Tree) → Means self.entry t → AreContents result t }
+        ensures contents { (t : Tree) → PartMeans self.entry t → AreContents result t }
         ensures inside { AreInside (length self.entry.payload.now) result }
     {
         let Some(header) = split_header(self.payload) else {
@@ -141,7 +141,7 @@ impl<'a> Part<'a> {
     /// The header word of the array or object, and all its children.
     pub fn container(self) -> Container<'a>
         requires { self.type_code ≡ CONTAINER_TAG }
-        ensures opened { (t : Tree) → Means self.entry t
+        ensures opened { (t : Tree) → PartMeans self.entry t
             → ContainerParts t result.header result.children.entries.now
             result.children.payloads.now }
         ensures bytes { self.entry.payload.now ≡ word result.header

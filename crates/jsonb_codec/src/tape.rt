@@ -13,7 +13,7 @@ ghost use Rattle.jsonb_value.specs.Tree.{Tree};
 ghost use Rattle.jsonb_value.specs.WellFormed.{IsTree};
 ghost use Rattle.jsonb_value.specs.Reader.Resume.{Content, going, Adds};
 ghost use Rattle.jsonb_codec.specs.Canon.{canon, Fits};
-ghost use Rattle.jsonb_codec.specs.Tape.{ArrayIs, ContainerIs, Grows, IsMade, IsScalar};
+ghost use Rattle.jsonb_codec.specs.Tape.{TapeArrayIs, ContainerIs, Grows, IsMade, IsScalar};
 ghost use Rattle.jsonb_codec.specs.Tape.{tape_is};
 ghost use Rattle.jsonb_codec.specs.declared.tape.storage.Storage.{Storage};
 
@@ -100,7 +100,7 @@ impl<'a> Tape<'a> {
 
     // An array without items, with the memory of one that is closed.
     fn empty_array(&mut self) -> OpenArray
-        ensures empty { (storage : Storage) → ArrayIs storage result [] }
+        ensures empty { (storage : Storage) → TapeArrayIs storage result [] }
         ensures storage { self.new.storage ≡ self.old.storage }
         ensures innermost { self.new.innermost ≡ self.old.innermost }
         ensures outer { self.new.outer ≡ self.old.outer }

@@ -25,7 +25,7 @@ pub fn read_word(bytes: &[u8], index: usize) -> Result<u32, Error>
 }
 
 /// The bytes of a word, most significant first.
-#[tactic(auto, unfolding(crate::specs::Word::word))]
+#[tactic(auto, unfolding(crate::specs::WordBytes::word))]
 #[inline(always)]
 pub fn word_bytes(number: u32) -> [u8; 4]
     ensures { result ≡ word number }

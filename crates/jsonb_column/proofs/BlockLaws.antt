@@ -36,8 +36,8 @@ use Rattle.jsonb_column.specs.Limits.{IsLimit}
 use Rattle.jsonb_column.specs.Range.{has_member_within, is_member_within}
 use Rattle.jsonb_column.specs.Select.{has_member, is_member, most_reads, row_reads}
 use Rattle.jsonb_column.specs.Zone.{IsSpan}
-use Rattle.jsonb_column.specs.Zones.{AreBlocks, AreZones, HasTree, IsZone, block_reads}
-use Rattle.jsonb_column.specs.Zones.{is_skipped}
+use Rattle.jsonb_column.specs.SkippedBlocks.{AreBlocks, AreZones, HasTree, IsZone, block_reads}
+use Rattle.jsonb_column.specs.SkippedBlocks.{is_skipped}
 use Rattle.jsonb_column.specs.declared.zone.Zone.{Zone}
 use Rattle.jsonb_column.proofs.ZoneLaws.{skipped}
 

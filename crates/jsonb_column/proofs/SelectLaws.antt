@@ -12,11 +12,11 @@ use Rattle.jsonb_value.specs.Tree.{Pairs, no_pairs, pair, count, pair_count}
 use Rattle.jsonb_codec.specs.declared.constants.TheConstants.{ARRAY_CONTAINER_TAG}
 use Rattle.jsonb_codec.specs.declared.constants.TheConstants.{OBJECT_CONTAINER_TAG}
 use Rattle.jsonb_codec.specs.declared.constants.TheConstants.{SCALAR_CONTAINER_TAG, STRING_TAG}
-use Rattle.jsonb_codec.specs.Word.{word}
+use Rattle.jsonb_codec.specs.WordBytes.{word}
 use Rattle.jsonb_codec.specs.Doc.{Doc, IsDocument, Scalar, Keys, Values, type_of}
 use Rattle.jsonb.specs.Document.{document_bytes}
 use Rattle.jsonb.specs.declared.document.Document.{Document}
-use Rattle.jsonb.specs.Lookup.{pairs_in}
+use Rattle.jsonb.specs.Lookup.{pair_count_in}
 use Rattle.jsonb.proofs.DocumentLaws.{tree_in-is}
 use Rattle.jsonb_column.specs.Select.{most_reads, row_reads}
 
@@ -60,7 +60,7 @@ header_words b rest k parts =
 words-scalar : (t : Tree) (b : List ℕ) → Scalar t b → 1 ≤ length b
 words-scalar t b s = omega (arith, header_words b _ SCALAR_CONTAINER_TAG s.parts)
 
-words-Doc : (b : List ℕ) (t : Tree) → Doc b t → 2 * pairs_in t + 1 ≤ length b
+words-Doc : (b : List ℕ) (t : Tree) → Doc b t → 2 * pair_count_in t + 1 ≤ length b
 words-Doc b (object ps) (inl h) = absurd (h.0 refl)
 words-Doc b (object ps) (inr h) =
     let body = h.1.1.later in
@@ -90,12 +90,12 @@ words-Doc b (text v) (inr h) = absurd (omega (arith, h.0))
 words-Doc b (extension v) (inr h) = absurd (omega (arith, h.0))
 
 pub words-row : (raw row : List ℕ) (t : Tree) → Doc raw t → raw ≡ row
-    → 2 * pairs_in t + 1 ≤ length row
+    → 2 * pair_count_in t + 1 ≤ length row
 words-row raw row t means is = omega (arith, words-Doc raw t means, ap length is)
 
 row_reads-few : (row : List ℕ) → IsDocument row → row_reads row ≤ length row
 row_reads-few row (t, means) =
-    omega (arith, words-row row row t means refl, ap pairs_in (tree_in-is row t means))
+    omega (arith, words-row row row t means refl, ap pair_count_in (tree_in-is row t means))
 
 pub most_reads-few : (rows : List (List ℕ)) → All IsDocument rows
     → most_reads rows ≤ length (concat rows)

@@ -28,7 +28,7 @@ use Rattle.jsonb_column.specs.Keys.{block_keys, key_start}
 use Rattle.jsonb_column.specs.Limits.{IsLimit}
 use Rattle.jsonb_column.specs.Range.{has_member_within, is_from, is_member_within, is_to}
 use Rattle.jsonb_column.specs.Zone.{IsSpan}
-use Rattle.jsonb_column.specs.Zones.{HasTree, is_skipped, starts_above, starts_below}
+use Rattle.jsonb_column.specs.SkippedBlocks.{HasTree, is_skipped, starts_above, starts_below}
 use Rattle.jsonb_column.specs.declared.zone.Zone.{Zone}
 use Rattle.jsonb_column.proofs.OrderLaws.{is_lt-Less}
 use Rattle.jsonb_column.proofs.OrderSteps.{at_most_below, below_at_most, turned_above, turned_below}

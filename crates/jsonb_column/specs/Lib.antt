@@ -9,4 +9,4 @@ pub mod Storage
 pub mod Words
 pub mod Zone
 pub mod ZoneMap
-pub mod Zones
+pub mod SkippedBlocks

@@ -5,7 +5,7 @@ use Rattle.std.specs.List.{sum_by}
 use Rattle.jsonb_value.specs.Tree.{Tree}
 use Rattle.jsonb_value.specs.TreeOrder.{tree_cmp}
 use Rattle.jsonb.specs.Document.{tree_in}
-use Rattle.jsonb.specs.Lookup.{pairs_in}
+use Rattle.jsonb.specs.Lookup.{pair_count_in}
 use Rattle.jsonb.specs.Node.{value_of_key}
 
 -- There is a member, and it equals the value.
@@ -19,7 +19,7 @@ has_member name value row = is_member value (value_of_key name (tree_in row))
 
 -- A bound on the words read from a row: its header, and two for each pair.
 abbrev pub row_reads : List ℕ → ℕ
-row_reads row = 2 * pairs_in (tree_in row) + 1
+row_reads row = 2 * pair_count_in (tree_in row) + 1
 
 -- A bound on the words read from all rows.
 abbrev pub most_reads : List (List ℕ) → ℕ

@@ -20,4 +20,4 @@ pub use Rattle.jsonb_column.specs.SortOrder.{is_equal, is_row_between, row_order
 pub use Rattle.jsonb_column.specs.Storage.{AreStoredRows, HasFaultyRow, IsCut, IsRow, row_bytes}
 pub use Rattle.jsonb_column.specs.Storage.{storage}
 pub use Rattle.jsonb_column.specs.Zone.{IsSpan}
-pub use Rattle.jsonb_column.specs.Zones.{is_skipped, starts_above, starts_below}
+pub use Rattle.jsonb_column.specs.SkippedBlocks.{is_skipped, starts_above, starts_below}

@@ -1,6 +1,6 @@
 -- What a zone map is of.
 use Rattle.std.specs.Prelude.{ℕ, List}
-use Rattle.jsonb_column.specs.declared.zones.Zones.{Zones}
+use Rattle.jsonb_column.specs.declared.zone_map.Zones.{Zones}
 
 -- The rows of the column.
 abbrev pub zones_rows : Zones → List (List ℕ)

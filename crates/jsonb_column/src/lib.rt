@@ -12,8 +12,8 @@ mod storage;
 #[cfg(test)]
 mod tests;
 mod zone;
-mod zones;
+mod zone_map;
 
 pub use column::{Column, Rows};
 pub use sorted::Sorted;
-pub use zones::Zones;
+pub use zone_map::Zones;

@@ -20,7 +20,7 @@ use Rattle.jsonb_column.specs.SortOrder.{is_row_between}
 use Rattle.jsonb_column.specs.Storage.{AreStoredRows}
 use Rattle.jsonb.proofs.StableLaws.{filter-map}
 use Rattle.jsonb_column.proofs.StorageLaws.{one_stored, not_cut, not_faulty, cut_or_faulty}
-use Rattle.answer_lines.specs.Session.{AreAnswers, IsRefused}
+use Rattle.answer_lines.specs.Session.{AreAnswers, IsNoMemoryReply}
 use Rattle.answer_lines.proofs.OneOutput as session
 use Rattle.jsonb_column_cli.specs.declared.answer.Refusal.{Refusal}
 use Rattle.jsonb_column_cli.specs.declared.answer.Refusal.TheVariants.{BadCommand, BadHex, NoRow}
@@ -306,7 +306,8 @@ one_line rows x y line o p (inr first) (inr second) known also =
     (ap reply_line (first.1.0 ∙ sym second.1.0), first.1.1 ∙ sym second.1.1)
 
 one_answer : (rows x y : Rows) (line a b : List ℕ) → AnswersLine rows line a x
-    → AnswersLine rows line b y → (IsRefused a → ⊥) → (IsRefused b → ⊥) → (a ≡ b) × (x ≡ y)
+    → AnswersLine rows line b y → (IsNoMemoryReply a → ⊥) → (IsNoMemoryReply b → ⊥)
+    → (a ≡ b) × (x ≡ y)
 one_answer rows x y line a b first second known also =
     let one = one_line rows x y line first.outcome second.outcome first.is_outcome
     second.is_outcome (λ is. known (first.text ∙ ap reply_line is))

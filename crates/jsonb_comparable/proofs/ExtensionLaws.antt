@@ -12,7 +12,7 @@ use Rattle.std.specs.declared.cmp.Ordering.TheVariants.{Equal}
 use Rattle.std.specs.Cmp.Lexicographic.{slice_cmp}
 use lib.Signed.{mag}
 use Rattle.std.specs.Ordering.{nat_cmp, int_cmp, ordering_then}
-use Rattle.jsonb_value.specs.Order.{kind_of, extension_cmp}
+use Rattle.jsonb_value.specs.Order.{extension_kind, extension_cmp}
 use Rattle.jsonb_value.specs.Tree.{Extension, binary, date, timestamp, timestamp_tz, interval}
 use Rattle.jsonb_value.specs.Tree.{opaque}
 use Rattle.jsonb_value.specs.WellFormed.{IsExtension}
@@ -110,5 +110,6 @@ extension_key_decides (opaque tag a) (opaque mark b) h g =
     (first_by tag mark (escaped a) (escaped b) (slice_cmp nat_cmp a b) (escaped_decides a b))
     (grind (arith, then-Equal, cmp_positive)))
 extension_key_decides d e h g =
-    first_as (kind_of d) (kind_of e) (16 + kind_of d) (16 + kind_of e) _ _ Equal
+    first_as (extension_kind d) (extension_kind e) (16 + extension_kind d) (16 + extension_kind e)
+    _ _ Equal
     (λ x. omega arith) (λ x. omega arith) (λ x. absurd (omega arith))

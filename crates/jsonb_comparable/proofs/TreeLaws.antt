@@ -4,7 +4,7 @@ use Rattle.std.specs.Prelude.{ℤ, pos, negsuc, suc, true, false}
 use Rattle.std.specs.declared.cmp.Ordering.TheVariants.{Less, Equal, Greater}
 use Rattle.std.specs.Ordering.{nat_cmp, ordering_then}
 use Rattle.std.specs.Cmp.Lexicographic.{slice_cmp}
-use Rattle.jsonb_value.specs.Order.{kind_of, fraction_of}
+use Rattle.jsonb_value.specs.Order.{extension_kind, fraction_of}
 use Rattle.jsonb_value.specs.Tree.{Tree, null, boolean, number, text, extension, array, object}
 use Rattle.jsonb_value.specs.Tree.{Trees, no_trees, tree, Pairs, no_pairs, pair}
 use Rattle.jsonb_value.specs.Tree.{Extension, binary, date, timestamp, timestamp_tz, interval}
@@ -67,7 +67,7 @@ integer_begins (negsuc n) =
       at_most = omega arith;
     }
 
-kind_at_most : (e : Extension) → kind_of e ≤ 5
+kind_at_most : (e : Extension) → extension_kind e ≤ 5
 kind_at_most (binary a) = omega arith
 kind_at_most (date a) = omega arith
 kind_at_most (timestamp a) = omega arith
@@ -79,7 +79,7 @@ begins : (t : Tree) → Begins (least_first t) (greatest_first t) (tree_key t)
 unfolding tree_key
 begins (extension e) =
     record {
-      first = 16 + kind_of e;
+      first = 16 + extension_kind e;
       others = fields_key e;
       is = refl;
       at_least = omega arith;

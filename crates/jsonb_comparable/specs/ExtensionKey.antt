@@ -1,7 +1,7 @@
 -- The keys of extension values.
 use Rattle.std.specs.Prelude.{ℕ, ℤ, pos, negsuc, suc, ◌+◌, ◌-◌, ◌^◌, List, ◌∷◌, ◌++◌}
 use Rattle.std.specs.Int.{w32, w64, to_be_bytes}
-use Rattle.jsonb_value.specs.Order.{kind_of}
+use Rattle.jsonb_value.specs.Order.{extension_kind}
 use Rattle.jsonb_value.specs.Tree.{Extension, binary, date, timestamp, timestamp_tz, interval}
 use Rattle.jsonb_value.specs.Tree.{opaque}
 use Rattle.jsonb_comparable.specs.Escaped.{escaped}
@@ -30,4 +30,4 @@ fields_key (opaque tag bytes) = tag ∷ escaped bytes
 
 -- 16 plus the kind's number, and the fields
 abbrev pub extension_key : Extension → List ℕ
-extension_key e = (16 + kind_of e) ∷ fields_key e
+extension_key e = (16 + extension_kind e) ∷ fields_key e

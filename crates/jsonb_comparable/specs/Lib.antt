@@ -1,5 +1,5 @@
 pub mod Sink
-pub mod Sinks
+pub mod SinkProofs
 pub mod Escaped
 pub mod NumberKey
 pub mod SplitDigits

@@ -15,5 +15,5 @@ abbrev pub length_64 : List ℕ → ℕ
 length_64 bytes = min (length bytes) (2 ^ 64 - 1)
 
 -- The bytes are counted, up to the greatest length.
-abbrev pub Counts : KeyLength → KeyLength → List ℕ → Type 0
-Counts old new bytes = new.len ≡ min (old.len + length bytes) (2 ^ 64 - 1)
+abbrev pub CountsBytes : KeyLength → KeyLength → List ℕ → Type 0
+CountsBytes old new bytes = new.len ≡ min (old.len + length bytes) (2 ^ 64 - 1)

@@ -7,7 +7,7 @@ pub use Rattle.std.specs.Iterator.{YieldsFirstBy}
 pub use Rattle.std.specs.Ordering.{nat_cmp, ordering_then}
 pub use Rattle.jsonb_value.specs.ExtCode.{extension_of}
 pub use Rattle.jsonb_value.specs.Meaning.{document}
-pub use Rattle.jsonb_value.specs.Order.{kind_of}
+pub use Rattle.jsonb_value.specs.Order.{extension_kind}
 pub use Rattle.jsonb_value.specs.Tree.{Tree}
 pub use Rattle.jsonb_value.specs.TreeOrder.{tree_cmp}
 pub use Rattle.jsonb_value.specs.Value.{trees_of}
@@ -27,8 +27,8 @@ pub use Rattle.jsonb_comparable.specs.ExtensionKey.{biased, biased_32, biased_64
 pub use Rattle.jsonb_comparable.specs.ExtensionKey.{fields_key}
 pub use Rattle.jsonb_comparable.specs.KeyLaws.{KeyLaws}
 pub use Rattle.jsonb_comparable.specs.NumberKey.{count_bytes, decimal_key, natural_key, number_key}
-pub use Rattle.jsonb_comparable.specs.Sink.{Counts, SinkLaws, length_64}
-pub use Rattle.jsonb_comparable.specs.Sinks.{length_laws, vec_laws}
+pub use Rattle.jsonb_comparable.specs.Sink.{CountsBytes, SinkLaws, length_64}
+pub use Rattle.jsonb_comparable.specs.SinkProofs.{length_laws, vec_laws}
 pub use Rattle.jsonb_comparable.specs.SplitDigits.{digits_value, signed, split_pairs}
 pub use Rattle.jsonb_comparable.specs.TreeKey.{meaning_key, member_key, pairs_key}
 pub use Rattle.jsonb_comparable.specs.TreeKey.{tree_key, trees_key}

@@ -1,7 +1,8 @@
 //! The keys of extension values.
 
 ghost use Rattle.std.specs.Prelude.{◌≡◌, ◌+◌, ◌^◌, ◌++◌};
-ghost use Rattle.jsonb_comparable.specs.Words.{extension_of, kind_of, biased, biased_32, biased_64};
+ghost use Rattle.jsonb_comparable.specs.Words.{extension_of, extension_kind, biased, biased_32};
+ghost use Rattle.jsonb_comparable.specs.Words.{biased_64};
 ghost use Rattle.jsonb_comparable.specs.Words.{fields_key, extension_key};
 
 use crate::escape::{append_escaped, append_marked};
@@ -60,7 +61,7 @@ fn append_interval<S: Sink>(months: i32, days: i32, micros: i64, sink: &mut S)
 
 // The first byte of a value's key.
 fn first_byte(value: ExtensionValue<'_>) -> u8
-    ensures { result ≡ 16 + kind_of (extension_of value.entry) }
+    ensures { result ≡ 16 + extension_kind (extension_of value.entry) }
 {
     match value {
         ExtensionValue::Binary(_) => 16,

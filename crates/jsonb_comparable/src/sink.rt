@@ -1,7 +1,8 @@
 //! Where the bytes of a key go: into a buffer, or into a count.
 
 ghost use Rattle.std.specs.Prelude.{ℕ, List, ⊤};
-ghost use Rattle.jsonb_comparable.specs.Words.{HasRoom, AppendsBytes, SinkLaws, Counts, vec_laws};
+ghost use Rattle.jsonb_comparable.specs.Words.{HasRoom, AppendsBytes, SinkLaws, CountsBytes};
+ghost use Rattle.jsonb_comparable.specs.Words.{vec_laws};
 ghost use Rattle.jsonb_comparable.specs.Words.{length_laws};
 
 /// Takes the bytes of a key, whose length is known before.
@@ -27,7 +28,7 @@ pub struct KeyLength {
 impl Sink for KeyLength {
     ghost room = { λ length bytes. ⊤ };
 
-    ghost appends = { Counts };
+    ghost appends = { CountsBytes };
 
     ghost laws = { length_laws };
 

@@ -11,7 +11,7 @@ use Rattle.jsonb_codec.specs.declared.parts.Part.{Part}
 use Rattle.jsonb_codec.specs.Contents.{AreChildren, AreMembers}
 use Rattle.jsonb_codec.specs.Parts.{IsObject}
 use Rattle.jsonb_codec.specs.Rewriting.{FirstChild}
-use Rattle.jsonb_codec.specs.Shape.{Shapes, count}
+use Rattle.jsonb_codec.specs.Shape.{Shapes, shape_count}
 use Rattle.jsonb_codec.specs.Source.{AreSplit}
 use Rattle.jsonb_codec.specs.Canon.{items_shapes, pairs_shapes}
 use Rattle.jsonb_codec.specs.PartSource as parts
@@ -70,20 +70,24 @@ object_chosen x ps h n = (
 
 pub items_number : (x : ChosenItems) (n : ℕ)
     → ((ts : Trees) → AreChosenItems x ts → n ≡ trees.count ts)
-    → (ss : Shapes) → ChosenItemsAre x ss → n ≡ count ss
+    → (ss : Shapes) → ChosenItemsAre x ss → n ≡ shape_count ss
 items_number x n first ss h =
-    first h.0.0 h.0.1 ∙ sym (ap count (h.1 h.0.0 h.0.1) ∙ count-items_shapes h.0.0)
+    first h.0.0 h.0.1 ∙ sym (ap shape_count (h.1 h.0.0 h.0.1) ∙ count-items_shapes h.0.0)
 
-pub members_number : (x : ChosenMembers) (ss : Shapes) → ChosenMembersAre x ss → x.count ≡ count ss
+pub members_number : (x : ChosenMembers) (ss : Shapes) → ChosenMembersAre x ss
+    → x.count ≡ shape_count ss
 members_number x ss h =
-    h.0.1.1 ∙ sym (ap count (h.1 h.0.0 h.0.1) ∙ count-pairs_shapes (kept_pairs x.choice h.0.0))
+    h.0.1.1
+    ∙ sym (ap shape_count (h.1 h.0.0 h.0.1) ∙ count-pairs_shapes (kept_pairs x.choice h.0.0))
 
-pub object_number : (x : ChosenObject) (ss : Shapes) → ChosenObjectIs x ss → x.count ≡ count ss
+pub object_number : (x : ChosenObject) (ss : Shapes) → ChosenObjectIs x ss
+    → x.count ≡ shape_count ss
 object_number x ss h =
-    h.0.1.1 ∙ sym (ap count (h.1 h.0.0 h.0.1) ∙ count-pairs_shapes (kept_pairs x.choice h.0.0))
+    h.0.1.1
+    ∙ sym (ap shape_count (h.1 h.0.0 h.0.1) ∙ count-pairs_shapes (kept_pairs x.choice h.0.0))
 
 pub object_lifted : (x : Object) (choice : Choice) → choice.names.now ≡ []
-    → choice.which ≡ Others → (ss : Shapes) → parts.ObjectIs x ss
+    → choice.which ≡ Others → (ss : Shapes) → parts.PartObjectIs x ss
     → ChosenObjectIs (record { object = x; choice = choice; count = x.count }) ss
 object_lifted x choice e f ss h = (
   (h.0.0, (h.0.1, sym h.0.1.0 ∙ ap pair_count (sym (kept_all choice h.0.0 e f)))),

@@ -19,10 +19,10 @@ use Rattle.jsonb_codec.specs.declared.parts.Object.{Object}
 use Rattle.jsonb_codec.specs.declared.parts.Part.{Part}
 use Rattle.jsonb_codec.specs.Doc.{type_of}
 use Rattle.jsonb_codec.specs.Shape as shapes
-use Rattle.jsonb_codec.specs.Contents.{Means, AreChildren, AreMembers, FirstMember}
+use Rattle.jsonb_codec.specs.Contents.{PartMeans, AreChildren, AreMembers, FirstMember}
 use Rattle.jsonb_codec.specs.Parts.{IsObject}
 use Rattle.jsonb_codec.specs.Rewriting.{FirstChild}
-use Rattle.jsonb_codec.specs.Shape.{Shape, Shapes, no_shapes, shape, count}
+use Rattle.jsonb_codec.specs.Shape.{Shape, Shapes, no_shapes, shape, shape_count}
 use Rattle.jsonb_codec.specs.Source.{AreSplit}
 use Rattle.jsonb_codec.specs.Canon.{shape_of, items_shapes, pairs_shapes}
 use Rattle.jsonb_codec.specs.PartSource.{PartIs, Shaped}
@@ -105,7 +105,7 @@ count_pairs key (before v) (suc n) no_pairs w = absurd (omega (arith, w))
 count_pairs key (replaced f) (suc n) no_pairs w = absurd (omega (arith, w))
 count_pairs key removed (suc n) no_pairs w = absurd (omega (arith, w))
 
-pub part_is : (part : Part) (t : Tree) → Means part t → PartIs part (shape_of t)
+pub part_is : (part : Part) (t : Tree) → PartMeans part t → PartIs part (shape_of t)
 part_is part t h =
     ((t, h), λ u k. ap shape_of (same_tree t u (h.0 ∙ sym k.0) _ h.1 k.1))
 
@@ -115,7 +115,7 @@ part_tree_is part =
     let (t, h) = known_part _ _ part.fact in
     rw (entry_tree-is part.type_code part.payload.now t h) (part_is part t h)
 
-pub along_is : (part : Part) (plan : Plan) (t : Tree) → Means part t
+pub along_is : (part : Part) (plan : Plan) (t : Tree) → PartMeans part t
     → EditedIs (Along part plan) (shape_of (edited_along plan t))
 along_is part plan t h = (
   (t, h),
@@ -150,7 +150,7 @@ split_as child rest s us ss e is are =
     (refl, (is, are))
 
 pub items_count : (x : EditedItems) (ss : Shapes) → EditedItemsAre x ss
-    → count_done (here_of x.what) (length x.items.entries.now / 4) ≡ count ss
+    → count_done (here_of x.what) (length x.items.entries.now / 4) ≡ shape_count ss
 items_count x ss h =
     let ts = h.0.0 in
     let long : length x.items.entries.now / 4 ≡ trees.count ts =
@@ -325,7 +325,7 @@ object_members x ms are ss h =
     (members_by rest k.0 (are k.0 k.1.0) k.1.1)
 
 pub members_left_count : (x : EditedMembers) (ss : Shapes) → EditedMembersAre x ss
-    → count_done (here_of x.what) (length x.members.values.entries.now / 4) ≡ count ss
+    → count_done (here_of x.what) (length x.members.values.entries.now / 4) ≡ shape_count ss
 members_left_count x ss h =
     let ps = h.0.0 in
     let long : length x.members.values.entries.now / 4 ≡ pair_count ps = omega (
@@ -341,7 +341,7 @@ members_left_count x ss h =
     ) refl
 
 pub object_count_done : (x : EditedObject) (ss : Shapes) → EditedObjectIs x ss
-    → count_done (here_of x.what) x.object.count ≡ count ss
+    → count_done (here_of x.what) x.object.count ≡ shape_count ss
 object_count_done x ss h =
     let ps = h.0.0 in
     rw (
@@ -682,7 +682,7 @@ pub item_count : (items : declared.Children) (ts : Trees) → AreChildren ts ite
 item_count items ts h = omega (arith, length-Children ts _ _ h)
 
 -- The tree of a document's part is the document's.
-pub part_tree_of : (part : Part) (t : Tree) → Means part t → part_tree part ≡ t
+pub part_tree_of : (part : Part) (t : Tree) → PartMeans part t → part_tree part ≡ t
 part_tree_of part t h = entry_tree-is part.type_code part.payload.now t h
 
 -- At the end of a path of no step.
@@ -729,15 +729,15 @@ before_end (s ∷ path) v =
     let some : (length (s ∷ path) == 0) ≡ false = ne_eqb _ _ (λ e. omega (arith, e)) in
     rw some refl
 
-pub missing_put : (next : Bool) (path : List Step) (v : Tree) (here : Here)
+pub not_put : (next : Bool) (path : List Step) (v : Tree) (here : Here)
     → here ≡ before_if (length path == 0) (wrapped path v)
     → here ≡ here_missing next path (put v)
-missing_put next path v here e = e ∙ before_end path v
+not_put next path v here e = e ∙ before_end path v
 
-pub missing_insert : (next : Bool) (path : List Step) (v : Tree) (here : Here)
+pub not_inserted : (next : Bool) (path : List Step) (v : Tree) (here : Here)
     → here ≡ before_if (length path == 0) (wrapped path v)
     → here ≡ here_missing next path (insert v)
-missing_insert next path v here e = e ∙ before_end path v
+not_inserted next path v here e = e ∙ before_end path v
 
 pub last_insert : (items next : Bool) (path : List Step) (v : Tree) (f : Tree → Tree)
     → length path ≡ 0

@@ -11,7 +11,7 @@ use Rattle.jsonb_codec.specs.declared.parts.Part.{Part}
 use Rattle.jsonb_codec.specs.Contents.{AreMembers}
 use Rattle.jsonb_codec.specs.Parts.{IsObject}
 use Rattle.jsonb_codec.specs.Shape as shapes
-use Rattle.jsonb_codec.specs.Shape.{Shape, Shapes, no_shapes, shape, count}
+use Rattle.jsonb_codec.specs.Shape.{Shape, Shapes, no_shapes, shape, shape_count}
 use Rattle.jsonb_codec.specs.Source.{AreSplit}
 use Rattle.jsonb_codec.specs.Canon.{shape_of, items_shapes, pairs_shapes}
 use Rattle.jsonb_codec.specs.PartSource as parts
@@ -81,27 +81,29 @@ object_joined x ps qs h k n = (
       ∙ ap (λ y. pairs_shapes (merged p.0 y)) (maybe_object_unique x.right qs p.1 k g.0.1),
 )
 
-pub members_number : (x : JoinedMembers) (ss : Shapes) → JoinedMembersAre x ss → x.count ≡ count ss
+pub members_number : (x : JoinedMembers) (ss : Shapes) → JoinedMembersAre x ss
+    → x.count ≡ shape_count ss
 members_number x ss h =
-    h.0.1.1 ∙ sym (ap count (h.1 h.0.0 h.0.1) ∙ count-pairs_shapes (merged h.0.0.0 h.0.0.1))
+    h.0.1.1 ∙ sym (ap shape_count (h.1 h.0.0 h.0.1) ∙ count-pairs_shapes (merged h.0.0.0 h.0.0.1))
 
-pub object_number : (x : JoinedObject) (ss : Shapes) → JoinedObjectIs x ss → x.count ≡ count ss
+pub object_number : (x : JoinedObject) (ss : Shapes) → JoinedObjectIs x ss
+    → x.count ≡ shape_count ss
 object_number x ss h =
-    h.0.1.1 ∙ sym (ap count (h.1 h.0.0 h.0.1) ∙ count-pairs_shapes (merged h.0.0.0 h.0.0.1))
+    h.0.1.1 ∙ sym (ap shape_count (h.1 h.0.0 h.0.1) ∙ count-pairs_shapes (merged h.0.0.0 h.0.0.1))
 
 pub items_number : (x : JoinedItems) (m n : ℕ) → ((ts : Trees) → RunIs x.first ts
     → m ≡ trees.count ts) → ((ts : Trees) → RunIs x.second ts → n ≡ trees.count ts)
-    → (ss : Shapes) → JoinedItemsAre x ss → m + n ≡ count ss
+    → (ss : Shapes) → JoinedItemsAre x ss → m + n ≡ shape_count ss
 items_number x m n first second ss h = omega (
   arith,
   first h.0.0.0 h.0.1.0,
   second h.0.0.1 h.0.1.1,
   count_append h.0.0.0 h.0.0.1,
   count-items_shapes (append_trees h.0.0.0 h.0.0.1),
-  ap count (h.1 h.0.0 h.0.1),
+  ap shape_count (h.1 h.0.0 h.0.1),
 )
 
-pub array_lifted : (items : declared.Children) (ss : Shapes) → parts.ItemsAre items ss
+pub array_lifted : (items : declared.Children) (ss : Shapes) → parts.PartItemsAre items ss
     → JoinedItemsAre (record { first = runs.Many items; second = runs.Nothing }) ss
 array_lifted items ss h = (
   ((h.0.0, no_trees), (h.0.1, refl)),
@@ -109,7 +111,7 @@ array_lifted items ss h = (
       ∙ ap items_shapes (sym (append_none p.0) ∙ ap (λ y. append_trees p.0 y) (sym g.1)),
 )
 
-pub object_lifted : (x : Object) (ss : Shapes) → parts.ObjectIs x ss
+pub object_lifted : (x : Object) (ss : Shapes) → parts.PartObjectIs x ss
     → JoinedObjectIs (record { left = x; right = None; count = x.count }) ss
 object_lifted x ss h = (
   ((h.0.0, no_pairs), ((h.0.1, refl), sym h.0.1.0)),

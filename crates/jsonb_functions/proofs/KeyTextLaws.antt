@@ -13,7 +13,7 @@ use Rattle.jsonb_codec.specs.Doc.{Children, IsKey, Keys, One, type_of}
 use Rattle.jsonb_codec.specs.Parts.{IsObject}
 use Rattle.jsonb_codec.specs.PartSource as parts
 use Rattle.jsonb_codec.specs.Shape as shapes
-use Rattle.jsonb_codec.specs.Shape.{AllFit, Shapes, count}
+use Rattle.jsonb_codec.specs.Shape.{AllFit, Shapes, shape_count}
 use Rattle.jsonb_codec.proofs.TreeShapes.{count-items_shapes}
 use Rattle.jsonb_codec.proofs.Unique.{Children-unique}
 use Rattle.jsonb_value.specs.Tree as trees
@@ -36,7 +36,7 @@ texts_fit (pair k t ps) e p h =
 
 pub keys_level : (members : Members) (ps : Pairs) → AreMembers ps members
     → (ss : Shapes) × ((shape_of (array (key_texts ps)) ≡ shapes.array ss)
-    × parts.ItemsAre members.keys ss)
+    × parts.PartItemsAre members.keys ss)
 keys_level members ps h =
     let are : AreChildren (key_texts ps) members.keys =
     subst (λ R. R members.keys.entries.now members.keys.payloads.now) (texts_are ps) h.1.0 in (

@@ -8,11 +8,11 @@ use Rattle.jsonb_codec.specs.declared.parts.Children as declared
 use Rattle.jsonb_codec.specs.declared.parts.Members.{Members}
 use Rattle.jsonb_codec.specs.declared.parts.Object.{Object}
 use Rattle.jsonb_codec.specs.declared.parts.Part.{Part}
-use Rattle.jsonb_codec.specs.Contents.{Means, AreChildren}
+use Rattle.jsonb_codec.specs.Contents.{PartMeans, AreChildren}
 use Rattle.jsonb_codec.specs.Parts.{IsObject}
 use Rattle.jsonb_codec.specs.Rewriting.{FirstChild}
 use Rattle.jsonb_codec.specs.Shape as shapes
-use Rattle.jsonb_codec.specs.Shape.{Shape, Shapes, count}
+use Rattle.jsonb_codec.specs.Shape.{Shape, Shapes, shape_count}
 use Rattle.jsonb_codec.specs.Source.{AreSplit}
 use Rattle.jsonb_codec.specs.Canon.{shape_of, items_shapes, pairs_shapes}
 use Rattle.jsonb_codec.specs.PartSource as parts
@@ -31,7 +31,7 @@ use Rattle.jsonb_functions.specs.PatchSource.{MaybeMeans, PatchedMeans, PatchedI
 use Rattle.jsonb_functions.specs.PatchSource.{PatchedObjectIs, PatchedMembersAre, FirstPatched}
 use Rattle.jsonb_functions.proofs.JoinShapes.{maybe_unique, maybe_object_unique, one_fewer}
 
-part_unique : (part : Part) (t u : Tree) → Means part t → Means part u → t ≡ u
+part_unique : (part : Part) (t u : Tree) → PartMeans part t → PartMeans part u → t ≡ u
 part_unique part t u h k = same_tree t u (h.0 ∙ sym k.0) _ h.1 k.1
 
 some_unique : (part : Option Part) (t u : Tree) → MaybeMeans part t → MaybeMeans part u → t ≡ u
@@ -71,18 +71,19 @@ object_is x ps qs h k n = (
       (maybe_object_unique x.patch qs p.1 k g.0.1),
 )
 
-pub object_number : (x : PatchedObject) (ss : Shapes) → PatchedObjectIs x ss → x.count ≡ count ss
+pub object_number : (x : PatchedObject) (ss : Shapes) → PatchedObjectIs x ss
+    → x.count ≡ shape_count ss
 object_number x ss h =
     h.0.1.1
-    ∙ sym (ap count (h.1 h.0.0 h.0.1) ∙ count-pairs_shapes (pairs_patched h.0.0.0 h.0.0.1))
+    ∙ sym (ap shape_count (h.1 h.0.0 h.0.1) ∙ count-pairs_shapes (pairs_patched h.0.0.0 h.0.0.1))
 
 pub members_number : (x : PatchedMembers) (ss : Shapes) → PatchedMembersAre x ss
-    → x.count ≡ count ss
+    → x.count ≡ shape_count ss
 members_number x ss h =
     h.0.1.1
-    ∙ sym (ap count (h.1 h.0.0 h.0.1) ∙ count-pairs_shapes (pairs_patched h.0.0.0 h.0.0.1))
+    ∙ sym (ap shape_count (h.1 h.0.0 h.0.1) ∙ count-pairs_shapes (pairs_patched h.0.0.0 h.0.0.1))
 
-pub object_lifted : (x : Object) (ss : Shapes) → parts.ObjectIs x ss
+pub object_lifted : (x : Object) (ss : Shapes) → parts.PartObjectIs x ss
     → PatchedObjectIs (record { target = Some x; patch = None; count = x.count }) ss
 object_lifted x ss h = (
   ((h.0.0, no_pairs), ((h.0.1, refl), sym h.0.1.0)),
@@ -103,11 +104,11 @@ members_of_object x left target patch ss h =
 pub item_split : (part : Part) (items later : declared.Children)
     → ((ts : Trees) → AreChildren ts items
     → FirstChild ts part.type_code part.payload.now later.entries.now later.payloads.now)
-    → (ss : Shapes) → parts.ItemsAre items ss
-    → AreSplit (λ key. key ≡ []) PatchedIs parts.ItemsAre (children.Kept part, later) ss
+    → (ss : Shapes) → parts.PartItemsAre items ss
+    → AreSplit (λ key. key ≡ []) PatchedIs parts.PartItemsAre (children.Kept part, later) ss
 item_split part items later first ss h =
     let f = first h.0.0 h.0.1 in
-    subst (AreSplit (λ key. key ≡ []) PatchedIs parts.ItemsAre (children.Kept part, later))
+    subst (AreSplit (λ key. key ≡ []) PatchedIs parts.PartItemsAre (children.Kept part, later))
     (sym (h.1 h.0.0 h.0.1 ∙ ap items_shapes f.are)) (
       refl,
       (

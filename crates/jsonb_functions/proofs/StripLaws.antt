@@ -9,11 +9,11 @@ use Rattle.jsonb_codec.specs.declared.parts.Member.{Member}
 use Rattle.jsonb_codec.specs.declared.parts.Members.{Members}
 use Rattle.jsonb_codec.specs.declared.parts.Part.{Part}
 use Rattle.jsonb_codec.specs.declared.constants.TheConstants.{NULL_TAG, CONTAINER_TAG}
-use Rattle.jsonb_codec.specs.Contents.{Means, AreChildren, AreMembers}
+use Rattle.jsonb_codec.specs.Contents.{PartMeans, AreChildren, AreMembers}
 use Rattle.jsonb_codec.specs.Doc.{type_of}
 use Rattle.jsonb_codec.specs.Parts.{IsObject}
 use Rattle.jsonb_codec.specs.Rewriting.{FirstChild}
-use Rattle.jsonb_codec.specs.Shape.{Shape, Shapes, count}
+use Rattle.jsonb_codec.specs.Shape.{Shape, Shapes, shape_count}
 use Rattle.jsonb_codec.specs.Source.{AreSplit}
 use Rattle.jsonb_codec.specs.Canon.{shape_of, items_shapes, pairs_shapes}
 use Rattle.jsonb_codec.proofs.TreeShapes.{count-items_shapes, count-pairs_shapes}
@@ -59,7 +59,7 @@ kept_first ps others k t e h = rw e (kept_pair k t others (λ n. h (ap type_of n
 
 -- ---- shapes
 
-pub stripped_is : (part : Part) (t : Tree) → Means part t
+pub stripped_is : (part : Part) (t : Tree) → PartMeans part t
     → StrippedIs (record { part = part }) (shape_of (stripped t))
 stripped_is part t h =
     ((t, h), λ u k. ap (λ x. shape_of (stripped x)) (same_tree t u (h.0 ∙ sym k.0) _ h.1 k.1))
@@ -91,23 +91,24 @@ count_stripped (tree t ts) = omega (arith, count_stripped ts)
 
 pub items_number : (items : declared.Children) (n : ℕ)
     → ((ts : Trees) → AreChildren ts items → n ≡ trees.count ts)
-    → (ss : Shapes) → StrippedItemsAre items ss → n ≡ count ss
+    → (ss : Shapes) → StrippedItemsAre items ss → n ≡ shape_count ss
 items_number items n known ss h = omega (
   arith,
   known h.0.0 h.0.1,
   count_stripped h.0.0,
   count-items_shapes (items_stripped h.0.0),
-  ap count (h.1 h.0.0 h.0.1),
+  ap shape_count (h.1 h.0.0 h.0.1),
 )
 
-pub object_number : (x : StrippedObject) (ss : Shapes) → StrippedObjectIs x ss → x.count ≡ count ss
+pub object_number : (x : StrippedObject) (ss : Shapes) → StrippedObjectIs x ss
+    → x.count ≡ shape_count ss
 object_number x ss h =
-    h.0.1.1 ∙ sym (ap count (h.1 h.0.0 h.0.1) ∙ count-pairs_shapes (members_stripped h.0.0))
+    h.0.1.1 ∙ sym (ap shape_count (h.1 h.0.0 h.0.1) ∙ count-pairs_shapes (members_stripped h.0.0))
 
 pub members_number : (x : StrippedMembers) (ss : Shapes) → StrippedMembersAre x ss
-    → x.count ≡ count ss
+    → x.count ≡ shape_count ss
 members_number x ss h =
-    h.0.1.1 ∙ sym (ap count (h.1 h.0.0 h.0.1) ∙ count-pairs_shapes (members_stripped h.0.0))
+    h.0.1.1 ∙ sym (ap shape_count (h.1 h.0.0 h.0.1) ∙ count-pairs_shapes (members_stripped h.0.0))
 
 pub members_of_object : (x : StrippedObject) (members : Members)
     → ((ps : Pairs) → IsObject x.object.count x.object.body.now ps → AreMembers ps members)

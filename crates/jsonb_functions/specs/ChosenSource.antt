@@ -5,10 +5,10 @@ use Rattle.jsonb_value.specs.Tree.{Tree, Trees, Pairs, pair, pair_count}
 use Rattle.jsonb_value.specs.Value.{trees_of}
 use Rattle.jsonb_codec.specs.declared.parts.Member.{Member}
 use Rattle.jsonb_codec.specs.declared.parts.Part.{Part}
-use Rattle.jsonb_codec.specs.Contents.{Means, AreChildren, AreMembers}
+use Rattle.jsonb_codec.specs.Contents.{PartMeans, AreChildren, AreMembers}
 use Rattle.jsonb_codec.specs.Parts.{IsObject}
 use Rattle.jsonb_codec.specs.Shape.{Shape, Shapes, key_payloads}
-use Rattle.jsonb_codec.specs.Source.{Meaning, Laws}
+use Rattle.jsonb_codec.specs.Source.{SourceMeaning, Laws}
 use Rattle.jsonb_codec.specs.Canon.{items_shapes, pairs_shapes, bare}
 use Rattle.jsonb_codec.specs.PartSource.{Shaped, one_shaped, PartIs}
 use Rattle.jsonb_codec.specs.PartSource as parts
@@ -57,7 +57,7 @@ abbrev pub chosen_size : ChosenItems → ℕ
 chosen_size (Stored items) = parts.items_size items
 chosen_size (Listed list) = list_size list.now
 
-abbrev pub chosen_meaning : Meaning Chosen ChosenItems ChosenObject ChosenMembers
+abbrev pub chosen_meaning : SourceMeaning Chosen ChosenItems ChosenObject ChosenMembers
 chosen_meaning = record {
   child = ChosenIs;
   child_size = λ child. length child.part.payload.now;
@@ -86,5 +86,5 @@ pub record FirstKept (ps : Pairs) (choice : Choice) (m : Member) : Type 0 where
   pub value : Tree
   pub others : Pairs
   pub are : ps ≡ pair m.key.now value (kept_pairs choice others)
-  pub is : Means m.value value
+  pub is : PartMeans m.value value
   pub left : AreMembers others m.later

@@ -2,10 +2,10 @@
 use Rattle.std.specs.Prelude.{◌≡◌, ◌+◌, ℕ, suc, ⊤, length}
 use Rattle.std.proofs.Common.{ap, ◌∙◌}
 use Rattle.jsonb_value.specs.Tree.{Tree, count, pair_count}
-use Rattle.jsonb_codec.specs.Contents.{Means, AreChildren, AreMembers}
+use Rattle.jsonb_codec.specs.Contents.{PartMeans, AreChildren, AreMembers}
 use Rattle.jsonb_codec.specs.Parts.{IsObject}
 use Rattle.jsonb_codec.specs.Shape.{Shape, Shapes, key_payloads}
-use Rattle.jsonb_codec.specs.Source.{Meaning, Laws}
+use Rattle.jsonb_codec.specs.Source.{SourceMeaning, Laws}
 use Rattle.jsonb_codec.specs.Canon.{shape_of, items_shapes, pairs_shapes, bare}
 use Rattle.jsonb_codec.specs.PartSource.{Shaped, one_shaped, PartIs}
 use Rattle.jsonb_codec.specs.PartSource as parts
@@ -62,7 +62,7 @@ here_of (whats.Below plan) = replaced (λ t. edited_along plan t)
 abbrev pub EditedIs : Edited → Shape → Type 0
 EditedIs (children.Kept part) s = PartIs part s
 EditedIs (children.Along part plan) s =
-    Shaped (λ t. Means part t) (λ t. shape_of (edited_along plan t)) s
+    Shaped (λ t. PartMeans part t) (λ t. shape_of (edited_along plan t)) s
 EditedIs (children.Made made) s = s ≡ shape_of (made_tree made)
 
 -- The shapes of items, after what is done among them.
@@ -107,7 +107,7 @@ edited_size (children.Kept part) = length part.payload.now
 edited_size (children.Along part plan) = length part.payload.now + suc (plan_size plan)
 edited_size (children.Made made) = made_size made
 
-abbrev pub edit_meaning : Meaning Edited EditedItems EditedObject EditedMembers
+abbrev pub edit_meaning : SourceMeaning Edited EditedItems EditedObject EditedMembers
 edit_meaning = record {
   child = EditedIs;
   child_size = edited_size;

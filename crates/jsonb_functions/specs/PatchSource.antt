@@ -5,9 +5,9 @@ use Rattle.jsonb_value.specs.Tree.{Tree, null, Pairs, pair, pair_count}
 use Rattle.jsonb_codec.specs.declared.parts.Children.{Children}
 use Rattle.jsonb_codec.specs.declared.parts.Member.{Member}
 use Rattle.jsonb_codec.specs.declared.parts.Part.{Part}
-use Rattle.jsonb_codec.specs.Contents.{Means, FirstMember}
+use Rattle.jsonb_codec.specs.Contents.{PartMeans, FirstMember}
 use Rattle.jsonb_codec.specs.Shape.{Shape, Shapes, key_payloads}
-use Rattle.jsonb_codec.specs.Source.{Meaning, Laws}
+use Rattle.jsonb_codec.specs.Source.{SourceMeaning, Laws}
 use Rattle.jsonb_codec.specs.Canon.{shape_of, pairs_shapes, bare}
 use Rattle.jsonb_codec.specs.PartSource.{Shaped, one_shaped}
 use Rattle.jsonb_codec.specs.PartSource as parts
@@ -26,13 +26,13 @@ use Rattle.jsonb_functions.specs.Patched.{patched, pairs_patched}
 -- The tree of a part; null if there is none.
 abbrev pub MaybeMeans : Option Part → Tree → Type 0
 MaybeMeans None t = t ≡ null
-MaybeMeans (Some part) t = Means part t
+MaybeMeans (Some part) t = PartMeans part t
 
 -- The tree of a part, or of a target that a part patches.
 abbrev pub PatchedMeans : Patched → Tree → Type 0
-PatchedMeans (children.Kept part) t = Means part t
+PatchedMeans (children.Kept part) t = PartMeans part t
 PatchedMeans (children.By target patch) t =
-    (u : Tree) × ((v : Tree) × (MaybeMeans target u × (Means patch v × (t ≡ patched u v))))
+    (u : Tree) × ((v : Tree) × (MaybeMeans target u × (PartMeans patch v × (t ≡ patched u v))))
 
 abbrev pub PatchedIs : Patched → Shape → Type 0
 PatchedIs child = Shaped (λ t. PatchedMeans child t) shape_of
@@ -61,12 +61,12 @@ patched_size (children.By target patch) = maybe_size target + length patch.paylo
 abbrev pub both_size : BothMembers → ℕ
 both_size x = maybe_members_size x.target + maybe_members_size x.patch
 
-abbrev pub patch_meaning : Meaning Patched Children PatchedObject PatchedMembers
+abbrev pub patch_meaning : SourceMeaning Patched Children PatchedObject PatchedMembers
 patch_meaning = record {
   child = PatchedIs;
   child_size = patched_size;
   child_held = λ child. ⊤;
-  items = parts.ItemsAre;
+  items = parts.PartItemsAre;
   object = PatchedObjectIs;
   members = PatchedMembersAre;
   items_size = parts.items_size;

@@ -4,10 +4,10 @@ use Rattle.std.proofs.Common.{ap, ◌∙◌}
 use Rattle.jsonb_value.specs.Tree.{Tree, Pairs, pair, pair_count}
 use Rattle.jsonb_codec.specs.declared.parts.Children.{Children}
 use Rattle.jsonb_codec.specs.declared.parts.Member.{Member}
-use Rattle.jsonb_codec.specs.Contents.{Means, AreChildren, AreMembers}
+use Rattle.jsonb_codec.specs.Contents.{PartMeans, AreChildren, AreMembers}
 use Rattle.jsonb_codec.specs.Parts.{IsObject}
 use Rattle.jsonb_codec.specs.Shape.{Shape, Shapes, key_payloads}
-use Rattle.jsonb_codec.specs.Source.{Meaning, Laws}
+use Rattle.jsonb_codec.specs.Source.{SourceMeaning, Laws}
 use Rattle.jsonb_codec.specs.Canon.{shape_of, items_shapes, pairs_shapes, bare}
 use Rattle.jsonb_codec.specs.PartSource.{Shaped, one_shaped}
 use Rattle.jsonb_codec.specs.PartSource as parts
@@ -17,7 +17,7 @@ use Rattle.jsonb_functions.specs.declared.strip.StrippedMembers.{StrippedMembers
 use Rattle.jsonb_functions.specs.Stripped.{stripped, items_stripped, members_stripped}
 
 abbrev pub StrippedIs : Stripped → Shape → Type 0
-StrippedIs child = Shaped (λ t. Means child.part t) (λ t. shape_of (stripped t))
+StrippedIs child = Shaped (λ t. PartMeans child.part t) (λ t. shape_of (stripped t))
 
 abbrev pub StrippedItemsAre : Children → Shapes → Type 0
 StrippedItemsAre items =
@@ -31,7 +31,7 @@ abbrev pub StrippedMembersAre : StrippedMembers → Shapes → Type 0
 StrippedMembersAre x = Shaped (λ ps. AreMembers ps x.members
     × (x.count ≡ pair_count (members_stripped ps))) (λ ps. pairs_shapes (members_stripped ps))
 
-abbrev pub strip_meaning : Meaning Stripped Children StrippedObject StrippedMembers
+abbrev pub strip_meaning : SourceMeaning Stripped Children StrippedObject StrippedMembers
 strip_meaning = record {
   child = StrippedIs;
   child_size = λ child. length child.part.payload.now;
@@ -61,5 +61,5 @@ pub record FirstStripped (ps : Pairs) (m : Member) : Type 0 where
   pub first : Tree
   pub others : Pairs
   pub are : ps ≡ pair m.key.now (stripped first) (members_stripped others)
-  pub is : Means m.value first
+  pub is : PartMeans m.value first
   pub left : AreMembers others m.later

@@ -8,7 +8,7 @@ pub use Rattle.jsonb_value.specs.Value.{tree_of, trees_of}
 pub use Rattle.jsonb_value.specs.WellFormed.{IsTree}
 pub use Rattle.jsonb_codec.specs.Canon.{Fits, canon, shape_of}
 pub use Rattle.jsonb_codec.specs.Code.{code_of}
-pub use Rattle.jsonb_codec.specs.Contents.{AreChildren, AreMembers, Means}
+pub use Rattle.jsonb_codec.specs.Contents.{AreChildren, AreMembers, PartMeans}
 pub use Rattle.jsonb_codec.specs.Depth.{pair_sizes, size, sizes}
 pub use Rattle.jsonb_codec.specs.Doc.{Doc}
 pub use Rattle.jsonb_codec.specs.Made.{MadeIfFit}

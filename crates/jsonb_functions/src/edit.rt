@@ -3,7 +3,7 @@
 ghost use Rattle.std.specs.Prelude.{◌≡◌, ◌≤◌, ◌<◌, ◌+◌, ◌^◌, length, IfOk, true, false};
 ghost use Rattle.jsonb_functions.specs.EditSource.{edit_laws, edit_meaning};
 ghost use Rattle.jsonb_functions.specs.Words.{AreChildren, AreMembers, Fits, IsObject, LevelIs};
-ghost use Rattle.jsonb_functions.specs.Words.{MadeIfFit, Means, Pairs, Shape, Tree, before_if};
+ghost use Rattle.jsonb_functions.specs.Words.{MadeIfFit, PartMeans, Pairs, Shape, Tree, before_if};
 ghost use Rattle.jsonb_functions.specs.Words.{can_wrap, canon, code_of, count_done, document_tree};
 ghost use Rattle.jsonb_functions.specs.Words.{edit_operation, edited, edited_along, edited_whole};
 ghost use Rattle.jsonb_functions.specs.Words.{here_at, here_missing, here_of, items_size};
@@ -151,7 +151,7 @@ fn change_of<'a>(edit: Edit<'a>) -> Change<'a>
 // The level of a whole document that is edited along a path.
 #[tactic(auto, using(crate::proofs::EditLaws::whole_edited))]
 fn whole_level<'a>(part: Part<'a>, plan: Plan<'a>) -> EditedLevel<'a>
-    ensures { (t : Tree) → Means part.entry t → LevelIs code_of edit_meaning result
+    ensures { (t : Tree) → PartMeans part.entry t → LevelIs code_of edit_meaning result
         (shape_of (edited_whole plan.entry.path.now (operation_of plan.entry.change.now) t)) }
 {
     if !plan.path.is_empty() {
@@ -190,7 +190,7 @@ fn lifted<'a>(level: PartLevel<'a>) -> EditedLevel<'a>
 
 // The level of a part that is edited along a path.
 fn edited_level<'a>(part: Part<'a>, plan: Plan<'a>) -> EditedLevel<'a>
-    ensures is { (t : Tree) → Means part.entry t → LevelIs code_of edit_meaning result
+    ensures is { (t : Tree) → PartMeans part.entry t → LevelIs code_of edit_meaning result
         (shape_of (edited plan.entry.path.now (operation_of plan.entry.change.now) t)) }
     ensures size { level_size edit_meaning result
         ≤ length part.entry.payload.now + (1 + plan_size plan.entry) }
@@ -261,7 +261,7 @@ fn what_at<'a>(is_item: bool, is_there: bool, is_next: bool, plan: Plan<'a>) -> 
 }
 
 // What is done where no child is, with the steps that are left.
-#[tactic(auto, using(crate::proofs::EditLaws::missing_put, crate::proofs::EditLaws::missing_insert))]
+#[tactic(auto, using(crate::proofs::EditLaws::not_put, crate::proofs::EditLaws::not_inserted))]
 fn what_missing<'a>(is_next: bool, plan: Plan<'a>) -> What<'a>
     ensures what { here_of result ≡ here_missing is_next plan.entry.path.now
         (operation_of plan.entry.change.now) }

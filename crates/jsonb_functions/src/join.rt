@@ -4,7 +4,7 @@ ghost use Rattle.std.specs.Prelude.{◌≡◌, ◌≤◌, ◌<◌, ◌+◌, ◌^
 ghost use Rattle.jsonb_functions.specs.JoinSource.{join_laws, join_meaning};
 ghost use Rattle.jsonb_functions.specs.Words.{AreMembers, FirstMerged, FirstOfRun, Fits};
 ghost use Rattle.jsonb_functions.specs.Words.{IsNoObject, IsObject, LevelIs, MadeIfFit};
-ghost use Rattle.jsonb_functions.specs.Words.{MaybeMembers, MaybeObject, Means, Pairs, RunIs};
+ghost use Rattle.jsonb_functions.specs.Words.{MaybeMembers, MaybeObject, PartMeans, Pairs, RunIs};
 ghost use Rattle.jsonb_functions.specs.Words.{Shape, Tree, Trees, canon, code_of, count};
 ghost use Rattle.jsonb_functions.specs.Words.{document_tree, items_or_one, items_size, joined};
 ghost use Rattle.jsonb_functions.specs.Words.{keys_size, level_size, maybe_keys_size};
@@ -180,7 +180,7 @@ fn count_merged(first: Members<'_>, second: Members<'_>) -> usize
 
 // The values of an array, or the one value that is not an array.
 fn run_of<'a>(part: Part<'a>) -> Run<'a>
-    ensures { (t : Tree) → Means part.entry t → RunIs result (items_or_one t) }
+    ensures { (t : Tree) → PartMeans part.entry t → RunIs result (items_or_one t) }
 {
     if part.type_code != CONTAINER_TAG {
         return Run::One(part);
@@ -193,7 +193,7 @@ fn run_of<'a>(part: Part<'a>) -> Run<'a>
 
 /// The object that a part is.
 pub fn object_of<'a>(part: Part<'a>) -> Option<Object<'a>>
-    ensures object { (t : Tree) → Means part.entry t → MatchOption result (IsNoObject t)
+    ensures object { (t : Tree) → PartMeans part.entry t → MatchOption result (IsNoObject t)
         (λ o. (ps : Pairs) × ((t ≡ object ps) × IsObject o.count o.body.now ps)) }
     ensures size { IfSome result (λ o. length o.body.now < length part.entry.payload.now) }
 {
@@ -233,7 +233,7 @@ fn lifted<'a>(level: PartLevel<'a>) -> JoinedLevel<'a>
 
 // The level of two values that are put together.
 fn joined_level<'a>(left: Part<'a>, right: Part<'a>) -> JoinedLevel<'a>
-    ensures { (t u : Tree) → Means left.entry t → Means right.entry u
+    ensures { (t u : Tree) → PartMeans left.entry t → PartMeans right.entry u
         → LevelIs code_of join_meaning result (shape_of (joined t u)) }
 {
     let Some(first) = object_of(left) else {
@@ -252,8 +252,8 @@ fn joined_level<'a>(left: Part<'a>, right: Part<'a>) -> JoinedLevel<'a>
 // The items of two values.
 #[inline(always)]
 fn both_runs<'a>(left: Part<'a>, right: Part<'a>) -> JoinedItems<'a>
-    ensures first { (t : Tree) → Means left.entry t → RunIs result.first (items_or_one t) }
-    ensures second { (t : Tree) → Means right.entry t → RunIs result.second (items_or_one t) }
+    ensures first { (t : Tree) → PartMeans left.entry t → RunIs result.first (items_or_one t) }
+    ensures second { (t : Tree) → PartMeans right.entry t → RunIs result.second (items_or_one t) }
 {
     JoinedItems {
         first: run_of(left),

@@ -4,7 +4,8 @@ ghost use Rattle.std.specs.Prelude.{◌≡◌, ◌≤◌, ◌<◌, ◌+◌, leng
 ghost use Rattle.jsonb_functions.specs.PatchSource.{patch_laws, patch_meaning};
 ghost use Rattle.jsonb_functions.specs.Words.{AreBoth, AreChanged, AreMembers, FirstPatched, Fits};
 ghost use Rattle.jsonb_functions.specs.Words.{IsFirstOf, IsNextOf, LevelIs, MadeIfFit, MaybeMeans};
-ghost use Rattle.jsonb_functions.specs.Words.{MaybeMembers, MaybeObject, Means, Pairs, Shape, Tree};
+ghost use Rattle.jsonb_functions.specs.Words.{MaybeMembers, MaybeObject, PartMeans, Pairs, Shape};
+ghost use Rattle.jsonb_functions.specs.Words.{Tree};
 ghost use Rattle.jsonb_functions.specs.Words.{both_keys_size, both_size, canon, code_of};
 ghost use Rattle.jsonb_functions.specs.Words.{document_tree, items_size, keys_size, level_size};
 ghost use Rattle.jsonb_functions.specs.Words.{maybe_keys_size, maybe_members_size};
@@ -109,7 +110,7 @@ fn lifted<'a>(level: PartLevel<'a>) -> PatchedLevel<'a>
 
 // The level of a target that a part patches.
 fn patched_level<'a>(target: Option<Part<'a>>, patch: Part<'a>) -> PatchedLevel<'a>
-    ensures is { (t u : Tree) → MaybeMeans target.entry t → Means patch.entry u
+    ensures is { (t u : Tree) → MaybeMeans target.entry t → PartMeans patch.entry u
         → LevelIs code_of patch_meaning result (shape_of (patched t u)) }
     ensures size { level_size patch_meaning result
         ≤ maybe_size target.entry + length patch.entry.payload.now }
@@ -191,7 +192,7 @@ fn next_key<'a>(members: BothMembers<'a>) -> Option<Next<'a>>
 // A member of the target that the patch does not have.
 #[inline(always)]
 fn kept<'a>(member: Member<'a>, patch: Option<Members<'a>>) -> Next<'a>
-    ensures next { (rs ps qs : Pairs) (t : Tree) → Means member.entry.value t
+    ensures next { (rs ps qs : Pairs) (t : Tree) → PartMeans member.entry.value t
         → AreMembers ps member.entry.later → MaybeMembers patch.entry qs
         → rs ≡ pair member.entry.key.now t (pairs_patched ps qs) → IsNextOf rs result }
     ensures size { next_size result ≡ length member.entry.value.payload.now
@@ -215,7 +216,7 @@ fn kept<'a>(member: Member<'a>, patch: Option<Members<'a>>) -> Next<'a>
 #[inline(always)]
 fn changed<'a>(change: Member<'a>, value: Option<Part<'a>>, target: Option<Members<'a>>) -> Next<'a>
     ensures next { (rs ps qs : Pairs) (t u : Tree) → MaybeMeans value.entry t
-        → Means change.entry.value u → MaybeMembers target.entry ps
+        → PartMeans change.entry.value u → MaybeMembers target.entry ps
         → AreMembers qs change.entry.later → AreChanged rs change.entry.key.now t u ps qs
         → IsNextOf rs result }
     ensures size { next_size result

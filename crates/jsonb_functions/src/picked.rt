@@ -2,7 +2,7 @@
 
 ghost use Rattle.std.specs.Prelude.{◌≡◌, IfOk};
 ghost use Rattle.jsonb_functions.specs.ChosenSource.{chosen_meaning};
-ghost use Rattle.jsonb_functions.specs.Words.{Fits, LevelIs, MadeIfFit, MadeWithMemory, Means};
+ghost use Rattle.jsonb_functions.specs.Words.{Fits, LevelIs, MadeIfFit, MadeWithMemory, PartMeans};
 ghost use Rattle.jsonb_functions.specs.Words.{Tree, canon, code_of, document_tree, owned_bytes};
 ghost use Rattle.jsonb_functions.specs.Words.{picked, shape_of};
 
@@ -54,7 +54,7 @@ fn pick_by(alloc: Global, document: Document<'_>, choice: Choice<'_>) -> Result<
 
 // The level of a value, of whose members some are kept if it is an object.
 fn picked_level<'a>(part: Part<'a>, choice: Choice<'a>) -> ChosenLevel<'a>
-    ensures { (t : Tree) → Means part.entry t → LevelIs code_of chosen_meaning result
+    ensures { (t : Tree) → PartMeans part.entry t → LevelIs code_of chosen_meaning result
         (shape_of (picked choice.entry.names.now choice.entry.which t)) }
 {
     if part.type_code != CONTAINER_TAG {

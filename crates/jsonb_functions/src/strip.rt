@@ -3,7 +3,8 @@
 ghost use Rattle.std.specs.Prelude.{◌≡◌, ◌≢◌, ◌≤◌, ◌<◌, ◌+◌, length, IfOk, IfSome, MatchOption};
 ghost use Rattle.jsonb_functions.specs.StripSource.{strip_laws, strip_meaning};
 ghost use Rattle.jsonb_functions.specs.Words.{AreMembers, FirstStripped, Fits, LevelIs, MadeIfFit};
-ghost use Rattle.jsonb_functions.specs.Words.{Means, Pairs, Tree, canon, code_of, document_tree};
+ghost use Rattle.jsonb_functions.specs.Words.{PartMeans, Pairs, Tree, canon, code_of};
+ghost use Rattle.jsonb_functions.specs.Words.{document_tree};
 ghost use Rattle.jsonb_functions.specs.Words.{items_size, leaf, level_size, members_stripped};
 ghost use Rattle.jsonb_functions.specs.Words.{no_pairs, owned_bytes, pair_count, shape_of};
 ghost use Rattle.jsonb_functions.specs.Words.{stripped};
@@ -52,7 +53,7 @@ pub fn strip_nulls(alloc: Global, document: Document<'_>) -> Result<OwnedJsonb, 
 // The level of a part without the members that are null.
 #[inline(always)]
 fn stripped_level<'a>(part: Part<'a>) -> StrippedLevel<'a>
-    ensures is { (t : Tree) → Means part.entry t
+    ensures is { (t : Tree) → PartMeans part.entry t
         → LevelIs code_of strip_meaning result (shape_of (stripped t)) }
     ensures size { level_size strip_meaning result ≤ length part.entry.payload.now }
 {
@@ -72,7 +73,7 @@ fn stripped_level<'a>(part: Part<'a>) -> StrippedLevel<'a>
 #[inline(always)]
 fn scalar_entry<'a>(part: Part<'a>) -> StoredEntry<'a>
     requires { part.type_code ≢ CONTAINER_TAG }
-    ensures { (t : Tree) → Means part.entry t
+    ensures { (t : Tree) → PartMeans part.entry t
         → shape_of t ≡ leaf (code_of result).0 (code_of result).1 }
 {
     let Level::Leaf(entry) = Part::level(part) else {

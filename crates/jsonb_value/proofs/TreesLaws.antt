@@ -11,7 +11,7 @@ use Rattle.jsonb_value.specs.Tree.{object}
 use Rattle.jsonb_value.specs.Value.{pairs_view, tree_of}
 use Rattle.jsonb_value.specs.Reader.Content.{members_held}
 use Rattle.jsonb_value.specs.Reader.Resume.{Content, items, members, at_key, put}
-use Rattle.jsonb_value.specs.Reader.TreesHeld.{AreOpen, AreIn, entry_of}
+use Rattle.jsonb_value.specs.Reader.TreesHeld.{AreHeldOpen, AreHeldIn, entry_of}
 use Rattle.jsonb_value.specs.declared.value.Value.{Value, Object, the_lemmas}
 use Rattle.jsonb_value.specs.declared.parser.members.Members.{Members}
 use Rattle.jsonb_value.specs.declared.parser.trees.Container.{Container}
@@ -49,8 +49,8 @@ members_grown es new k v e = ap (map entry_of) e ∙ map-insert_entry es k v
 -- a value is inserted under the key that was read last
 pub member_added : (outer : List Container) (old new : Members) (v : Value) (cs : List Content)
     → members_held new ≡ insert_entry string_cmp (members_held old) old.key v
-    → AreOpen (containers.Object old ∷ outer) cs
-    → AreIn (containers.Object new ∷ outer) (put (tree_of v) cs)
+    → AreHeldOpen (containers.Object old ∷ outer) cs
+    → AreHeldIn (containers.Object new ∷ outer) (put (tree_of v) cs)
 member_added [] old new v [] grown h = absurd h
 member_added (d ∷ ds) old new v [] grown h = absurd h
 member_added outer old new v (items front ∷ cs) grown h = absurd h.0

@@ -22,13 +22,13 @@ abbrev pub number_cmp : Number → Number → Ordering
 number_cmp = on fraction_of fraction_cmp
 
 -- The position of an extension value's kind among the six, from 0.
-abbrev pub kind_of : Extension → ℕ
-kind_of (binary bytes) = 0
-kind_of (date d) = 1
-kind_of (timestamp t) = 2
-kind_of (timestamp_tz t) = 3
-kind_of (interval i) = 4
-kind_of (opaque tag bytes) = 5
+abbrev pub extension_kind : Extension → ℕ
+extension_kind (binary bytes) = 0
+extension_kind (date d) = 1
+extension_kind (timestamp t) = 2
+extension_kind (timestamp_tz t) = 3
+extension_kind (interval i) = 4
+extension_kind (opaque tag bytes) = 5
 
 -- The integers of an extension value, the most significant for the order first.
 abbrev pub fields_of : Extension → List ℤ
@@ -40,15 +40,15 @@ fields_of (interval i) = i.months ∷ i.days ∷ i.micros ∷ []
 fields_of (opaque tag bytes) = pos tag ∷ []
 
 -- The bytes of an extension value; none unless it is binary or opaque.
-abbrev pub bytes_of : Extension → List ℕ
-bytes_of (binary bytes) = bytes
-bytes_of (date d) = []
-bytes_of (timestamp t) = []
-bytes_of (timestamp_tz t) = []
-bytes_of (interval i) = []
-bytes_of (opaque tag bytes) = bytes
+abbrev pub extension_data : Extension → List ℕ
+extension_data (binary bytes) = bytes
+extension_data (date d) = []
+extension_data (timestamp t) = []
+extension_data (timestamp_tz t) = []
+extension_data (interval i) = []
+extension_data (opaque tag bytes) = bytes
 
 -- Compares two extension values by kind, then by their integers, then by their bytes.
 abbrev pub extension_cmp : Extension → Extension → Ordering
-extension_cmp = then_cmp (on kind_of nat_cmp)
-    (then_cmp (on fields_of (slice_cmp int_cmp)) (on bytes_of (slice_cmp nat_cmp)))
+extension_cmp = then_cmp (on extension_kind nat_cmp)
+    (then_cmp (on fields_of (slice_cmp int_cmp)) (on extension_data (slice_cmp nat_cmp)))

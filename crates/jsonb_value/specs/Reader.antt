@@ -6,6 +6,6 @@ pub mod Digits
 pub mod Kind
 pub mod Content
 pub mod Resume
-pub mod Kinds
+pub mod OpenKinds
 pub mod IsAt
 pub mod TreesHeld

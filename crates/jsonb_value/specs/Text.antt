@@ -112,9 +112,9 @@ line_start (on_lines depth) = 10 ∷ replicate (2 * depth) 32
 
 -- What separates a key from its value: a colon, followed by a space if the layout is on several
 -- lines.
-abbrev pub colon : Layout → List ℕ
-colon in_one_line = codes ":"
-colon (on_lines depth) = codes ": "
+abbrev pub colon_text : Layout → List ℕ
+colon_text in_one_line = codes ":"
+colon_text (on_lines depth) = codes ": "
 
 abbrev mutual
   -- The text of a tree in a layout.
@@ -135,7 +135,7 @@ abbrev mutual
       codes "{"
       ++ (line_start (inside l)
       ++ (string_text k
-      ++ (colon l
+      ++ (colon_text l
       ++ (laid_out (inside l) t ++ (more_pairs (inside l) ps ++ (line_start l ++ codes "}"))))))
 
   -- The text of an array's items after the first.
@@ -147,7 +147,7 @@ abbrev mutual
   pub more_pairs : Layout → Pairs → List ℕ
   more_pairs l no_pairs = []
   more_pairs l (pair k t ps) = codes ","
-      ++ (line_start l ++ (string_text k ++ (colon l ++ (laid_out l t ++ more_pairs l ps))))
+      ++ (line_start l ++ (string_text k ++ (colon_text l ++ (laid_out l t ++ more_pairs l ps))))
 
 -- The compact text, without white space.
 abbrev pub compact : Tree → List ℕ

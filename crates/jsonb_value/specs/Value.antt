@@ -21,9 +21,9 @@ trees_of [] = no_trees
 trees_of (t ∷ ts) = tree t (trees_of ts)
 
 -- A list of keys and trees as the pairs of an object.
-abbrev pub pairs_of : List (String Global × Tree) → Pairs
-pairs_of [] = no_pairs
-pairs_of (p ∷ ps) = pair (string_bytes p.0) p.1 (pairs_of ps)
+abbrev pub string_pairs : List (String Global × Tree) → Pairs
+string_pairs [] = no_pairs
+string_pairs (p ∷ ps) = pair (string_bytes p.0) p.1 (string_pairs ps)
 
 -- The tree of one level, whose inner values are trees already.
 abbrev pub tree_step : Value-F Tree → Tree
@@ -38,7 +38,7 @@ tree_step (Value-F.TimestampTz t) = extension (timestamp_tz t)
 tree_step (Value-F.Interval i) = extension (interval i)
 tree_step (Value-F.Opaque o) = extension (opaque (opaque_tag o) (opaque_bytes o))
 tree_step (Value-F.Array v) = array (trees_of v.items)
-tree_step (Value-F.Object m) = object (pairs_of m.entries)
+tree_step (Value-F.Object m) = object (string_pairs m.entries)
 
 -- The tree of a `Value`.
 abbrev pub tree_of : Value → Tree
@@ -50,4 +50,4 @@ items_view vs = trees_of (map tree_of vs)
 
 -- The pairs of an object as pairs of a tree.
 abbrev pub pairs_view : List (String Global × Value) → Pairs
-pairs_view ms = pairs_of (map (λ m. (m.0, tree_of m.1)) ms)
+pairs_view ms = string_pairs (map (λ m. (m.0, tree_of m.1)) ms)

@@ -32,7 +32,7 @@ pub use Rattle.jsonb_value.specs.ParseErrorName.{parse_error_name}
 pub use Rattle.jsonb_value.specs.Payload.{IsDecimalLength, IsSigned, IsSignedNumber}
 pub use Rattle.jsonb_value.specs.Payload.{IsUnsignedNumber, IsWholeLength}
 pub use Rattle.jsonb_value.specs.Reader.Content.{members_held}
-pub use Rattle.jsonb_value.specs.Reader.Digits.{AreDigits, Counts, HasInteger}
+pub use Rattle.jsonb_value.specs.Reader.Digits.{AreDigits, IsCounted, HasInteger}
 pub use Rattle.jsonb_value.specs.Reader.Gives.{Fails, Gives}
 pub use Rattle.jsonb_value.specs.Reader.Kind.{kind_view}
 pub use Rattle.jsonb_value.specs.Reader.Reading.{after_digits, expect, expect_all, front_digits}

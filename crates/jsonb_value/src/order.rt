@@ -2,7 +2,7 @@
 //! builds on it.
 
 ghost use Rattle.std.specs.Prelude.{◌≡◌, ◌≢◌, ◌^◌, ◌*ℤ◌, pos};
-ghost use Rattle.jsonb_value.specs.Order.{kind_of};
+ghost use Rattle.jsonb_value.specs.Order.{extension_kind};
 ghost use Rattle.jsonb_value.specs.Words.{IsTotalOrder, nat_cmp, int_cmp, extension_of, norm, Tree};
 ghost use Rattle.jsonb_value.specs.Words.{meaning_cmp, fraction_of, number_cmp, extension_cmp};
 ghost use Rattle.jsonb_value.specs.Words.{interval, rank_of, tree_cmp};
@@ -105,7 +105,7 @@ impl ExtensionValue<'_> {
 
     // The position of the kind among the six, from 0.
     fn kind(&self) -> u8
-        ensures { result ≡ kind_of (extension_of self.now) }
+        ensures { result ≡ extension_kind (extension_of self.now) }
     {
         match self {
             ExtensionValue::Binary(_) => 0,

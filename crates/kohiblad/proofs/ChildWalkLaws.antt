@@ -5,7 +5,7 @@ use Rattle.std.proofs.Common.{None, Some, Result, Ok, Err, refl, sym, ap, ap₂,
 use Rattle.std.proofs.Common.{zero-add}
 use Rattle.jsonb_value.specs.declared.error.Error.{Error}
 use Rattle.jsonb_codec.specs.declared.constants.TheConstants.{ARRAY_CONTAINER_TAG}
-use Rattle.jsonb_codec.specs.Word.{header_at}
+use Rattle.jsonb_codec.specs.WordBytes.{header_at}
 use Rattle.jsonb.specs.Entries.{entry_there, payloads_end}
 use Rattle.jsonb.specs.Steps.{◌>>=◌}
 use Rattle.jsonb.specs.declared.entries.Entry.{Entry as PlacedEntry}

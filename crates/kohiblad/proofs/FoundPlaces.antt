@@ -14,7 +14,7 @@ use Rattle.jsonb.specs.Lookup.{AnswersBy, IsFound, IsNotFound, LooksUp}
 use Rattle.jsonb.specs.StoredEntries.{entry_item}
 use Rattle.jsonb.proofs.KindLaws.{header_at-object}
 use Rattle.jsonb.proofs.LookupLaws.{find_entry-first, find_entry-none, tree_found}
-use Rattle.jsonb.proofs.StoredEntryLaws.{HasMembers-Payload, members_at}
+use Rattle.jsonb.proofs.StoredEntryLaws.{IsObjectOfEntries-Payload, members_at}
 use Rattle.kohiblad.specs.Places.{is_name, part_in, value_place, IsPlaceFound, IsValuePlace}
 use Rattle.kohiblad.proofs.Lookups.{counted}
 use Rattle.kohiblad.proofs.PlaceLaws.{value_stored}
@@ -34,7 +34,7 @@ module _ (name b : List ℕ) where
   none_among : (ps : Pairs) (reads : ℕ) → Payload (object ps) b
       → IsNotFound answers (length name) ps reads → IsValuePlace b (object ps) name (Ok None)
   none_among ps reads doc h =
-      let m = HasMembers-Payload b ps doc in
+      let m = IsObjectOfEntries-Payload b ps doc in
       let none =
       find_entry-none answers (is_name name) (length name) by m.0 ps m.1.mean h.none in
       (m.0, (m.1, (None, (refl, sym none))))

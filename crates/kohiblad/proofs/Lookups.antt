@@ -8,7 +8,7 @@ use Rattle.std.proofs.lemmas.Bool.Decides.{nat_tests}
 use Rattle.jsonb_value.specs.declared.error.Error.{Error}
 use Rattle.jsonb_codec.specs.declared.constants.TheConstants.{OBJECT_CONTAINER_TAG}
 use Rattle.jsonb_codec.specs.JEntry.{jentry_at, jentry_in}
-use Rattle.jsonb_codec.specs.Word.{header_at}
+use Rattle.jsonb_codec.specs.WordBytes.{header_at}
 use Rattle.jsonb_codec.specs.declared.jentry.JEntry.{JEntry}
 use Rattle.jsonb_codec.proofs.RoomLaws.{word_at-inside}
 use Rattle.jsonb.specs.declared.entries.Entry.{Entry as PlacedEntry}
@@ -67,8 +67,8 @@ module _ (answers others : List ℕ → Bool → Type 0)
       one_accepted n pair entry count (accepted n pair key) there is cost
 
 pub counted : (bytes : List ℕ) (header : ℕ × ℕ) → header_at bytes 0 ≡ Ok header
-    → lookup.header_count bytes ≡ header.1
-unfolding lookup.header_count
+    → lookup.count_in_header bytes ≡ header.1
+unfolding lookup.count_in_header
 counted bytes header is = ap lookup.count_or_zero is
 
 -- the header of an object
@@ -147,7 +147,7 @@ module _ (answers : List ℕ → Bool → Type 0) (name given bytes viewed : Lis
 
   place_by : (f : FoundValue) (n pair : ℕ)
       → count_under bytes OBJECT_CONTAINER_TAG ≡ Ok (Some n) → pair < n → reads ≡ n + pair + 2
-      → IsPlaceOf bytes (lookup.header_count bytes) (reads - 2) f.entry
+      → IsPlaceOf bytes (lookup.count_in_header bytes) (reads - 2) f.entry
       → Ok (Some f.entry) ≡ part_in bytes (reads - 2)
   place_by f n pair count among cost is =
       let same = counted bytes _ (object_header bytes n count) in
@@ -157,7 +157,7 @@ module _ (answers : List ℕ → Bool → Type 0) (name given bytes viewed : Lis
   place_of : (r : Result (Option FoundValue) Error)
       → LooksUpBytes (λ key b. b ≡ is_name name key) (length name) bytes (lookup.found_view r) reads
       → IfOk r (λ o. IfSome o
-      (λ f. IsPlaceOf bytes (lookup.header_count bytes) (reads - 2) f.entry))
+      (λ f. IsPlaceOf bytes (lookup.count_in_header bytes) (reads - 2) f.entry))
       → places_of r ≡ value_place bytes reads (lookup.found_view r)
   place_of (Ok (Some f)) (one_accepted n pair entry count key there is cost) place =
       place_by f n pair count key.among cost place
@@ -171,7 +171,7 @@ module _ (answers : List ℕ → Bool → Type 0) (name given bytes viewed : Lis
   pub place_found : (r : Result (Option FoundValue) Error)
       → LooksUpBytes answers (length given) viewed (lookup.found_view r) reads
       → IfOk r (λ o. IfSome o
-      (λ f. IsPlaceOf viewed (lookup.header_count viewed) (reads - 2) f.entry))
+      (λ f. IsPlaceOf viewed (lookup.count_in_header viewed) (reads - 2) f.entry))
       → IsPlaceFound name bytes (places_of r)
   place_found r looks_up is = record {
     item = lookup.found_view r;
@@ -179,5 +179,5 @@ module _ (answers : List ℕ → Bool → Type 0) (name given bytes viewed : Lis
     looks_up = looked_up r looks_up;
     place = place_of r (looked_up r looks_up)
         (subst (λ (b : List ℕ). IfOk r (λ o. IfSome o
-        (λ f. IsPlaceOf b (lookup.header_count b) (reads - 2) f.entry))) same is);
+        (λ f. IsPlaceOf b (lookup.count_in_header b) (reads - 2) f.entry))) same is);
   }

@@ -14,7 +14,7 @@ use Rattle.jsonb.specs.declared.owned.OwnedJsonb.{OwnedJsonb}
 use Rattle.jsonb.specs.Code.{scalar_bytes, extension_bytes, item_document, CanBeStored}
 use Rattle.jsonb.specs.ItemValues.{extension_source, extension_of_item}
 use Rattle.jsonb.specs.ItemView.{ItemView, item_view}
-use Rattle.jsonb.specs.Owned.{owned_bytes, bytes_of}
+use Rattle.jsonb.specs.Owned.{owned_bytes, result_bytes}
 use Rattle.kohiblad.specs.Output.{IsWrittenOut}
 use Rattle.kohiblad.specs.Status.{code, IsAnswered, IsHandedOver, IsRefused}
 
@@ -32,7 +32,8 @@ only_memory e Fits fits (inr is) past = is
 pub written : (r : Result OwnedJsonb Error) (item : ItemView) (text before after : List ℕ)
     (size status : ℕ) → item_document item ≡ text → CanBeStored item
     → IfOk r (λ owned. owned_bytes owned ≡ item_document item) → MadeIfFit (CanBeStored item) r
-    → IsAnswered (bytes_of r) before after size status → IsWrittenOut text before after size status
+    → IsAnswered (result_bytes r) before after size status
+    → IsWrittenOut text before after size status
 written (Ok owned) item text before after size status is fits ok limits answered =
     inl (subst (λ (b : List ℕ). IsHandedOver b before after size status) (ok ∙ is) answered)
 written (Err e) item text before after size status is fits ok limits answered =
@@ -42,7 +43,7 @@ written (Err e) item text before after size status is fits ok limits answered =
 -- One that cannot be stored is refused.
 pub unstored : (r : Result OwnedJsonb Error) (item : ItemView) (before after : List ℕ)
     (size status : ℕ) → (CanBeStored item → ⊥) → MadeIfFit (CanBeStored item) r
-    → IsAnswered (bytes_of r) before after size status
+    → IsAnswered (result_bytes r) before after size status
     → IsRefused (code errors.InvalidJsonb) before after size status
 unstored (Ok owned) item before after size status past limits answered =
     absurd (past limits.fits)

@@ -8,7 +8,7 @@ use Rattle.jsonb_value.specs.declared.error.Error.TheVariants.{InvalidJsonb, Out
 use Rattle.jsonb_value.specs.Tree.{Tree}
 use Rattle.jsonb_codec.specs.Canon.{Fits, canon}
 use Rattle.jsonb.specs.declared.owned.OwnedJsonb.{OwnedJsonb}
-use Rattle.jsonb.specs.Owned.{bytes_of, owned_bytes}
+use Rattle.jsonb.specs.Owned.{result_bytes, owned_bytes}
 use Rattle.jsonb_functions.specs.NamedSteps.{steps_by}
 use Rattle.jsonb_functions.specs.NameList.{NameList}
 use Rattle.jsonb_functions.specs.Names.{names_of}
@@ -41,7 +41,7 @@ module _ (before after : List ℕ) (size status : ℕ) (path : List StepView) wh
       → OnOk r (Fits (path_tree path))
       → (r ≡ Err InvalidJsonb → Fits (path_tree path) → ⊥)
       → IfErr r (λ e. (e ≡ InvalidJsonb) ⊎ (e ≡ OutOfMemory))
-      → IsAnswered (bytes_of r) before after size status
+      → IsAnswered (result_bytes r) before after size status
       → IsPathMade path before after size status
   path_made (Ok owned) is fits past only answered =
       inl (Ok (owned_bytes owned), ((fits, is), answered))

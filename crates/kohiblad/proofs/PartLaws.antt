@@ -17,7 +17,7 @@ use Rattle.jsonb.specs.Code.{scalar_bytes}
 use Rattle.jsonb.specs.Entries.{entry_there}
 use Rattle.jsonb.specs.Item.{Entry}
 use Rattle.jsonb.specs.Node.{tree_list, pair_list}
-use Rattle.jsonb.specs.StoredEntries.{AreCodesOf, ArePairsOf}
+use Rattle.jsonb.specs.StoredEntries.{AreCodesOf, AreMemberEntriesOf}
 use Rattle.jsonb.proofs.KindLaws.{container_cases, header_at-Scalar}
 use Rattle.jsonb.proofs.StoredEntryLaws.{both_are, object_holds}
 use Rattle.jsonb.specs.declared.entries.Entry.{Entry as PlacedEntry}
@@ -111,7 +111,8 @@ EntriesMean-items (c ∷ cs) no_trees h short = absurd h
 EntriesMean-items (c ∷ cs) (tree t ts) h short =
     (record { means = h.0; short = short.0 }, EntriesMean-items cs ts h.1 short.1)
 
-EntriesMean-values : (ks : List (List ℕ)) (cs : List Entry) (ps : Pairs) → ArePairsOf ks cs ps
+EntriesMean-values : (ks : List (List ℕ)) (cs : List Entry) (ps : Pairs)
+    → AreMemberEntriesOf ks cs ps
     → AreShort cs → EntriesMean cs (values_of (pair_list ps))
 EntriesMean-values [] [] no_pairs h short = tt
 EntriesMean-values [] [] (pair k t ps) h short = absurd cc
@@ -121,7 +122,7 @@ EntriesMean-values (k ∷ ks) (c ∷ cs) no_pairs h short = absurd h
 EntriesMean-values (k ∷ ks) (c ∷ cs) (pair l t ps) h short =
     (record { means = h.1.0; short = short.0 }, EntriesMean-values ks cs ps h.1.1 short.1)
 
-EntriesMean-keys : (ks : List (List ℕ)) (cs : List Entry) (ps : Pairs) → ArePairsOf ks cs ps
+EntriesMean-keys : (ks : List (List ℕ)) (cs : List Entry) (ps : Pairs) → AreMemberEntriesOf ks cs ps
     → AreTexts ks → AreShort (key_codes ks)
     → EntriesMean (key_codes ks) (map text (keys_of (pair_list ps)))
 EntriesMean-keys [] [] no_pairs h texts short = tt

@@ -8,7 +8,7 @@ use Rattle.jsonb_value.specs.declared.error.Error.{Error}
 use Rattle.jsonb_value.specs.declared.error.Error.TheVariants.{InvalidJsonb, OutOfMemory}
 use Rattle.jsonb_codec.specs.Canon.{Fits, canon}
 use Rattle.jsonb.specs.declared.owned.OwnedJsonb.{OwnedJsonb}
-use Rattle.jsonb.specs.Owned.{bytes_of, owned_bytes}
+use Rattle.jsonb.specs.Owned.{result_bytes, owned_bytes}
 use Rattle.jsonb_functions.specs.PathDocument.{path_tree}
 use Rattle.jsonb_functions.specs.PathText.{PathText, SelectorView, selector_view, single_steps}
 use Rattle.jsonb_functions.specs.StoredPath.{StepView}
@@ -48,7 +48,7 @@ module _ (text before after : List ℕ) (size status : ℕ) (path : List StepVie
       → OnOk r (Fits (path_tree path))
       → (r ≡ Err InvalidJsonb → Fits (path_tree path) → ⊥)
       → IfErr r (λ e. (e ≡ InvalidJsonb) ⊎ (e ≡ OutOfMemory))
-      → IsAnswered (bytes_of r) before after size status
+      → IsAnswered (result_bytes r) before after size status
       → IsPathTextRead text before after size status
   path_answered (Ok owned) is fits past only answered =
       inl (path, (gives, (Ok (owned_bytes owned), ((fits, is), answered))))

@@ -23,7 +23,7 @@ use Rattle.jsonb_codec.specs.declared.constants.TheConstants.{ARRAY_CONTAINER_TA
 use Rattle.jsonb_codec.specs.declared.constants.TheConstants.{OBJECT_CONTAINER_TAG, CONTAINER_TAG}
 use Rattle.jsonb_codec.specs.Doc.{Doc, IsDocument, Payload, Scalar, type_of}
 use Rattle.jsonb_codec.specs.Parts.{IsPayloadOf}
-use Rattle.jsonb_codec.specs.Word.{header_at, word}
+use Rattle.jsonb_codec.specs.WordBytes.{header_at, word}
 use Rattle.jsonb.specs.Children.{Pairwise}
 use Rattle.jsonb.specs.Entries.{entry_there}
 use Rattle.jsonb.specs.EntryTrees.{entry_tree}
@@ -31,8 +31,9 @@ use Rattle.jsonb.specs.Item.{Entry}
 use Rattle.jsonb.specs.Node.{items_of, pair_list, tree_list, value_of_key}
 use Rattle.jsonb.specs.Lookup.{find_pair}
 use Rattle.jsonb.specs.Steps.{◌>>=◌}
-use Rattle.jsonb.specs.StoredEntries.{ArePairsOf, HasItems, HasMembers}
-use Rattle.jsonb.proofs.StoredEntryLaws.{HasItems-Payload, HasMembers-Payload, items_at, members_at}
+use Rattle.jsonb.specs.StoredEntries.{AreMemberEntriesOf, IsArrayOfEntries, IsObjectOfEntries}
+use Rattle.jsonb.proofs.StoredEntryLaws.{IsArrayOfEntries-Payload, IsObjectOfEntries-Payload}
+use Rattle.jsonb.proofs.StoredEntryLaws.{items_at, members_at}
 use Rattle.jsonb.specs.declared.entries.Entry.{Entry as PlacedEntry}
 use Rattle.jsonb.proofs.KindLaws.{At-entry, IsTag-type_of, container_cases, header_at-Scalar}
 use Rattle.jsonb.proofs.KindLaws.{header_at-array, header_at-object}
@@ -136,7 +137,7 @@ module _ (b : List ℕ) (ts : Trees) (h : Payload (array ts) b) (i : ℕ) where
       ∙ ap (λ (k : ℕ). if nat_le n i then Ok None
       else child_of false (part_in b i) (part_in b k)) (zero-add i)
 
-  items_at_index : (cs : List Entry) → HasItems b ts cs
+  items_at_index : (cs : List Entry) → IsArrayOfEntries b ts cs
       → ((c : Entry) × (i < length cs) × (slice_get cs i ≡ Some c) × (get_or cs i c ≡ c))
       ⊎ ((length cs ≤ i) × (slice_get cs i ≡ None))
       → IsNumbered b (Holds b) (tree_list ts) i
@@ -163,7 +164,7 @@ module _ (b : List ℕ) (ts : Trees) (h : Payload (array ts) b) (i : ℕ) where
 
   pub items_numbered : IsNumbered b (Holds b) (tree_list ts) i
   items_numbered =
-      let (cs, stored) = HasItems-Payload b ts h in
+      let (cs, stored) = IsArrayOfEntries-Payload b ts h in
       items_at_index cs stored (slice_get_cases cs i).1
 
 -- A child whose key is that of a pair, and whose value holds the pair's tree.
@@ -179,7 +180,8 @@ module _ (b : List ℕ) (ps : Pairs) (h : Payload (object ps) b) (i : ℕ) where
       × ((slice_get (pair_list qs) k ≡ Some (m.0, t)) × IsPayloadOf m.1.type m.1.payload t)
 
   pair_at : (ms : List (List ℕ × Entry)) (qs : Pairs) (k : ℕ) (m : List ℕ × Entry)
-      → ArePairsOf (keys_of ms) (values_of ms) qs → slice_get ms k ≡ Some m → IsPairAt qs k m
+      → AreMemberEntriesOf (keys_of ms) (values_of ms) qs → slice_get ms k ≡ Some m
+      → IsPairAt qs k m
   pair_at [] qs zero m mean there = absurd cc
   pair_at [] qs (suc k) m mean there = absurd cc
   pair_at (x ∷ ms) no_pairs k m mean there = absurd mean
@@ -190,7 +192,7 @@ module _ (b : List ℕ) (ps : Pairs) (h : Payload (object ps) b) (i : ℕ) where
   pair_at (x ∷ ms) (pair l t qs) (suc k) m mean there = pair_at ms qs k m mean.1.1 there
 
   past_pairs : (ms : List (List ℕ × Entry)) (qs : Pairs) (k : ℕ)
-      → ArePairsOf (keys_of ms) (values_of ms) qs → slice_get ms k ≡ None
+      → AreMemberEntriesOf (keys_of ms) (values_of ms) qs → slice_get ms k ≡ None
       → slice_get (pair_list qs) k ≡ None
   past_pairs [] no_pairs k mean past = refl
   past_pairs [] (pair l t qs) k mean past = absurd cc
@@ -205,7 +207,7 @@ module _ (b : List ℕ) (ps : Pairs) (h : Payload (object ps) b) (i : ℕ) where
       ap (λ (r : Result (ℕ × ℕ) Error). (r >>= (λ (g : ℕ × ℕ). Ok (layout_under g)))
       >>= numbered_among b i) header
 
-  members_at_index : (ms : List (List ℕ × Entry)) → HasMembers b ps ms
+  members_at_index : (ms : List (List ℕ × Entry)) → IsObjectOfEntries b ps ms
       → ((m : List ℕ × Entry) × (i < length ms) × (slice_get ms i ≡ Some m) × (get_or ms i m ≡ m))
       ⊎ ((length ms ≤ i) × (slice_get ms i ≡ None))
       → IsNumbered b (HoldsPair b) (pair_list ps) i
@@ -238,7 +240,7 @@ module _ (b : List ℕ) (ps : Pairs) (h : Payload (object ps) b) (i : ℕ) where
 
   pub members_numbered : IsNumbered b (HoldsPair b) (pair_list ps) i
   members_numbered =
-      let (ms, stored) = HasMembers-Payload b ps h in
+      let (ms, stored) = IsObjectOfEntries-Payload b ps h in
       members_at_index ms stored (slice_get_cases ms i).1
 
 -- lists of places, children and trees

@@ -11,14 +11,14 @@ use Rattle.std.proofs.lemmas.Option.{slice_get_cases, slice_get_past}
 use Rattle.jsonb_value.specs.declared.error.Error.{Error}
 use Rattle.jsonb_value.specs.Tree.{Tree, array, object, Trees, Pairs}
 use Rattle.jsonb_codec.specs.Doc.{Doc, Payload}
-use Rattle.jsonb_codec.specs.Word.{word, header_at}
+use Rattle.jsonb_codec.specs.WordBytes.{word, header_at}
 use Rattle.jsonb.specs.Building.{key_codes}
 use Rattle.jsonb.proofs.LeafLaws.{code_entries, code_payloads, object_of-parts}
 use Rattle.jsonb.specs.Entries.{Run, entries_in, entry_count, entry_there, left_after, payloads_end}
 use Rattle.jsonb.specs.Entries.{placed_at, placed_from, run_in}
 use Rattle.jsonb.specs.Item.{Entry}
 use Rattle.jsonb.specs.Parts.{length_in}
-use Rattle.jsonb.specs.StoredEntries.{HasItems, HasMembers}
+use Rattle.jsonb.specs.StoredEntries.{IsArrayOfEntries, IsObjectOfEntries}
 use Rattle.jsonb.specs.Steps.{◌>>=◌}
 use Rattle.jsonb.proofs.EntryLaws.{IsLess, cut_later, left_after-get, length-placed_from, skip_cut}
 use Rattle.jsonb.proofs.EntryLaws.{skipped}
@@ -26,7 +26,8 @@ use Rattle.jsonb.proofs.KindLaws.{container_cases, header_at-Scalar, header_at-a
 use Rattle.jsonb.proofs.KindLaws.{header_at-object}
 use Rattle.jsonb.proofs.Places.{At, At-all, At-left, At-right, At-after_word, take-At, within-At}
 use Rattle.jsonb.proofs.StoredEntryLaws.{AreEntries, AreEntries-trees, AreEntries-keys}
-use Rattle.jsonb.proofs.StoredEntryLaws.{AreEntries-pairs, HasItems-Payload, HasMembers-Payload}
+use Rattle.jsonb.proofs.StoredEntryLaws.{AreEntries-pairs, IsArrayOfEntries-Payload}
+use Rattle.jsonb.proofs.StoredEntryLaws.{IsObjectOfEntries-Payload}
 use Rattle.jsonb.proofs.StoredEntryLaws.{first_entry, items_at, length-key_codes, members_at}
 use Rattle.jsonb.proofs.StorageLaws.{length-code_entries}
 use Rattle.jsonb.specs.declared.entries.Entry.{Entry as PlacedEntry}
@@ -208,7 +209,8 @@ module _ (b : List ℕ) (cs : List Entry) (h : HoldEntries b cs) where
       (None, (part_past b h.header h.is k (omega (arith, count)), sym none))
 
 -- An array's items.
-pub hold_items : (b : List ℕ) (ts : Trees) (cs : List Entry) → HasItems b ts cs → HoldEntries b cs
+pub hold_items : (b : List ℕ) (ts : Trees) (cs : List Entry) → IsArrayOfEntries b ts cs
+    → HoldEntries b cs
 hold_items b ts cs h =
     let at = items_at b cs h.few h.written in
     record {
@@ -223,7 +225,7 @@ hold_items b ts cs h =
 items_part : (b : List ℕ) (ts : Trees) (k : ℕ) → Payload (array ts) b
     → IsPartPlace b (array ts) k (part_in b k)
 items_part b ts k h =
-    let (cs, stored) = HasItems-Payload b ts h in
+    let (cs, stored) = IsArrayOfEntries-Payload b ts h in
     (cs, (stored, part_by b cs (hold_items b ts cs stored) k (slice_get_cases cs k).1))
 
 pub place_of_item_stored : (b : List ℕ) (t : Tree) (index : ℕ) → Doc b t
@@ -282,7 +284,7 @@ after_keys [] ds k i c e there = let same : k ≡ i = omega arith in ap (slice_g
 after_keys (x ∷ cs) ds zero i c e there = absurd (omega arith)
 after_keys (x ∷ cs) ds (suc k) i c e there = after_keys cs ds k i c (omega arith) there
 
-hold_members : (b : List ℕ) (ps : Pairs) (ms : List (List ℕ × Entry)) → HasMembers b ps ms
+hold_members : (b : List ℕ) (ps : Pairs) (ms : List (List ℕ × Entry)) → IsObjectOfEntries b ps ms
     → HoldEntries b (all_entries ms)
 hold_members b ps ms h =
     let ks = key_codes (keys_of ms) in
@@ -309,7 +311,7 @@ hold_members b ps ms h =
           (code_payloads (all_entries ms)) (omega (arith, long)) both;
     }
 
-module _ (b : List ℕ) (ps : Pairs) (ms : List (List ℕ × Entry)) (h : HasMembers b ps ms)
+module _ (b : List ℕ) (ps : Pairs) (ms : List (List ℕ × Entry)) (h : IsObjectOfEntries b ps ms)
     (index : ℕ) where
   pub member_key_at : (m : List ℕ × Entry) → slice_get ms index ≡ Some m
       → IsPartAt b index (record { type = 268435456; payload = m.0 })
@@ -354,7 +356,7 @@ module _ (b : List ℕ) (ps : Pairs) (ms : List (List ℕ × Entry)) (h : HasMem
 member_stored : (b : List ℕ) (ps : Pairs) (index : ℕ) → Payload (object ps) b
     → AreMemberPlaces b (object ps) index (member_places b index)
 member_stored b ps index h =
-    let (ms, stored) = HasMembers-Payload b ps h in
+    let (ms, stored) = IsObjectOfEntries-Payload b ps h in
     let at = members_at b ms stored.few stored.written in
     let (o, (found, there)) = member_at b ps ms stored index (slice_get_cases ms index).1 in
     let here = ap (λ (r : Result (ℕ × ℕ) Error). r >>= member_under b index) at.header in
@@ -363,7 +365,7 @@ member_stored b ps index h =
 members_part : (b : List ℕ) (ps : Pairs) (k : ℕ) → Payload (object ps) b
     → IsPartPlace b (object ps) k (part_in b k)
 members_part b ps k h =
-    let (ms, stored) = HasMembers-Payload b ps h in (
+    let (ms, stored) = IsObjectOfEntries-Payload b ps h in (
       ms,
       (
         stored,

@@ -15,7 +15,7 @@ use Rattle.jsonb.specs.declared.owned.OwnedJsonb.{OwnedJsonb}
 use Rattle.jsonb.specs.Building.{AreTexts}
 use Rattle.jsonb.specs.Canonical.{RewritesTo}
 use Rattle.jsonb.specs.Document.{document_bytes, document_tree}
-use Rattle.jsonb.specs.Owned.{bytes_of, owned_bytes}
+use Rattle.jsonb.specs.Owned.{result_bytes, owned_bytes}
 use Rattle.jsonb.specs.Results.{AreWithinLimits, IsArrayOfDocuments, IsObjectOfDocuments}
 use Rattle.jsonb.specs.Results.{PairsExceedLimits}
 use Rattle.jsonb.proofs.DocumentLaws.{tree_of_bytes}
@@ -31,7 +31,7 @@ by_error Makes e past memory (inr is) = subst (λ (x : Error). Makes (Err x)) (s
 -- A document that was checked is brought to canonical form as its bytes are.
 pub rewritten : (b : List ℕ) (d : Document) → document_bytes d ≡ b → (r : Result OwnedJsonb Error)
     → IfOk r (λ owned. owned_bytes owned ≡ canon (document_tree d))
-    → MadeIfFit (Fits (document_tree d)) r → RewritesTo b (bytes_of r)
+    → MadeIfFit (Fits (document_tree d)) r → RewritesTo b (result_bytes r)
 rewritten b d is (Ok owned) ok limits =
     (document_tree d, (tree_of_bytes b d is, (limits.fits, ok)))
 rewritten b d is (Err e) ok limits =
@@ -47,7 +47,7 @@ pub array_built : (depth : ℕ) (documents : List (List ℕ)) (r : Result OwnedJ
     → IfOk r (λ owned. IsArrayOfDocuments documents (owned_bytes owned))
     → (r ≡ Err InvalidJsonb → AreWithinLimits documents → ⊥)
     → IfErr r (λ e. (e ≡ InvalidJsonb) ⊎ (e ≡ OutOfMemory))
-    → BuildsArray depth documents (bytes_of r)
+    → BuildsArray depth documents (result_bytes r)
 array_built depth documents (Ok owned) within ok past only = (within, ok)
 array_built depth documents (Err e) within ok past only =
     by_error (BuildsArray depth documents) e (λ is again. past (ap Err is)) (λ is. within) only
@@ -59,7 +59,7 @@ pub object_built : (depth : ℕ) (pairs : List (List ℕ × List ℕ)) (r : Resu
     → (r ≡ Err InvalidJsonb → PairsExceedLimits pairs)
     → (r ≡ Err ObjectDuplicateKey → IsDistinct bytes_eq (keys_of pairs) → ⊥)
     → IfErr r (λ e. (e ≡ InvalidJsonb) ⊎ ((e ≡ ObjectDuplicateKey) ⊎ (e ≡ OutOfMemory)))
-    → BuildsObject depth pairs (bytes_of r)
+    → BuildsObject depth pairs (result_bytes r)
 object_built depth pairs (Ok owned) within texts ok past twice only = (within, (texts, ok))
 object_built depth pairs (Err e) within texts ok past twice (inl is) =
     by_error (BuildsObject depth pairs) e (λ is again. (texts, past (ap Err is)))

@@ -9,7 +9,7 @@ use Rattle.jsonb_value.specs.declared.error.Error.TheVariants as errors
 use Rattle.jsonb_value.specs.declared.error.Error.TheVariants.{InvalidJsonb}
 use Rattle.jsonb_codec.specs.declared.jentry.JEntry.{JEntry}
 use Rattle.jsonb_codec.specs.JEntry.{jentry_at}
-use Rattle.jsonb_codec.specs.Word.{header_at}
+use Rattle.jsonb_codec.specs.WordBytes.{header_at}
 use Rattle.jsonb.specs.Entries.{entry_count, payloads_end, placed_at, placed_by}
 use Rattle.jsonb.specs.Steps.{◌>>=◌}
 use Rattle.jsonb.specs.declared.entries.Entry.{Entry as PlacedEntry}

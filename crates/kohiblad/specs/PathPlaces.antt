@@ -7,7 +7,7 @@ use Rattle.jsonb_value.specs.Tree.{Tree}
 use Rattle.jsonb_codec.specs.declared.constants.TheConstants.{ARRAY_CONTAINER_TAG}
 use Rattle.jsonb_codec.specs.declared.constants.TheConstants.{OBJECT_CONTAINER_TAG, CONTAINER_TAG}
 use Rattle.jsonb_codec.specs.Parts.{IsPayloadOf}
-use Rattle.jsonb_codec.specs.Word.{header_at}
+use Rattle.jsonb_codec.specs.WordBytes.{header_at}
 use Rattle.jsonb.specs.Children.{Pairwise}
 use Rattle.jsonb.specs.EntryTrees.{entry_tree}
 use Rattle.jsonb.specs.declared.entries.Entry.{Entry as PlacedEntry}

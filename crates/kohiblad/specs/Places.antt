@@ -10,7 +10,7 @@ use Rattle.jsonb_value.specs.declared.error.Error.{Error}
 use Rattle.jsonb_value.specs.Tree.{Tree, array, object}
 use Rattle.jsonb_codec.specs.declared.constants.TheConstants.{ARRAY_CONTAINER_TAG}
 use Rattle.jsonb_codec.specs.declared.constants.TheConstants.{OBJECT_CONTAINER_TAG, CONTAINER_TAG}
-use Rattle.jsonb_codec.specs.Word.{header_at}
+use Rattle.jsonb_codec.specs.WordBytes.{header_at}
 use Rattle.jsonb.specs.Building.{key_codes}
 use Rattle.jsonb.specs.Code.{scalar_bytes}
 use Rattle.jsonb.specs.Entries.{IsEntryIn, entries_in, entry_there}
@@ -18,7 +18,7 @@ use Rattle.jsonb.specs.Item.{Entry}
 use Rattle.jsonb.specs.ItemView.{ItemView}
 use Rattle.jsonb.specs.Lookup.{LooksUpBytes}
 use Rattle.jsonb.specs.Steps.{◌>>=◌}
-use Rattle.jsonb.specs.StoredEntries.{HasItems, HasMembers, find_entry}
+use Rattle.jsonb.specs.StoredEntries.{IsArrayOfEntries, IsObjectOfEntries, find_entry}
 use Rattle.jsonb.specs.declared.entries.Entry.{Entry as PlacedEntry}
 use Rattle.kohiblad.specs.declared.places.KohibladPlace.{KohibladPlace}
 use Rattle.kohiblad.specs.Status.{code, none, no_room, IsCopied, IsHandedOver, IsRefused}
@@ -135,7 +135,7 @@ IsMemberHandedOver bytes (Err e) key_before key_after key_size before after size
 abbrev pub IsItemPlace : List ℕ → Tree → ℕ → Result (Option PlacedEntry) Error → Type 0
 IsItemPlace b (array ts) index found =
     (entries : List Entry)
-    × (HasItems b ts entries
+    × (IsArrayOfEntries b ts entries
     × ((o : Option PlacedEntry)
     × ((found ≡ Ok o) × (option_map (entry_there b) o ≡ slice_get entries index))))
 IsItemPlace b t index found = found ≡ Ok None
@@ -150,7 +150,7 @@ abbrev pub AreMemberPlaces : List ℕ → Tree → ℕ
     → Result (Option (PlacedEntry × PlacedEntry)) Error → Type 0
 AreMemberPlaces b (object ps) index found =
     (members : List (List ℕ × Entry))
-    × (HasMembers b ps members
+    × (IsObjectOfEntries b ps members
     × ((o : Option (PlacedEntry × PlacedEntry))
     × ((found ≡ Ok o) × (option_map (member_there b) o ≡ slice_get members index))))
 AreMemberPlaces b t index found = found ≡ Ok None
@@ -164,7 +164,7 @@ all_entries members = key_codes (keys_of members) ++ values_of members
 abbrev pub IsPartPlace : List ℕ → Tree → ℕ → Result (Option PlacedEntry) Error → Type 0
 IsPartPlace b (object ps) number found =
     (members : List (List ℕ × Entry))
-    × (HasMembers b ps members
+    × (IsObjectOfEntries b ps members
     × ((o : Option PlacedEntry)
     × ((found ≡ Ok o)
     × (option_map (entry_there b) o ≡ slice_get (all_entries members) number))))
@@ -175,7 +175,7 @@ IsPartPlace b t number found = IsItemPlace b t number found
 abbrev pub IsValuePlace : List ℕ → Tree → List ℕ → Result (Option PlacedEntry) Error → Type 0
 IsValuePlace b (object ps) name found =
     (members : List (List ℕ × Entry))
-    × (HasMembers b ps members
+    × (IsObjectOfEntries b ps members
     × ((o : Option PlacedEntry)
     × ((found ≡ Ok o)
     × (option_map (entry_there b) o ≡ find_entry (is_name name) (length name) members))))

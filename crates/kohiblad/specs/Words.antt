@@ -12,7 +12,7 @@ pub use Rattle.jsonb_value.specs.declared.number.Number.{Number}
 pub use Rattle.json_fault.specs.Fault.{IsFaultUnder, IsJsonUnder}
 pub use Rattle.jsonb_codec.specs.Canon.{canon}
 pub use Rattle.jsonb_codec.specs.Canonical.{IsCanonical}
-pub use Rattle.jsonb_codec.specs.Contents.{Means}
+pub use Rattle.jsonb_codec.specs.Contents.{PartMeans}
 pub use Rattle.jsonb_codec.specs.Depth.{IsDocumentWithin, depth}
 pub use Rattle.jsonb_codec.specs.Doc.{Doc, IsDocument}
 pub use Rattle.jsonb_codec.specs.Parts.{IsPayloadOf}
@@ -22,7 +22,7 @@ pub use Rattle.jsonb.specs.Document.{document_bytes, document_tree}
 pub use Rattle.jsonb.specs.Entries.{IsEntryIn, entry_there}
 pub use Rattle.jsonb.specs.ItemMeaning.{meaning_of}
 pub use Rattle.jsonb.specs.Kind.{kind, kind_of_tree}
-pub use Rattle.jsonb.specs.Owned.{bytes_of}
+pub use Rattle.jsonb.specs.Owned.{result_bytes}
 pub use Rattle.jsonb.specs.Parsing.{ParsesUnder}
 pub use Rattle.jsonb.specs.Results.{document_pair}
 pub use Rattle.jsonb.specs.SortKey.{key_meaning}

@@ -2,7 +2,7 @@
 
 ghost use Rattle.std.specs.Prelude.{◌≡◌, ◌+◌, ◌<◌, ◌^◌, IfErr, IfOk, length};
 ghost use Rattle.kohiblad.specs.Words.{scalar_bytes, code, status_name, IsHandedOver, IsRefused};
-ghost use Rattle.kohiblad.specs.Words.{IsAnswered, bytes_of};
+ghost use Rattle.kohiblad.specs.Words.{IsAnswered, result_bytes};
 
 use jsonb::{Error, OwnedJsonb};
 use jsonb_codec::constants::SCALAR_CONTAINER_TAG;
@@ -110,7 +110,7 @@ pub fn hand_over<T: Copy>(answer: &[T], out: &mut [T], size: &mut usize) -> u32
 
 /// Copies out the bytes that were made, as `hand_over` does, or returns the status of the error.
 pub fn hand_over_made(made: Result<OwnedJsonb, Error>, out: &mut [u8], size: &mut usize) -> u32
-    ensures { IsAnswered (bytes_of made) out.old out.new size.new result }
+    ensures { IsAnswered (result_bytes made) out.old out.new size.new result }
 {
     match made {
         Ok(owned) => hand_over(owned.as_bytes(), out, size),

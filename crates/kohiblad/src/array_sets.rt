@@ -3,7 +3,7 @@
 ghost use Rattle.jsonb_functions.specs.ArraySets.{difference, distinct, intersection};
 ghost use Rattle.kohiblad.specs.WithMemory.{IsOverlapAnswer, MakesOfOneWithMemory};
 ghost use Rattle.kohiblad.specs.WithMemory.{MakesOfTwoWithMemory};
-ghost use Rattle.kohiblad.specs.Words.{IsOneAnswered, bytes_of, key_meaning, meaning_within};
+ghost use Rattle.kohiblad.specs.Words.{IsOneAnswered, result_bytes, key_meaning, meaning_within};
 
 use crate::answer::{code, hand_over_made};
 use crate::scalar::{KohibladTruth, no_truth, truth_of};
@@ -35,7 +35,7 @@ pub extern "C" fn kohiblad_array_distinct(
 
 // The items of an array without those that are equal to one before them.
 fn distinct_items(alloc: Global, bytes: SortKey<'_>) -> Result<OwnedJsonb, Error>
-    ensures { MakesOfOneWithMemory distinct (key_meaning bytes.entry) (bytes_of result) }
+    ensures { MakesOfOneWithMemory distinct (key_meaning bytes.entry) (result_bytes result) }
 {
     match bytes {
         SortKey::Document(document) => array_distinct(alloc, document),
@@ -71,7 +71,7 @@ pub extern "C" fn kohiblad_array_intersection(
 // The items that both arrays have.
 fn common_items(alloc: Global, left: SortKey<'_>, right: SortKey<'_>) -> Result<OwnedJsonb, Error>
     ensures { MakesOfTwoWithMemory intersection (key_meaning left.entry)
-        (key_meaning right.entry) (bytes_of result) }
+        (key_meaning right.entry) (result_bytes result) }
 {
     match (left, right) {
         (SortKey::Document(left), SortKey::Document(right)) => {
@@ -108,7 +108,7 @@ pub extern "C" fn kohiblad_array_except(
 // The items of the one array without one for each equal item of the other.
 fn items_left(alloc: Global, left: SortKey<'_>, right: SortKey<'_>) -> Result<OwnedJsonb, Error>
     ensures { MakesOfTwoWithMemory difference (key_meaning left.entry)
-        (key_meaning right.entry) (bytes_of result) }
+        (key_meaning right.entry) (result_bytes result) }
 {
     match (left, right) {
         (SortKey::Document(left), SortKey::Document(right)) => { array_except(alloc, left, right) }

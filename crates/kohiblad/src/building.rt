@@ -1,7 +1,7 @@
 //! Building arrays and objects from documents in consecutive rows.
 
 ghost use Rattle.kohiblad.specs.Words.{BuildsArray, BuildsObject, IsArrayOfRows, IsObjectOfRows};
-ghost use Rattle.kohiblad.specs.Words.{bytes_of, row_pairs};
+ghost use Rattle.kohiblad.specs.Words.{result_bytes, row_pairs};
 
 use crate::answer::{code, hand_over_made, refuse};
 use crate::checked_rows::{Documents, Members};
@@ -36,7 +36,7 @@ pub extern "C" fn kohiblad_build_array(
 
 // Builds the array of these rows, each of which is checked once.
 fn array_of(alloc: Global, rows: Rows, depth: usize) -> Result<OwnedJsonb, Error>
-    ensures { BuildsArray depth rows.entry (bytes_of result) }
+    ensures { BuildsArray depth rows.entry (result_bytes result) }
 {
     let documents = Documents::within(rows, depth)?;
     OwnedJsonb::build_array_of_documents(alloc, documents)
@@ -72,7 +72,7 @@ pub extern "C" fn kohiblad_build_object(
 
 // Builds the object of these rows, a key, then its document, and so on; each is checked once.
 fn object_of(alloc: Global, rows: Rows, depth: usize) -> Result<OwnedJsonb, Error>
-    ensures { BuildsObject depth (row_pairs rows.entry) (bytes_of result) }
+    ensures { BuildsObject depth (row_pairs rows.entry) (result_bytes result) }
 {
     let members = Members::within(rows, depth)?;
     OwnedJsonb::build_object_of_documents(alloc, members)

@@ -3,7 +3,7 @@
 ghost use Rattle.std.specs.Prelude.{◌≡◌, [], IfErr, IfOk, IsUtf8};
 ghost use Rattle.kohiblad.specs.Words.{AreKeysWritten, Error, IsContainedAnswer, IsEdited};
 ghost use Rattle.kohiblad.specs.Words.{IsOneAnswered, MakesOfOne, MakesOfTwo, Meaning};
-ghost use Rattle.kohiblad.specs.Words.{bytes_of, code, document_tree, key_meaning};
+ghost use Rattle.kohiblad.specs.Words.{result_bytes, code, document_tree, key_meaning};
 ghost use Rattle.kohiblad.specs.Words.{exists_answer, joined, meaning_within, no_truth};
 ghost use Rattle.kohiblad.specs.Words.{operation_asked, operation_in, patched, stripped};
 ghost use Rattle.kohiblad.specs.Words.{top_hashes, tree_hashes};
@@ -97,7 +97,7 @@ pub extern "C" fn kohiblad_concat(
 // Two documents put together.
 fn both_joined(alloc: Global, left: SortKey<'_>, right: SortKey<'_>) -> Result<OwnedJsonb, Error>
     ensures { MakesOfTwo joined (key_meaning left.entry) (key_meaning right.entry)
-        (bytes_of result) }
+        (result_bytes result) }
 {
     match (left, right) {
         (SortKey::Document(left), SortKey::Document(right)) => concat(alloc, left, right),
@@ -139,7 +139,7 @@ fn target_patched(
     patch: SortKey<'_>,
 ) -> Result<OwnedJsonb, Error>
     ensures { MakesOfTwo patched (key_meaning target.entry) (key_meaning patch.entry)
-        (bytes_of result) }
+        (result_bytes result) }
 {
     match (target, patch) {
         (SortKey::Document(target), SortKey::Document(patch)) => {
@@ -173,7 +173,7 @@ pub extern "C" fn kohiblad_strip_nulls(
 
 // A document without the members that are null.
 fn without_nulls(alloc: Global, bytes: SortKey<'_>) -> Result<OwnedJsonb, Error>
-    ensures { MakesOfOne stripped (key_meaning bytes.entry) (bytes_of result) }
+    ensures { MakesOfOne stripped (key_meaning bytes.entry) (result_bytes result) }
 {
     match bytes {
         SortKey::Document(document) => strip_nulls(alloc, document),

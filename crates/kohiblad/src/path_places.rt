@@ -3,7 +3,7 @@
 ghost use Rattle.std.specs.Prelude.{◌≡◌, ◌++◌, ◌<◌, ◌≤◌, ◌^◌, [], IfErr, IfOk, IfSome, OnOk};
 ghost use Rattle.std.specs.Prelude.{Ok, length, map};
 ghost use Rattle.std.specs.Iterator.{YieldsFirstBy};
-ghost use Rattle.jsonb_codec.specs.Word.{header_at};
+ghost use Rattle.jsonb_codec.specs.WordBytes.{header_at};
 ghost use Rattle.jsonb.specs.EntryTrees.{entry_tree};
 ghost use Rattle.jsonb.specs.Node.{node_tree};
 ghost use Rattle.kohiblad.specs.ChildWalks.{IsPlaceWithin, children_left, found_child, places_left};

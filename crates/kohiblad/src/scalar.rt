@@ -1,7 +1,8 @@
 //! Scalars: documents made of them, and the values read from their documents.
 
 ghost use Rattle.std.specs.Prelude.{Bool, IfNone, IfSome, IsUtf8, List, length, ℕ, ◌≡◌};
-ghost use Rattle.kohiblad.specs.Words.{Doc, Error, IsHandedOver, IsRefused, IsShort, Means, Tree};
+ghost use Rattle.kohiblad.specs.Words.{Doc, Error, IsHandedOver, IsRefused, IsShort, PartMeans};
+ghost use Rattle.kohiblad.specs.Words.{Tree};
 ghost use Rattle.kohiblad.specs.Words.{boolean, canon, code, depth, is_true, kind, kind_answer};
 ghost use Rattle.kohiblad.specs.Words.{no_place, no_truth, null, text, text_place, truth_of};
 ghost use Rattle.kohiblad.specs.Words.{why_none};
@@ -160,7 +161,7 @@ pub extern "C" fn kohiblad_as_string(bytes: &[u8]) -> KohibladPlace
 /// arrays and objects.
 pub fn scalar_part(bytes: &[u8]) -> Option<Part<'_>>
     ensures document { IfSome result (λ part. (t : Tree) × Doc bytes.now t) }
-    ensures means { IfSome result (λ part. (t : Tree) → Doc bytes.now t → Means part t) }
+    ensures means { IfSome result (λ part. (t : Tree) → Doc bytes.now t → PartMeans part t) }
     ensures none { IfNone result ((t : Tree) → depth t ≡ 0 → Doc bytes.now t → ⊥) }
 {
     match DocumentBytes::within(bytes, 0) {

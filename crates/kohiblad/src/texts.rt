@@ -1,7 +1,8 @@
 //! Printing bytes as texts, and parsing texts into documents.
 
 ghost use Rattle.kohiblad.specs.Words.{plain_text, lined_text, other_text, meaning_within};
-ghost use Rattle.kohiblad.specs.Words.{IsWrittenOut, IsReadWithin, ParsesUnder, rule_of, bytes_of};
+ghost use Rattle.kohiblad.specs.Words.{IsWrittenOut, IsReadWithin, ParsesUnder, rule_of};
+ghost use Rattle.kohiblad.specs.Words.{result_bytes};
 
 use crate::answer::{TOO_DEEP, code, hand_over, hand_over_made, refuse};
 use bstr::ByteSlice;
@@ -106,7 +107,7 @@ pub extern "C" fn kohiblad_parse(
 
 // The document of a JSON text, whose numbers have no exponent if `exponents` is 0.
 fn parsed(alloc: Global, text: &str, exponents: u32) -> Result<OwnedJsonb, Error>
-    ensures { ParsesUnder (rule_of exponents) text.now (bytes_of result) }
+    ensures { ParsesUnder (rule_of exponents) text.now (result_bytes result) }
 {
     if exponents == 0 {
         OwnedJsonb::parse(alloc, text)

@@ -2,7 +2,7 @@
 //! single growth of the buffer.
 
 ghost use Rattle.std.specs.Prelude.{◌≡◌, ◌↔◌, ◌⊎◌, List, Err, IsTrue, IfOk, IfErr, OnOk, All};
-ghost use Rattle.jsonb.specs.Children.{key_bytes};
+ghost use Rattle.jsonb.specs.Children.{map_keys};
 ghost use Rattle.jsonb.specs.Words.{slice_cmp, AllByRecursion, IsStrictlySortedBy, values_of};
 ghost use Rattle.jsonb.specs.Words.{nat_cmp, owned_bytes, ItemView, FitArray, IsArrayOf, FitObject};
 ghost use Rattle.jsonb.specs.Words.{IsObjectOf, AreKeys, AreShown, AreShownAt, ItemPairs};
@@ -42,7 +42,7 @@ pub fn object_document<T: Stored>(
 ) -> Result<OwnedJsonb, Error>
     ensures ok { IfOk result (λ owned. (ps : ItemPairs)
         → AreShownAt T.stored T.code pairs.now.entries ps → IsObjectOf ps (owned_bytes owned)) }
-    ensures keys { OnOk result (AreKeys (key_bytes pairs.now.entries)) }
+    ensures keys { OnOk result (AreKeys (map_keys pairs.now.entries)) }
     ensures held { OnOk result (AllByRecursion T.held (values_of pairs.now.entries)) }
     ensures past { result ≡ Err Error.InvalidJsonb → (ps : ItemPairs)
         → AreShownAt T.stored T.code pairs.now.entries ps → FitObject ps → ⊥ }
@@ -67,7 +67,7 @@ fn are_stored<T: Stored>(values: &[T]) -> bool
 
 fn are_stored_at<T: Stored>(pairs: &BTreeMap<&str, T>) -> bool
     ensures all { IsTrue result ↔ All T.stored (values_of pairs.now.entries) }
-    ensures ascend { IsStrictlySortedBy (slice_cmp nat_cmp) (key_bytes pairs.now.entries) }
+    ensures ascend { IsStrictlySortedBy (slice_cmp nat_cmp) (map_keys pairs.now.entries) }
 {
     pairs.values().all(|value| value.is_stored())
 }

@@ -6,7 +6,7 @@ ghost use Rattle.jsonb.specs.Words.{on_total, eq_by_cmp_equiv, partial_equiv_fro
 ghost use Rattle.jsonb.specs.Words.{partial_order_from_total, on, eq_by_cmp, as_partial_cmp};
 ghost use Rattle.jsonb.specs.Words.{tree_cmp, node_tree};
 
-use super::documents::cmp_nodes;
+use super::walk::cmp_nodes;
 use crate::document::Node;
 use std::cmp::Ordering;
 

@@ -4,7 +4,8 @@ ghost use Rattle.std.specs.Prelude.{◌≡◌, ◌+◌, ◌-◌, ◌*◌, ◌<�
 ghost use Rattle.std.specs.Prelude.{IfErr, IfSome, IsOk, OnOk};
 ghost use Rattle.jsonb.specs.Words.{FnReturnsAtPair, OBJECT_CONTAINER_TAG, FindsEntry, FindsKey};
 ghost use Rattle.jsonb.specs.Words.{jentry_at, count_under, part_length, part_start, IsEntryIn};
-ghost use Rattle.jsonb.specs.Words.{HasParts, IsRefusal, NoneOfSize, IsFirstUnread, header_count};
+ghost use Rattle.jsonb.specs.Words.{HasParts, IsRefusal, NoneOfSize, IsFirstUnread};
+ghost use Rattle.jsonb.specs.Words.{count_in_header};
 
 use crate::entries::Entry;
 use crate::item::JsonbItem;
@@ -25,11 +26,11 @@ pub const MAX_READS: u64 = 9_223_372_036_854_775_807;
 
 /// The number of pairs, `None` if the header is that of an array or a scalar. `InvalidEOF` if the
 /// header is cut off, `InvalidJsonb` if it is of no kind.
-#[tactic(auto, unfolding(crate::specs::Walk::count_under, crate::specs::Lookup::header_count))]
+#[tactic(auto, unfolding(crate::specs::Walk::count_under, crate::specs::Lookup::count_in_header))]
 pub fn count_pairs(bytes: &[u8], reads: &mut Reads) -> Result<Option<usize>, Error>
     requires { reads.old < 2 ^ 63 }
     ensures value { result ≡ count_under bytes.now OBJECT_CONTAINER_TAG }
-    ensures counted { IfOk result (λ count. IfSome count (λ n. n ≡ header_count bytes.now)) }
+    ensures counted { IfOk result (λ count. IfSome count (λ n. n ≡ count_in_header bytes.now)) }
     ensures small { IfOk result (λ count. IfSome count (λ n. n < 2 ^ 29)) }
     ensures cost { OnOk result (reads.new ≡ reads.old + 1) }
     ensures bound { (reads.old ≤ reads.new) × (reads.new ≤ reads.old + 1) }

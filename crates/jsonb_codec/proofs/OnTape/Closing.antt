@@ -13,13 +13,14 @@ use Rattle.jsonb_value.specs.WellFormed.{AreTrees, ArePairs}
 use Rattle.jsonb_value.specs.Json.Syntax.{Entries, pairs}
 use Rattle.jsonb_codec.specs.declared.constants.TheConstants.{ARRAY_CONTAINER_TAG, CONTAINER_TAG}
 use Rattle.jsonb_codec.specs.declared.constants.TheConstants.{OBJECT_CONTAINER_TAG, STRING_TAG}
-use Rattle.jsonb_codec.specs.Word.{word}
-use Rattle.jsonb_codec.specs.Shape.{AllFit, FitsInside, entries, payloads, count, key_entries}
-use Rattle.jsonb_codec.specs.Shape.{key_payloads, type_of}
+use Rattle.jsonb_codec.specs.WordBytes.{word}
+use Rattle.jsonb_codec.specs.Shape.{AllFit, FitsInside, entries, payloads, shape_count, key_entries}
+use Rattle.jsonb_codec.specs.Shape.{key_payloads, shape_type}
 use Rattle.jsonb_codec.specs.Canon.{shape_of, pairs_shapes, payload_of}
 use Rattle.jsonb_codec.specs.Tape.{run_bytes, IsRun, PiecesAre, no_piece, run_piece, block_piece}
-use Rattle.jsonb_codec.specs.Tape.{PieceIs, PayloadsAre, EntryIs, ItemsAre, HasItems, ArrayIs}
-use Rattle.jsonb_codec.specs.Tape.{shapes_of, MembersAre, IsPushed, Grows, block_pieces}
+use Rattle.jsonb_codec.specs.Tape.{PieceIs, PayloadsAre, EntryIs, TapeItemsAre, HasItemsIfFit}
+use Rattle.jsonb_codec.specs.Tape.{TapeArrayIs}
+use Rattle.jsonb_codec.specs.Tape.{shapes_of, TapeMembersAre, IsPushed, Grows, block_pieces}
 use Rattle.jsonb_codec.specs.declared.tape.pieces.Run.{Run}
 use Rattle.jsonb_codec.specs.declared.tape.pieces.Block.{Block}
 use Rattle.jsonb_codec.specs.declared.tape.pieces.Piece.{Piece}
@@ -33,7 +34,7 @@ use Rattle.jsonb_codec.proofs.OnTape.Pieces.{pieces_grow, payloads_grow}
 
 -- ---- arrays
 
-count_items : (ts : List Tree) → count (shapes_of ts) ≡ length ts
+count_items : (ts : List Tree) → shape_count (shapes_of ts) ≡ length ts
 count_items [] = refl
 count_items (t ∷ ts) = ap suc (count_items ts)
 
@@ -42,33 +43,36 @@ abbrev pub IsClosed : Storage → Entry → OpenArray → Storage → List ℕ �
 IsClosed s e a new head = (e.type_code ≡ CONTAINER_TAG) × ((p : List ℕ) → PayloadsAre s a.payloads p
     → a.size ≡ length p → (e.size ≡ length (head ++ p)) × PieceIs new e.piece (head ++ p))
 
-words_count : (s : Storage) (a : OpenArray) (ts : List Tree) → ItemsAre s a ts
-    → length a.words.items ≡ 4 * count (shapes_of ts)
+words_count : (s : Storage) (a : OpenArray) (ts : List Tree) → TapeItemsAre s a ts
+    → length a.words.items ≡ 4 * shape_count (shapes_of ts)
 words_count s a ts h = ap length h.words ∙ length-entries (shapes_of ts)
 
-pub array_unfit : (s : Storage) (a : OpenArray) (ts : List Tree) → a.fits ≡ false → ArrayIs s a ts
+pub array_unfit : (s : Storage) (a : OpenArray) (ts : List Tree) → a.fits ≡ false
+    → TapeArrayIs s a ts
     → FitsInside (shape_of (array (trees_of ts))) → ⊥
-array_unfit s a ts off h fits = subst (λ b. HasItems b s a ts) off h fits.1
+array_unfit s a ts off h fits = subst (λ b. HasItemsIfFit b s a ts) off h fits.1
 
-pub array_too_long : (s : Storage) (a : OpenArray) (ts : List Tree) → a.fits ≡ true → ArrayIs s a ts
+pub array_too_long : (s : Storage) (a : OpenArray) (ts : List Tree) → a.fits ≡ true
+    → TapeArrayIs s a ts
     → 2 ^ 29 ≤ length a.words.items / 4 → FitsInside (shape_of (array (trees_of ts))) → ⊥
 array_too_long s a ts on h long fits =
-    let held = subst (λ b. HasItems b s a ts) on h in
+    let held = subst (λ b. HasItemsIfFit b s a ts) on h in
     omega (arith, fits.0, long, words_count s a ts held)
 
 pub array_closed : (s mid new : Storage) (a : OpenArray) (ts : List Tree) (e : Entry)
-    (head : List ℕ) → a.fits ≡ true → ArrayIs s a ts → length a.words.items / 4 < 2 ^ 29
+    (head : List ℕ) → a.fits ≡ true → TapeArrayIs s a ts → length a.words.items / 4 < 2 ^ 29
     → Grows s mid → head ≡ word (ARRAY_CONTAINER_TAG + length a.words.items / 4) ++ a.words.items
     → IsClosed mid e a new head → EntryIs new e (array (trees_of ts))
 array_closed s mid new a ts e head on h short g is_head closed =
-    let held = subst (λ b. HasItems b s a ts) on h in
-    let counted : length a.words.items / 4 ≡ count (shapes_of ts) =
+    let held = subst (λ b. HasItemsIfFit b s a ts) on h in
+    let counted : length a.words.items / 4 ≡ shape_count (shapes_of ts) =
     omega (arith, words_count s a ts held) in
     let payload : head ++ payloads (shapes_of ts) ≡ payload_of (array (trees_of ts)) =
     ap (λ x. x ++ payloads (shapes_of ts)) (is_head
     ∙ ap (λ n. word (ARRAY_CONTAINER_TAG + n) ++ a.words.items) counted
-    ∙ ap (λ x. word (ARRAY_CONTAINER_TAG + count (shapes_of ts)) ++ x) held.words)
-    ∙ append_assoc (word (ARRAY_CONTAINER_TAG + count (shapes_of ts))) (entries (shapes_of ts))
+    ∙ ap (λ x. word (ARRAY_CONTAINER_TAG + shape_count (shapes_of ts)) ++ x) held.words)
+    ∙ append_assoc (word (ARRAY_CONTAINER_TAG + shape_count (shapes_of ts)))
+    (entries (shapes_of ts))
     (payloads (shapes_of ts)) in
     let made = closed.1 (payloads (shapes_of ts))
     (payloads_grow s mid a.payloads (payloads (shapes_of ts)) g held.contents) held.size in
@@ -95,7 +99,7 @@ same_entries : (es : Entries)
     → entries (pairs_shapes (pairs es)) ≡ entries (shapes_of (values_of es))
 same_entries [] = refl
 same_entries (e ∷ es) =
-    ap (λ x. word (type_of (shape_of e.1) + length (payload_of e.1)) ++ x) (same_entries es)
+    ap (λ x. word (shape_type (shape_of e.1) + length (payload_of e.1)) ++ x) (same_entries es)
 
 same_payloads : (es : Entries)
     → payloads (pairs_shapes (pairs es)) ≡ payloads (shapes_of (values_of es))
@@ -115,11 +119,11 @@ keys_fit : (es : Entries) → AllFit (pairs_shapes (pairs es)) → KeysFit es
 keys_fit [] h = tt
 keys_fit (e ∷ es) h = (h.0.0, keys_fit es h.1)
 
-count_pairs : (es : Entries) → count (pairs_shapes (pairs es)) ≡ length es
+count_pairs : (es : Entries) → shape_count (pairs_shapes (pairs es)) ≡ length es
 count_pairs [] = refl
 count_pairs (e ∷ es) = ap suc (count_pairs es)
 
-keys_of_all : (s : Storage) (ms : List Member) (es : Entries) → MembersAre s ms es
+keys_of_all : (s : Storage) (ms : List Member) (es : Entries) → TapeMembersAre s ms es
     → AreTrees (trees_of (values_of es)) → ArePairs (pairs es)
 keys_of_all s [] [] h trees = tt
 keys_of_all s (m ∷ ms) (e ∷ es) h trees =
@@ -127,7 +131,7 @@ keys_of_all s (m ∷ ms) (e ∷ es) h trees =
 keys_of_all s [] (e ∷ es) h trees = absurd h
 keys_of_all s (m ∷ ms) [] h trees = absurd h
 
-pub as_many : (s : Storage) (ms : List Member) (es : Entries) → MembersAre s ms es
+pub as_many : (s : Storage) (ms : List Member) (es : Entries) → TapeMembersAre s ms es
     → length ms ≡ length es
 as_many s [] [] h = refl
 as_many s (m ∷ ms) (e ∷ es) h = ap suc (as_many s ms es h.1)
@@ -167,22 +171,22 @@ pub record HeadIs (old : Storage) (now : Storage) (n : ℕ) (keys : List ℕ) (v
   pub done : Entries
   pub rest : Entries
   pub same : front ≡ done ++ rest
-  pub others : MembersAre old left rest
+  pub others : TapeMembersAre old left rest
   pub bytes : now.bytes.items ≡ old.bytes.items
       ++ (word (OBJECT_CONTAINER_TAG + n) ++ key_entries (pairs_shapes (pairs done)))
   pub keys_are : keys ≡ key_payloads (pairs_shapes (pairs done))
   pub short : KeysFit done
-  pub values_are : ArrayIs old values (values_of done)
+  pub values_are : TapeArrayIs old values (values_of done)
 
 pub head_begins : (old now : Storage) (n : ℕ) (keys : List ℕ) (values : OpenArray)
-    (left ms : List Member) (front : Entries) → MembersAre old ms front → left ≡ ms
+    (left ms : List Member) (front : Entries) → TapeMembersAre old ms front → left ≡ ms
     → now.bytes.items ≡ old.bytes.items ++ word (OBJECT_CONTAINER_TAG + n) → keys ≡ []
-    → ((s : Storage) → ArrayIs s values []) → HeadIs old now n keys values left front
+    → ((s : Storage) → TapeArrayIs s values []) → HeadIs old now n keys values left front
 head_begins old now n keys values left ms front h same begun none empty = record {
   done = [];
   rest = front;
   same = refl;
-  others = subst (λ xs. MembersAre old xs front) (sym same) h;
+  others = subst (λ xs. TapeMembersAre old xs front) (sym same) h;
   bytes = begun
       ∙ ap (λ x. old.bytes.items ++ x) (sym (append-nil (word (OBJECT_CONTAINER_TAG + n))));
   keys_are = none;
@@ -195,9 +199,9 @@ pub head_goes_on : (old mid now : Storage) (n : ℕ) (keys more : Vec ℕ) (befo
     → HeadIs old mid n keys.items before left front → left ≡ m ∷ later
     → IsPushed mid now keys more before after m → HeadIs old now n more.items after later front
 head_goes_on old mid now n keys more before after left later m front h next pushed =
-    by h.rest h.same (subst (λ xs. MembersAre old xs h.rest) next h.others)
+    by h.rest h.same (subst (λ xs. TapeMembersAre old xs h.rest) next h.others)
   where
-    by : (rest : Entries) → front ≡ h.done ++ rest → MembersAre old (m ∷ later) rest
+    by : (rest : Entries) → front ≡ h.done ++ rest → TapeMembersAre old (m ∷ later) rest
         → HeadIs old now n more.items after later front
     by [] same others = absurd others
     by (e ∷ rest) same others =
@@ -220,7 +224,7 @@ head_goes_on old mid now n keys more before after left later m front h next push
               ∙ ap (λ k. key_payloads (pairs_shapes (pairs h.done)) ++ k) others.0.0
               ∙ sym (key_bytes_snoc h.done e);
           short = keys_snoc h.done e h.short (omega (arith, pushed.short, ap length others.0.0));
-          values_are = subst (ArrayIs old after) (sym (values_snoc h.done e))
+          values_are = subst (TapeArrayIs old after) (sym (values_snoc h.done e))
               (pushed.value old (values_of h.done) e.1 h.values_are others.0.1.1);
         }
 
@@ -230,15 +234,15 @@ pub long_key : (old mid : Storage) (n : ℕ) (keys : List ℕ) (values : OpenArr
     → HeadIs old mid n keys values left front → left ≡ m ∷ later
     → 2 ^ 28 ≤ length (cow_bytes m.key) → FitsInside (shape_of (object (pairs front))) → ⊥
 long_key old mid n keys values left later m front h next long fits =
-    by h.rest h.done (subst (λ xs. MembersAre old xs h.rest) next h.others)
+    by h.rest h.done (subst (λ xs. TapeMembersAre old xs h.rest) next h.others)
     (subst KeysFit h.same (keys_fit front fits.1))
   where
-    by : (rest done : Entries) → MembersAre old (m ∷ later) rest → KeysFit (done ++ rest) → ⊥
+    by : (rest done : Entries) → TapeMembersAre old (m ∷ later) rest → KeysFit (done ++ rest) → ⊥
     by [] done others short = absurd others
     by (e ∷ rest) [] others short = omega (arith, short.0, long, ap length others.0.0)
     by (e ∷ rest) (d ∷ done) others short = by (e ∷ rest) done others short.1
 
-pub too_many : (s : Storage) (ms : List Member) (front : Entries) → MembersAre s ms front
+pub too_many : (s : Storage) (ms : List Member) (front : Entries) → TapeMembersAre s ms front
     → 2 ^ 29 ≤ length ms → FitsInside (shape_of (object (pairs front))) → ⊥
 too_many s ms front h many fits =
     omega (arith, many, fits.0, as_many s ms front h, count_pairs front)
@@ -250,7 +254,7 @@ all_done : (old now : Storage) (n : ℕ) (keys : List ℕ) (values : OpenArray) 
 all_done old now n keys values (m ∷ left) front h none = absurd (omega (arith, none))
 all_done old now n keys values [] front h none = by h.rest h.same h.others
   where
-    by : (rest : Entries) → front ≡ h.done ++ rest → MembersAre old [] rest → front ≡ h.done
+    by : (rest : Entries) → front ≡ h.done ++ rest → TapeMembersAre old [] rest → front ≡ h.done
     by [] same others = same ∙ append-nil h.done
     by (e ∷ rest) same others = absurd others
 
@@ -258,14 +262,14 @@ pub object_unfit : (old now : Storage) (n : ℕ) (keys : List ℕ) (values : Ope
     (left : List Member) (front : Entries) → HeadIs old now n keys values left front
     → length left ≡ 0 → values.fits ≡ false → FitsInside (shape_of (object (pairs front))) → ⊥
 object_unfit old now n keys values left front h none off fits =
-    subst (λ b. HasItems b old values (values_of h.done)) off h.values_are
+    subst (λ b. HasItemsIfFit b old values (values_of h.done)) off h.values_are
     (values_fit h.done (subst (λ es. AllFit (pairs_shapes (pairs es)))
     (all_done old now n keys values left front h none) fits.1))
 
 pub object_closed : (old now mid new : Storage) (n : ℕ) (keys : List ℕ) (values : OpenArray)
     (left ms : List Member) (front : Entries) (e : Entry) (head : List ℕ)
     → HeadIs old now n keys values left front → length left ≡ 0 → values.fits ≡ true
-    → MembersAre old ms front → n ≡ length ms → n < 2 ^ 29 → Ascend (pairs front)
+    → TapeMembersAre old ms front → n ≡ length ms → n < 2 ^ 29 → Ascend (pairs front)
     → Grows old mid
     → head ≡ (word (OBJECT_CONTAINER_TAG + n) ++ key_entries (pairs_shapes (pairs front)))
     ++ (values.words.items ++ keys)
@@ -273,15 +277,15 @@ pub object_closed : (old now mid new : Storage) (n : ℕ) (keys : List ℕ) (val
 object_closed old now mid new n keys values left ms front e head h none on all counted few ascend g
     is_head closed =
     let is_done = all_done old now n keys values left front h none in
-    let held = subst (λ es. ItemsAre old values (values_of es)) (sym is_done)
-    (subst (λ b. HasItems b old values (values_of h.done)) on h.values_are) in
+    let held = subst (λ es. TapeItemsAre old values (values_of es)) (sym is_done)
+    (subst (λ b. HasItemsIfFit b old values (values_of h.done)) on h.values_are) in
     let shapes = pairs_shapes (pairs front) in
-    let count_is : n ≡ count shapes =
+    let count_is : n ≡ shape_count shapes =
     counted ∙ as_many old ms front all ∙ sym (count_pairs front) in
     let keys_is : keys ≡ key_payloads shapes =
     h.keys_are ∙ ap (λ es. key_payloads (pairs_shapes (pairs es))) (sym is_done) in
     let words_is : values.words.items ≡ entries shapes = held.words ∙ sym (same_entries front) in
-    let tag = word (OBJECT_CONTAINER_TAG + count shapes) in
+    let tag = word (OBJECT_CONTAINER_TAG + shape_count shapes) in
     let body = payloads shapes in
     let payload : head ++ payloads (shapes_of (values_of front))
     ≡ payload_of (object (pairs front)) =

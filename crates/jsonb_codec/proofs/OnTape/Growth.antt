@@ -7,8 +7,9 @@ use Rattle.jsonb_value.specs.Json.Syntax.{Entries}
 use Rattle.jsonb_value.specs.Reader.Resume.{Adds, Content, at_key, going, items, members}
 use Rattle.jsonb_codec.specs.Shape.{payloads}
 use Rattle.jsonb_codec.specs.Canon.{payload_of}
-use Rattle.jsonb_codec.specs.Tape.{EntryIs, IsMade, HasItems, ArrayIs, shapes_of, Grows}
-use Rattle.jsonb_codec.specs.Tape.{MembersAre, ObjectIs, ObjectAt, ContainerIs, AreOpen, tape_is}
+use Rattle.jsonb_codec.specs.Tape.{EntryIs, IsMade, HasItemsIfFit, TapeArrayIs, shapes_of, Grows}
+use Rattle.jsonb_codec.specs.Tape.{TapeMembersAre, TapeObjectIs, ObjectAt, ContainerIs}
+use Rattle.jsonb_codec.specs.Tape.{AreOpenOnTape, tape_is}
 use Rattle.jsonb_codec.specs.Tape.{IsScalar, PieceIs}
 use Rattle.jsonb_codec.specs.declared.tape.storage.Storage.{Storage}
 use Rattle.jsonb_codec.specs.declared.tape.entry.Entry.{Entry}
@@ -32,10 +33,10 @@ made_grows old new (Some e) t g h = record {
 }
 
 pub array_grows : (old new : Storage) (a : OpenArray) (ts : List Tree) → Grows old new
-    → ArrayIs old a ts → ArrayIs new a ts
+    → TapeArrayIs old a ts → TapeArrayIs new a ts
 array_grows old new a ts g = by a.fits
   where
-    by : (b : Bool) → HasItems b old a ts → HasItems b new a ts
+    by : (b : Bool) → HasItemsIfFit b old a ts → HasItemsIfFit b new a ts
     by false h = h
     by true h = record {
       trees = h.trees;
@@ -46,7 +47,7 @@ array_grows old new a ts g = by a.fits
     }
 
 pub members_grow : (old new : Storage) (ms : List Member) (es : Entries) → Grows old new
-    → MembersAre old ms es → MembersAre new ms es
+    → TapeMembersAre old ms es → TapeMembersAre new ms es
 members_grow old new [] [] g h = tt
 members_grow old new (m ∷ ms) (e ∷ es) g h =
     ((h.0.0, (h.0.1.0, made_grows old new m.entry e.1 g h.0.1.1)), members_grow old new ms es g h.1)
@@ -54,7 +55,7 @@ members_grow old new [] (e ∷ es) g h = absurd h
 members_grow old new (m ∷ ms) [] g h = absurd h
 
 object_grows : (old new : Storage) (o : OpenObject) (front : Entries) → Grows old new
-    → ObjectIs old o front → ObjectIs new o front
+    → TapeObjectIs old o front → TapeObjectIs new o front
 object_grows old new o front g h = record {
   read = h.read;
   members = members_grow old new o.members.items h.read g h.members;
@@ -85,7 +86,7 @@ container_grows old new (containers.Array a) (at_key front key) g h = absurd h
 container_grows old new (containers.Object o) (items front) g h = absurd h
 
 pub open_grows : (old new : Storage) (ds : List Container) (cs : List Content) → Grows old new
-    → AreOpen old ds cs → AreOpen new ds cs
+    → AreOpenOnTape old ds cs → AreOpenOnTape new ds cs
 open_grows old new [] cs g h = absurd h
 open_grows old new (containers.Whole e ∷ []) [] g h = tt
 open_grows old new (containers.Whole e ∷ d ∷ ds) [] g h = absurd h
@@ -99,7 +100,8 @@ open_grows old new (containers.Object o ∷ ds) (c ∷ cs) g h =
     (container_grows old new (containers.Object o) c g h.0, open_grows old new ds cs g h.1)
 
 pub one_more_open : (s : Storage) (d : Container) (c : Content) (ds : List Container)
-    (cs : List Content) → ContainerIs s d c → AreOpen s ds cs → AreOpen s (d ∷ ds) (c ∷ cs)
+    (cs : List Content) → ContainerIs s d c → AreOpenOnTape s ds cs
+    → AreOpenOnTape s (d ∷ ds) (c ∷ cs)
 one_more_open s (containers.Whole e) c ds cs is h = absurd is
 one_more_open s (containers.Array a) c ds cs is h = (is, h)
 one_more_open s (containers.Object o) c ds cs is h = (is, h)
@@ -109,7 +111,7 @@ pub open_after : (old mid : Tape) (cs : List Content) → Grows old.storage mid.
     → mid.innermost ≡ old.innermost → mid.outer ≡ old.outer → tape_is old (going cs)
     → tape_is mid (going cs)
 open_after old mid cs g innermost outer h =
-    subst (λ ds. AreOpen mid.storage ds cs)
+    subst (λ ds. AreOpenOnTape mid.storage ds cs)
     (ap (λ d. d ∷ reverse old.outer.items) (sym innermost)
     ∙ ap (λ ds. mid.innermost ∷ reverse ds.items) (sym outer))
     (open_grows old.storage mid.storage (old.innermost ∷ reverse old.outer.items) cs g h)

@@ -13,7 +13,7 @@ use Rattle.std.specs.BTreeMap.{insert_entry}
 use Rattle.jsonb_value.specs.Json.Syntax.{Entries}
 use Rattle.jsonb_value.specs.Tree.{Tree}
 use Rattle.jsonb_value.specs.Value.{cow_bytes}
-use Rattle.jsonb_codec.specs.Tape.{MemberIs, MembersAre}
+use Rattle.jsonb_codec.specs.Tape.{MemberIs, TapeMembersAre}
 use Rattle.jsonb_codec.specs.declared.tape.storage.Storage.{Storage}
 use Rattle.jsonb_codec.specs.declared.tape.open.Member.{Member}
 
@@ -26,13 +26,13 @@ pub record Passed (s : Storage) (ms : List Member) (es : Entries) (key : List �
   pub others : Entries
   pub members_are : ms ≡ before ++ after
   pub here : index ≡ length before
-  pub held_before : MembersAre s before lower
-  pub held_after : MembersAre s after others
+  pub held_before : TapeMembersAre s before lower
+  pub held_after : TapeMembersAre s after others
   pub inserts : (t : Tree) → insert_entry (slice_cmp nat_cmp) es key t
       ≡ lower ++ insert_entry (slice_cmp nat_cmp) others key t
 
 pub passed_none : (s : Storage) (ms : List Member) (es : Entries) (key : List ℕ)
-    → MembersAre s ms es → Passed s ms es key 0
+    → TapeMembersAre s ms es → Passed s ms es key 0
 passed_none s ms es key h = record {
   before = [];
   after = ms;
@@ -45,8 +45,8 @@ passed_none s ms es key h = record {
   inserts = λ t. refl;
 }
 
-members_append : (s : Storage) (ms ns : List Member) (es fs : Entries) → MembersAre s ms es
-    → MembersAre s ns fs → MembersAre s (ms ++ ns) (es ++ fs)
+members_append : (s : Storage) (ms ns : List Member) (es fs : Entries) → TapeMembersAre s ms es
+    → TapeMembersAre s ns fs → TapeMembersAre s (ms ++ ns) (es ++ fs)
 members_append s [] ns [] fs h held = held
 members_append s (m ∷ ms) ns (e ∷ es) fs h held = (h.0, members_append s ms ns es fs h.1 held)
 members_append s [] ns (e ∷ es) fs h held = absurd h
@@ -80,7 +80,7 @@ record Next (s : Storage) (m : Member) (after : List Member) (others : Entries) 
   pub after_is : after ≡ m ∷ rest
   pub others_are : others ≡ first ∷ later
   pub is : MemberIs s m first
-  pub held : MembersAre s rest later
+  pub held : TapeMembersAre s rest later
 
 next : (s : Storage) (ms : List Member) (es : Entries) (key : List ℕ) (index : ℕ) (m : Member)
     (p : Passed s ms es key index) → slice_get ms index ≡ Some m → Next s m p.after p.others
@@ -89,7 +89,7 @@ next s ms es key index m p there =
     (sym (at p.before p.after) ∙ ap (slice_get (p.before ++ p.after)) (sym p.here)
     ∙ ap (λ xs. slice_get xs index) (sym p.members_are) ∙ there)
   where
-    by : (after : List Member) (others : Entries) → MembersAre s after others
+    by : (after : List Member) (others : Entries) → TapeMembersAre s after others
         → slice_get after 0 ≡ Some m → Next s m after others
     by (n ∷ rest) (e ∷ later) held first = record {
       rest = rest;
@@ -141,7 +141,7 @@ goes_on s ms es key index m p there greater =
 pub goes_before : (s : Storage) (ms new : List Member) (es : Entries) (key : List ℕ) (index : ℕ)
     (m x : Member) (t : Tree) → Passed s ms es key index → slice_get ms index ≡ Some m
     → slice_cmp nat_cmp key (cow_bytes m.key) ≡ Less → new ≡ insert ms index x
-    → MemberIs s x (key, t) → MembersAre s new (insert_entry (slice_cmp nat_cmp) es key t)
+    → MemberIs s x (key, t) → TapeMembersAre s new (insert_entry (slice_cmp nat_cmp) es key t)
 goes_before s ms new es key index m x t p there less made is =
     let n = next s ms es key index m p there in
     let items : new ≡ p.before ++ x ∷ m ∷ n.rest =
@@ -154,15 +154,15 @@ goes_before s ms new es key index m x t p there less made is =
     ∙ ap (λ o. p.lower ++ match_ordering o ((key, t) ∷ n.first ∷ n.later)
     ((n.first.0, t) ∷ n.later) (n.first ∷ insert_entry (slice_cmp nat_cmp) n.later key t))
     (compared s m n.first key Less n.is less) in
-    subst (MembersAre s new) (sym entries)
-    (subst (λ xs. MembersAre s xs (p.lower ++ (key, t) ∷ n.first ∷ n.later)) (sym items)
+    subst (TapeMembersAre s new) (sym entries)
+    (subst (λ xs. TapeMembersAre s xs (p.lower ++ (key, t) ∷ n.first ∷ n.later)) (sym items)
     (members_append s p.before (x ∷ m ∷ n.rest) p.lower ((key, t) ∷ n.first ∷ n.later)
     p.held_before (is, (n.is, n.held))))
 
 pub takes_place : (s : Storage) (ms new : List Member) (es : Entries) (key : List ℕ) (index : ℕ)
     (m x : Member) (t : Tree) → Passed s ms es key index → slice_get ms index ≡ Some m
     → slice_cmp nat_cmp key (cow_bytes m.key) ≡ Equal → new ≡ slice_set ms index x
-    → MemberIs s x (key, t) → MembersAre s new (insert_entry (slice_cmp nat_cmp) es key t)
+    → MemberIs s x (key, t) → TapeMembersAre s new (insert_entry (slice_cmp nat_cmp) es key t)
 takes_place s ms new es key index m x t p there equal made is =
     let n = next s ms es key index m p there in
     let same : key ≡ n.first.0 =
@@ -178,25 +178,25 @@ takes_place s ms new es key index m x t p there equal made is =
     ∙ ap (λ o. p.lower ++ match_ordering o ((key, t) ∷ n.first ∷ n.later)
     ((n.first.0, t) ∷ n.later) (n.first ∷ insert_entry (slice_cmp nat_cmp) n.later key t))
     (compared s m n.first key Equal n.is equal) in
-    subst (MembersAre s new) (sym entries)
-    (subst (λ xs. MembersAre s xs (p.lower ++ (n.first.0, t) ∷ n.later)) (sym items)
+    subst (TapeMembersAre s new) (sym entries)
+    (subst (λ xs. TapeMembersAre s xs (p.lower ++ (n.first.0, t) ∷ n.later)) (sym items)
     (members_append s p.before (x ∷ n.rest) p.lower ((n.first.0, t) ∷ n.later)
     p.held_before (subst (λ k. MemberIs s x (k, t)) same is, n.held)))
 
 pub goes_last : (s : Storage) (ms new : List Member) (es : Entries) (key : List ℕ) (index : ℕ)
     (x : Member) (t : Tree) → Passed s ms es key index → length ms ≤ index
     → new ≡ ms ++ x ∷ [] → MemberIs s x (key, t)
-    → MembersAre s new (insert_entry (slice_cmp nat_cmp) es key t)
+    → TapeMembersAre s new (insert_entry (slice_cmp nat_cmp) es key t)
 goes_last s ms new es key index x t p past made is =
     by p.after p.others p.held_after p.members_are (p.inserts t)
   where
-    by : (after : List Member) (others : Entries) → MembersAre s after others
+    by : (after : List Member) (others : Entries) → TapeMembersAre s after others
         → ms ≡ p.before ++ after → insert_entry (slice_cmp nat_cmp) es key t
         ≡ p.lower ++ insert_entry (slice_cmp nat_cmp) others key t
-        → MembersAre s new (insert_entry (slice_cmp nat_cmp) es key t)
+        → TapeMembersAre s new (insert_entry (slice_cmp nat_cmp) es key t)
     by [] [] held are inserts =
-        subst (MembersAre s new) (sym inserts)
-        (subst (λ xs. MembersAre s xs (p.lower ++ (key, t) ∷ []))
+        subst (TapeMembersAre s new) (sym inserts)
+        (subst (λ xs. TapeMembersAre s xs (p.lower ++ (key, t) ∷ []))
         (sym (made ∙ ap (λ xs. xs ++ x ∷ []) (are ∙ append-nil p.before)))
         (members_append s p.before (x ∷ []) p.lower ((key, t) ∷ []) p.held_before (is, tt)))
     by [] (e ∷ others) held are inserts = absurd held

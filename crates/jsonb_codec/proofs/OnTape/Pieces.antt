@@ -8,12 +8,12 @@ use Rattle.std.proofs.Math.Seq.{take-add}
 use Rattle.jsonb_value.specs.Tree.{Tree}
 use Rattle.jsonb_value.specs.Value.{trees_of}
 use Rattle.jsonb_value.specs.WellFormed.{IsTree, AreTrees}
-use Rattle.jsonb_codec.specs.Word.{word}
-use Rattle.jsonb_codec.specs.Shape.{AllFit, FitsInside, entries, payloads, type_of}
+use Rattle.jsonb_codec.specs.WordBytes.{word}
+use Rattle.jsonb_codec.specs.Shape.{AllFit, FitsInside, entries, payloads, shape_type}
 use Rattle.jsonb_codec.specs.Canon.{shape_of, payload_of}
 use Rattle.jsonb_codec.specs.Tape.{run_bytes, IsRun, block_pieces, PiecesAre, no_piece, run_piece}
 use Rattle.jsonb_codec.specs.Tape.{block_piece, PieceIs}
-use Rattle.jsonb_codec.specs.Tape.{PayloadsAre, EntryIs, HasItems, ArrayIs, shapes_of}
+use Rattle.jsonb_codec.specs.Tape.{PayloadsAre, EntryIs, HasItemsIfFit, TapeArrayIs, shapes_of}
 use Rattle.jsonb_codec.specs.Tape.{Grows}
 use Rattle.jsonb_codec.specs.declared.tape.pieces.Run.{Run}
 use Rattle.jsonb_codec.specs.declared.tape.pieces.Block.{Block}
@@ -197,12 +197,12 @@ no_payload s v pieces start end = record {
 -- ---- one more item
 
 entries_snoc : (ts : List Tree) (t : Tree) → entries (shapes_of (ts ++ t ∷ []))
-    ≡ entries (shapes_of ts) ++ word (type_of (shape_of t) + length (payload_of t))
-entries_snoc [] t = append-nil (word (type_of (shape_of t) + length (payload_of t)))
+    ≡ entries (shapes_of ts) ++ word (shape_type (shape_of t) + length (payload_of t))
+entries_snoc [] t = append-nil (word (shape_type (shape_of t) + length (payload_of t)))
 entries_snoc (u ∷ ts) t =
-    ap (λ x. word (type_of (shape_of u) + length (payload_of u)) ++ x) (entries_snoc ts t)
-    ∙ sym (append_assoc (word (type_of (shape_of u) + length (payload_of u)))
-    (entries (shapes_of ts)) (word (type_of (shape_of t) + length (payload_of t))))
+    ap (λ x. word (shape_type (shape_of u) + length (payload_of u)) ++ x) (entries_snoc ts t)
+    ∙ sym (append_assoc (word (shape_type (shape_of u) + length (payload_of u)))
+    (entries (shapes_of ts)) (word (shape_type (shape_of t) + length (payload_of t))))
 
 payloads_snoc : (ts : List Tree) (t : Tree) → payloads (shapes_of (ts ++ t ∷ []))
     ≡ payloads (shapes_of ts) ++ payload_of t
@@ -232,18 +232,18 @@ trees_snoc (u ∷ ts) t h is = (h.0, trees_snoc ts t h.1 is)
 
 -- an item that fits
 pub item_pushed : (s : Storage) (old new : OpenArray) (ts : List Tree) (t : Tree) (e : Entry)
-    → ArrayIs s old ts → EntryIs s e t → e.size < 2 ^ 28 → new.fits ≡ old.fits
+    → TapeArrayIs s old ts → EntryIs s e t → e.size < 2 ^ 28 → new.fits ≡ old.fits
     → new.words.items ≡ old.words.items ++ word (e.type_code + e.size)
     → ((storage : Storage) (p q : List ℕ) → PayloadsAre storage old.payloads p
     → PieceIs storage e.piece q → PayloadsAre storage new.payloads (p ++ q))
-    → new.size ≡ old.size + e.size → ArrayIs s new (ts ++ t ∷ [])
+    → new.size ≡ old.size + e.size → TapeArrayIs s new (ts ++ t ∷ [])
 item_pushed s old new ts t e h is short fits words pushed size =
     by old.fits refl h
   where
-    by : (b : Bool) → old.fits ≡ b → HasItems b s old ts → ArrayIs s new (ts ++ t ∷ [])
-    by false off never = subst (λ b. HasItems b s new (ts ++ t ∷ [])) (sym (fits ∙ off))
+    by : (b : Bool) → old.fits ≡ b → HasItemsIfFit b s old ts → TapeArrayIs s new (ts ++ t ∷ [])
+    by false off never = subst (λ b. HasItemsIfFit b s new (ts ++ t ∷ [])) (sym (fits ∙ off))
         (λ fit. never (fit_front ts t fit))
-    by true on held = subst (λ b. HasItems b s new (ts ++ t ∷ [])) (sym (fits ∙ on)) (record {
+    by true on held = subst (λ b. HasItemsIfFit b s new (ts ++ t ∷ [])) (sym (fits ∙ on)) (record {
       trees = trees_snoc ts t held.trees is.tree;
       fit = fit_snoc ts t held.fit is.fits (omega (arith, is.size, short));
       words = words ∙ ap (λ x. x ++ word (e.type_code + e.size)) held.words
@@ -261,8 +261,8 @@ item_pushed s old new ts t e h is short fits words pushed size =
     })
 
 pub no_items : (s : Storage) (a : OpenArray) → a.fits ≡ true → a.words.items ≡ [] → a.size ≡ 0
-    → ((storage : Storage) → PayloadsAre storage a.payloads []) → ArrayIs s a []
-no_items s a on words size payloads = subst (λ b. HasItems b s a []) (sym on) (record {
+    → ((storage : Storage) → PayloadsAre storage a.payloads []) → TapeArrayIs s a []
+no_items s a on words size payloads = subst (λ b. HasItemsIfFit b s a []) (sym on) (record {
   trees = tt;
   fit = tt;
   words = words;

@@ -8,8 +8,8 @@ use Rattle.std.proofs.Common.{true, false}
 use Rattle.std.proofs.lemmas.List.{append_assoc, append-nil, length-drop, length-take-le}
 use Rattle.std.proofs.lemmas.List.{reverse-append}
 use Rattle.jsonb_value.specs.Tree.{Tree, null, boolean, number, text, extension, array, object}
-use Rattle.jsonb_codec.specs.Word.{word}
-use Rattle.jsonb_codec.specs.Shape.{FitsInside, type_of}
+use Rattle.jsonb_codec.specs.WordBytes.{word}
+use Rattle.jsonb_codec.specs.Shape.{FitsInside, shape_type}
 use Rattle.jsonb_codec.specs.Canon.{shape_of, payload_of, canon, Fits}
 use Rattle.jsonb_codec.specs.declared.constants.TheConstants.{SCALAR_CONTAINER_TAG, CONTAINER_TAG}
 use Rattle.jsonb_codec.specs.Tape.{run_bytes, IsRun, block_pieces, PiecesAre, no_piece, run_piece}
@@ -217,7 +217,7 @@ one_list s x p h = (p, ([], (h, (sym (append-nil p), refl))))
 
 -- ---- the document of an entry
 
-pub container_canon : (t : Tree) → type_of (shape_of t) ≡ CONTAINER_TAG
+pub container_canon : (t : Tree) → shape_type (shape_of t) ≡ CONTAINER_TAG
     → (canon t ≡ payload_of t) × (FitsInside (shape_of t) → Fits t)
 container_canon null is = absurd (omega (arith, is))
 container_canon (boolean true) is = absurd (omega (arith, is))
@@ -230,10 +230,10 @@ container_canon (object ps) is = (refl, λ h. h)
 
 abbrev pub ScalarCanon : Tree → Type 0
 ScalarCanon t = (canon t ≡ word SCALAR_CONTAINER_TAG
-    ++ (word (type_of (shape_of t) + length (payload_of t)) ++ payload_of t))
+    ++ (word (shape_type (shape_of t) + length (payload_of t)) ++ payload_of t))
     × ((length (payload_of t) < 2 ^ 28 → Fits t) × (Fits t → length (payload_of t) < 2 ^ 28))
 
-pub scalar_canon : (t : Tree) → type_of (shape_of t) ≢ CONTAINER_TAG → ScalarCanon t
+pub scalar_canon : (t : Tree) → shape_type (shape_of t) ≢ CONTAINER_TAG → ScalarCanon t
 scalar_canon null other = (refl, (λ h. h, λ h. h))
 scalar_canon (boolean b) other = (refl, (λ h. h, λ h. h))
 scalar_canon (number x) other = (refl, (λ h. h, λ h. h))

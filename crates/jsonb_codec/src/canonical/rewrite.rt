@@ -3,7 +3,7 @@
 ghost use Rattle.std.specs.Prelude.{◌≡◌, ◌≤◌, ◌+◌, ◌++◌, length, vec_capacity, IsOk};
 ghost use Rattle.std.specs.Prelude.{OnOk, OnErr};
 ghost use Rattle.jsonb_codec.specs.Canon.{Fits};
-ghost use Rattle.jsonb_codec.specs.Words.{Tree, IsTree, Doc, IsDocument, canon, code_of, Means};
+ghost use Rattle.jsonb_codec.specs.Words.{Tree, IsTree, Doc, IsDocument, canon, code_of, PartMeans};
 ghost use Rattle.jsonb_codec.specs.Words.{LevelIs, MadeIfFit};
 ghost use Rattle.jsonb_codec.specs.Words.{bytes_of, part_meaning, part_laws, level_size, shape_of};
 
@@ -60,7 +60,7 @@ type PartLevel<'a> = Level<StoredEntry<'a>, Children<'a>, Object<'a>>;
 // Numbers and extension values are decoded and written in their shortest form.
 #[inline(always)]
 fn part_level<'a>(part: Part<'a>) -> PartLevel<'a>
-    ensures is { (t : Tree) → Means part.entry t
+    ensures is { (t : Tree) → PartMeans part.entry t
         → LevelIs code_of part_meaning result (shape_of t) }
     ensures inside { level_size part_meaning result ≤ length part.entry.payload.now }
 {

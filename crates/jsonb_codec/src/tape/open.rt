@@ -8,7 +8,8 @@ ghost use Rattle.jsonb_value.specs.Tree.{Tree, Ascend};
 ghost use Rattle.jsonb_value.specs.Value.{cow_bytes};
 ghost use Rattle.jsonb_value.specs.Words.{insert_entry, slice_cmp, nat_cmp};
 ghost use Rattle.jsonb_codec.specs.declared.tape.storage.Storage.{Storage};
-ghost use Rattle.jsonb_codec.specs.Tape.{ArrayIs, ObjectIs, ObjectAt, MembersAre, IsMade};
+ghost use Rattle.jsonb_codec.specs.Tape.{TapeArrayIs, TapeObjectIs, ObjectAt, TapeMembersAre};
+ghost use Rattle.jsonb_codec.specs.Tape.{IsMade};
 ghost use Rattle.jsonb_codec.specs.Tape.{LastBelow};
 ghost use Rattle.jsonb_codec.specs.Tape.{MemberIs, member_of};
 
@@ -23,7 +24,7 @@ use std::collections::BTreeMap;
 use std::mem::replace;
 
 // Up to this many members are put in order one by one, and more by a map.
-const FEW: usize = 32;
+const FEW_MEMBERS: usize = 32;
 
 /// An array that is being read: the entry words and the payloads of its items, `size` bytes, if all
 /// of them fit.
@@ -38,7 +39,7 @@ pub struct OpenArray {
 impl OpenArray {
     /// No items.
     pub fn new(alloc: Global) -> OpenArray
-        ensures { (storage : Storage) → ArrayIs storage result [] }
+        ensures { (storage : Storage) → TapeArrayIs storage result [] }
     {
         OpenArray {
             words: Vec::new(alloc),
@@ -50,7 +51,7 @@ impl OpenArray {
 
     /// Forgets all items, but keeps the memory.
     pub fn clear(&mut self)
-        ensures { (storage : Storage) → ArrayIs storage self.new [] }
+        ensures { (storage : Storage) → TapeArrayIs storage self.new [] }
     {
         self.words.clear();
         self.payloads.clear();
@@ -62,8 +63,8 @@ impl OpenArray {
     #[inline(always)]
     pub fn push(&mut self, entry: Option<Entry>) -> Result<(), Error>
         ensures ok { OnOk result ((storage : Storage) (front : List Tree) (t : Tree)
-            → ArrayIs storage self.old front → IsMade storage entry t
-            → ArrayIs storage self.new (front ++ t ∷ [])) }
+            → TapeArrayIs storage self.old front → IsMade storage entry t
+            → TapeArrayIs storage self.new (front ++ t ∷ [])) }
         ensures memory { IfErr result (λ e. e ≡ OutOfMemory) }
     {
         let Some(entry) = entry else {
@@ -104,7 +105,7 @@ pub struct OpenObject<'a> {
 impl<'a> OpenObject<'a> {
     /// No members. The memory of these is kept.
     pub fn new(mut members: Vec<Member<'a>>) -> OpenObject<'a>
-        ensures { (storage : Storage) → ObjectIs storage result [] }
+        ensures { (storage : Storage) → TapeObjectIs storage result [] }
     {
         members.clear();
         OpenObject {
@@ -117,7 +118,7 @@ impl<'a> OpenObject<'a> {
     /// Takes the key whose value is read next.
     #[inline(always)]
     pub fn set_key(&mut self, key: CowStr<'a>)
-        ensures { (storage : Storage) (front : Entries) → ObjectIs storage self.old front
+        ensures { (storage : Storage) (front : Entries) → TapeObjectIs storage self.old front
             → ObjectAt storage self.new front (cow_bytes key.entry) }
     {
         self.ascends = still_ascends(self.ascends, &self.members, key.as_str());
@@ -129,7 +130,7 @@ impl<'a> OpenObject<'a> {
         ensures ok { OnOk result
             ((storage : Storage) (front : Entries) (key : List ℕ) (t : Tree)
             → ObjectAt storage self.old front key → IsMade storage entry t
-            → ObjectIs storage self.new (insert_entry (slice_cmp nat_cmp) front key t)) }
+            → TapeObjectIs storage self.new (insert_entry (slice_cmp nat_cmp) front key t)) }
         ensures memory { IfErr result (λ e. e ≡ OutOfMemory) }
     {
         let key = replace(&mut self.key, CowStr::Borrowed(""));
@@ -140,8 +141,8 @@ impl<'a> OpenObject<'a> {
     /// The members in the order of their keys, the last of equal keys.
     pub fn into_members(self, alloc: Global) -> Result<Vec<Member<'a>>, Error>
         ensures ok { IfOk result (λ members. (storage : Storage) (front : Entries)
-            → ObjectIs storage self.entry front
-            → MembersAre storage members.items front × Ascend (pairs front)) }
+            → TapeObjectIs storage self.entry front
+            → TapeMembersAre storage members.items front × Ascend (pairs front)) }
         ensures memory { IfErr result (λ e. e ≡ OutOfMemory) }
     {
         let OpenObject {
@@ -161,7 +162,7 @@ impl<'a> OpenObject<'a> {
 fn still_ascends(ascends: bool, members: &[Member<'_>], key: &str) -> bool
     ensures before { result ≡ true → ascends ≡ true }
     ensures last { result ≡ true → (storage : Storage) (read : Entries)
-        → MembersAre storage members.now read → LastBelow None read key.now }
+        → TapeMembersAre storage members.now read → LastBelow None read key.now }
     ensures utf8 { IsUtf8 key.now }
 {
     if !ascends {
@@ -176,12 +177,12 @@ fn still_ascends(ascends: bool, members: &[Member<'_>], key: &str) -> bool
 // The members in the order of their keys, the last of equal keys.
 fn in_order<'a>(alloc: Global, members: Vec<Member<'a>>) -> Result<Vec<Member<'a>>, Error>
     ensures ok { IfOk result (λ sorted. (storage : Storage) (read : Entries)
-        → MembersAre storage members.entry.items read
-        → MembersAre storage sorted.items (insert_all [] read)
+        → TapeMembersAre storage members.entry.items read
+        → TapeMembersAre storage sorted.items (insert_all [] read)
         × Ascend (pairs (insert_all [] read))) }
     ensures memory { IfErr result (λ e. e ≡ OutOfMemory) }
 {
-    if members.len() <= FEW {
+    if members.len() <= FEW_MEMBERS {
         return few_in_order(alloc, members);
     }
     let mut sorted = Vec::new(alloc);
@@ -194,8 +195,8 @@ fn in_order<'a>(alloc: Global, members: Vec<Member<'a>>) -> Result<Vec<Member<'a
 // The same of few members, one after another.
 fn few_in_order<'a>(alloc: Global, members: Vec<Member<'a>>) -> Result<Vec<Member<'a>>, Error>
     ensures ok { IfOk result (λ sorted. (storage : Storage) (read : Entries)
-        → MembersAre storage members.entry.items read
-        → MembersAre storage sorted.items (insert_all [] read)
+        → TapeMembersAre storage members.entry.items read
+        → TapeMembersAre storage sorted.items (insert_all [] read)
         × Ascend (pairs (insert_all [] read))) }
     ensures memory { IfErr result (λ e. e ≡ OutOfMemory) }
 {
@@ -210,8 +211,8 @@ fn few_in_order<'a>(alloc: Global, members: Vec<Member<'a>>) -> Result<Vec<Membe
 // Puts a member in its place among members in the order of their keys, or in that of its key.
 fn insert<'a>(sorted: &mut Vec<Member<'a>>, member: Member<'a>) -> Result<(), Error>
     ensures ok { OnOk result ((storage : Storage) (front : Entries) (key : List ℕ) (t : Tree)
-        → MembersAre storage sorted.old.items front → MemberIs storage member.entry (key, t)
-        → MembersAre storage sorted.new.items
+        → TapeMembersAre storage sorted.old.items front → MemberIs storage member.entry (key, t)
+        → TapeMembersAre storage sorted.new.items
         (insert_entry (slice_cmp nat_cmp) front key t)) }
     ensures memory { IfErr result (λ e. e ≡ OutOfMemory) }
 {
@@ -238,8 +239,8 @@ fn by_key<'a>(
     members: Vec<Member<'a>>,
 ) -> Result<BTreeMap<CowStr<'a>, Option<Entry>>, Error>
     ensures ok { IfOk result (λ found. (storage : Storage) (read : Entries)
-        → MembersAre storage members.entry.items read
-        → MembersAre storage (map member_of found.entries) (insert_all [] read)) }
+        → TapeMembersAre storage members.entry.items read
+        → TapeMembersAre storage (map member_of found.entries) (insert_all [] read)) }
     ensures memory { IfErr result (λ e. e ≡ OutOfMemory) }
 {
     let mut found = BTreeMap::new(alloc);

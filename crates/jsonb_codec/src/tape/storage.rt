@@ -3,13 +3,14 @@
 ghost use Rattle.std.specs.Prelude.{◌≡◌, ◌<◌, ◌≤◌, ◌++◌, ◌+◌, ◌^◌, ℕ, true, false, List, length};
 ghost use Rattle.std.specs.Prelude.{drop};
 ghost use Rattle.std.specs.Prelude.{IfErr, IfOk, OnOk};
-ghost use Rattle.jsonb_codec.specs.Word.{word};
+ghost use Rattle.jsonb_codec.specs.WordBytes.{word};
 ghost use Rattle.jsonb_value.specs.declared.error.Error.TheVariants.{OutOfMemory};
 ghost use Rattle.jsonb_value.specs.Json.Syntax.{Entries, pairs};
 ghost use Rattle.jsonb_value.specs.NumCode.{number_payload};
 ghost use Rattle.jsonb_value.specs.Tree.{Tree, array, object, number, Ascend};
 ghost use Rattle.jsonb_value.specs.Value.{cow_bytes, trees_of};
-ghost use Rattle.jsonb_codec.specs.Tape.{ArrayIs, MembersAre, IsMade, EntryIs, Grows, PayloadsAre};
+ghost use Rattle.jsonb_codec.specs.Tape.{TapeArrayIs, TapeMembersAre, IsMade, EntryIs, Grows};
+ghost use Rattle.jsonb_codec.specs.Tape.{PayloadsAre};
 ghost use Rattle.jsonb_codec.specs.Tape.{IsPushed, PieceIs, block_pieces, run_bytes};
 
 use super::entry::Entry;
@@ -129,7 +130,8 @@ impl Storage {
     /// Closes an array.
     pub fn close_array(&mut self, parts: &mut OpenArray) -> Result<Option<Entry>, Error>
         ensures grows { IfOk result (λ entry. Grows self.old self.new) }
-        ensures ok { IfOk result (λ entry. (front : List Tree) → ArrayIs self.old parts.old front
+        ensures ok { IfOk result (λ entry. (front : List Tree)
+            → TapeArrayIs self.old parts.old front
             → IsMade self.new entry (array (trees_of front))) }
         ensures memory { IfErr result (λ e. e ≡ OutOfMemory) }
     {
@@ -154,7 +156,7 @@ impl Storage {
     ) -> Result<Option<Entry>, Error>
         ensures grows { IfOk result (λ entry. Grows self.old self.new) }
         ensures ok { IfOk result (λ entry. (front : Entries)
-            → MembersAre self.old members.now front → Ascend (pairs front)
+            → TapeMembersAre self.old members.now front → Ascend (pairs front)
             → IsMade self.new entry (object (pairs front))) }
         ensures memory { IfErr result (λ e. e ≡ OutOfMemory) }
     {

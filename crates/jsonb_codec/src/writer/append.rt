@@ -8,11 +8,12 @@
 ghost use Rattle.std.specs.Prelude.{◌≡◌, ◌<◌, ◌≤◌, ◌+◌, ◌++◌, ◌^◌, ◌⊎◌, ◌↔◌, ℕ, length, Err, IsOk};
 ghost use Rattle.std.specs.Prelude.{vec_capacity, IfErr, OnOk, OnErr};
 ghost use Rattle.jsonb_codec.specs.Shape as shapes;
-ghost use Rattle.jsonb_codec.specs.Shape.{Fits};
-ghost use Rattle.jsonb_codec.specs.Words.{word, Shape, Shapes, payload, payloads, entries, type_of};
+ghost use Rattle.jsonb_codec.specs.Shape.{ShapeFits};
+ghost use Rattle.jsonb_codec.specs.Words.{word, Shape, Shapes, payload, payloads, entries};
+ghost use Rattle.jsonb_codec.specs.Words.{shape_type};
 ghost use Rattle.jsonb_codec.specs.Words.{key_entries, key_payloads, body, document, FitsEntry};
 ghost use Rattle.jsonb_codec.specs.Words.{LevelIs};
-ghost use Rattle.jsonb_codec.specs.Words.{LevelHeld, HasRoom, AppendsBytes, IsAt, CanWrite};
+ghost use Rattle.jsonb_codec.specs.Words.{LevelHeld, HasRoom, AppendsBytes, HasWordsAt, CanWrite};
 ghost use Rattle.jsonb_codec.specs.Words.{CanGoOn};
 
 use super::measure::{item_size, measure_document, value_size};
@@ -36,15 +37,15 @@ pub fn append_document<S: Source>(
 ) -> Result<(), Error>
     requires { (s : Shape) × LevelIs S.Leaf.code S.meaning level s }
     ensures appended { OnOk result ((s : Shape) → LevelIs S.Leaf.code S.meaning level s
-        → Fits s × (buf.new.items ≡ buf.old.items ++ document s)) }
+        → ShapeFits s × (buf.new.items ≡ buf.old.items ++ document s)) }
     ensures held { OnOk result (LevelHeld S.meaning level) }
     ensures err { OnErr result (buf.new.items ≡ buf.old.items) }
     ensures past { (result ≡ Err Error.InvalidJsonb)
-        ↔ ((s : Shape) → LevelIs S.Leaf.code S.meaning level s → Fits s → ⊥) }
+        ↔ ((s : Shape) → LevelIs S.Leaf.code S.meaning level s → ShapeFits s → ⊥) }
     ensures memory { result ≡ Err Error.OutOfMemory
-        → (s : Shape) → LevelIs S.Leaf.code S.meaning level s → Fits s }
+        → (s : Shape) → LevelIs S.Leaf.code S.meaning level s → ShapeFits s }
     ensures only { IfErr result (λ e. (e ≡ Error.InvalidJsonb) ⊎ (e ≡ Error.OutOfMemory)) }
-    ensures room { (s : Shape) → LevelIs S.Leaf.code S.meaning level s → Fits s
+    ensures room { (s : Shape) → LevelIs S.Leaf.code S.meaning level s → ShapeFits s
         → length buf.old.items + length (document s) ≤ vec_capacity buf.old → IsOk result }
 {
     let size = measure_document::<S>(level)?;
@@ -73,7 +74,7 @@ pub fn append_bytes(out: &mut Vec<u8>, bytes: &[u8])
 }
 
 /// Appends one word. The buffer must have the capacity.
-#[tactic(auto, unfolding(crate::specs::Word::word))]
+#[tactic(auto, unfolding(crate::specs::WordBytes::word))]
 #[inline(always)]
 pub fn append_word(out: &mut Vec<u8>, number: u32)
     requires { HasRoom out.old (word number) }
@@ -85,8 +86,9 @@ pub fn append_word(out: &mut Vec<u8>, number: u32)
 // The length in the container's entry word that was written at index `entry`.
 #[inline(always)]
 fn entry_size(out: &Vec<u8>, entry: usize) -> usize
-    requires { (n : ℕ) × ((n < 2 ^ 28) × IsAt entry (word (CONTAINER_TAG + n)) out.now.items) }
-    ensures { (n : ℕ) → n < 2 ^ 28 → IsAt entry (word (CONTAINER_TAG + n)) out.now.items
+    requires { (n : ℕ)
+        × ((n < 2 ^ 28) × HasWordsAt entry (word (CONTAINER_TAG + n)) out.now.items) }
+    ensures { (n : ℕ) → n < 2 ^ 28 → HasWordsAt entry (word (CONTAINER_TAG + n)) out.now.items
         → result ≡ n }
 {
     let Ok(word) = read_word(out, entry) else {
@@ -260,7 +262,7 @@ fn append_items<S: Source>(
     unlimited_levels: usize,
 )
     requires { (ss : Shapes) × (S.meaning.items items ss
-        × (CanGoOn out.old ss (payloads ss) × IsAt words (entries ss) out.old.items)) }
+        × (CanGoOn out.old ss (payloads ss) × HasWordsAt words (entries ss) out.old.items)) }
     ensures { (ss : Shapes) → S.meaning.items items ss
         → AppendsBytes out.old out.new (payloads ss) }
 {
@@ -283,7 +285,7 @@ fn append_values<S: Source>(
     unlimited_levels: usize,
 )
     requires { (ss : Shapes) × (S.meaning.members members ss
-        × (CanGoOn out.old ss (payloads ss) × IsAt words (entries ss) out.old.items)) }
+        × (CanGoOn out.old ss (payloads ss) × HasWordsAt words (entries ss) out.old.items)) }
     ensures { (ss : Shapes) → S.meaning.members members ss
         → AppendsBytes out.old out.new (payloads ss) }
 {
@@ -307,7 +309,7 @@ fn append_child<S: Source>(
 )
     requires { (s : Shape) × (S.meaning.child child s × (FitsEntry s
         × (HasRoom out.old (payload s)
-        × IsAt entry (word (type_of s + length (payload s))) out.old.items))) }
+        × HasWordsAt entry (word (shape_type s + length (payload s))) out.old.items))) }
     ensures { (s : Shape) → S.meaning.child child s → AppendsBytes out.old out.new (payload s) }
 {
     match S::level(child) {

@@ -12,8 +12,9 @@
 ghost use Rattle.std.specs.Prelude.{◌≡◌, ◌≤◌, ◌<◌, ◌+◌, ◌^◌, length, IfSome, IfNone, OnSome, IfOk};
 ghost use Rattle.std.specs.Prelude.{IfErr, OnOk, OnErr};
 ghost use Rattle.jsonb_codec.specs.Shape as shapes;
-ghost use Rattle.jsonb_codec.specs.Shape.{Fits};
-ghost use Rattle.jsonb_codec.specs.Words.{Shape, Shapes, count, body, payload, document, AllFit};
+ghost use Rattle.jsonb_codec.specs.Shape.{ShapeFits};
+ghost use Rattle.jsonb_codec.specs.Words.{Shape, Shapes, shape_count, body, payload, document};
+ghost use Rattle.jsonb_codec.specs.Words.{AllFit};
 ghost use Rattle.jsonb_codec.specs.Words.{FitsInside, FitsEntry, LevelIs, LevelHeld, AreFew};
 ghost use Rattle.jsonb_codec.specs.Words.{TakesLeft};
 
@@ -33,9 +34,9 @@ const FIRST_LIMIT: usize = 32;
 
 // The later siblings that are measured before a container: at most this many, up to this limit, and
 // only if they and the container are longer than this in total.
-const FEW: usize = 2;
+const FEW_SIBLINGS: usize = 2;
 
-const SHORT: usize = 20;
+const SHORT_SIBLINGS: usize = 20;
 
 const SHORT_IN_TOTAL: usize = 96;
 
@@ -46,9 +47,10 @@ pub fn measure_document<S: Source>(
 ) -> Result<usize, Error>
     requires { (s : Shape) × LevelIs S.Leaf.code S.meaning level s }
     ensures ok { IfOk result (λ n. (s : Shape) → LevelIs S.Leaf.code S.meaning level s
-        → Fits s × (n ≡ length (document s))) }
+        → ShapeFits s × (n ≡ length (document s))) }
     ensures held { OnOk result (LevelHeld S.meaning level) }
-    ensures err { OnErr result ((s : Shape) → LevelIs S.Leaf.code S.meaning level s → Fits s → ⊥) }
+    ensures err { OnErr result
+        ((s : Shape) → LevelIs S.Leaf.code S.meaning level s → ShapeFits s → ⊥) }
     ensures only { IfErr result (λ e. e ≡ Error.InvalidJsonb) }
 {
     let end = match level {
@@ -145,7 +147,7 @@ fn measure_object<S: Source>(object: S::Object, start: usize, limit: usize) -> O
 #[cycle(measure)]
 #[inline(always)]
 fn measure_items<S: Source>(items: S::Items, start: usize, limit: usize) -> Option<usize>
-    requires are { (ss : Shapes) × (S.meaning.items items ss × (count ss < 2 ^ 29)) }
+    requires are { (ss : Shapes) × (S.meaning.items items ss × (shape_count ss < 2 ^ 29)) }
     requires start { start ≤ limit }
     requires limit { limit ≤ 2 ^ 60 }
     ensures some { IfSome result (λ end. (ss : Shapes) → S.meaning.items items ss
@@ -168,7 +170,7 @@ fn measure_items<S: Source>(items: S::Items, start: usize, limit: usize) -> Opti
 #[cycle(measure)]
 #[inline(always)]
 fn measure_members<S: Source>(members: S::Members, start: usize, limit: usize) -> Option<usize>
-    requires are { (ss : Shapes) × (S.meaning.members members ss × (count ss < 2 ^ 29)) }
+    requires are { (ss : Shapes) × (S.meaning.members members ss × (shape_count ss < 2 ^ 29)) }
     requires start { start ≤ limit }
     requires limit { limit ≤ 2 ^ 60 }
     ensures some { IfSome result (λ end. (ss : Shapes) → S.meaning.members members ss
@@ -298,8 +300,8 @@ fn item_size_by_limits<S: Source>(
     requires limit { 0 < first_limit }
     ensures { (s : Shape) → LevelIs S.Leaf.code S.meaning item s → result ≡ length (payload s) }
 {
-    if left > SHORT_IN_TOTAL && S::count(later) <= FEW {
-        if let Some(size) = measure_items::<S>(later, 0, SHORT) {
+    if left > SHORT_IN_TOTAL && S::count(later) <= FEW_SIBLINGS {
+        if let Some(size) = measure_items::<S>(later, 0, SHORT_SIBLINGS) {
             return left - size;
         }
     }
@@ -328,8 +330,8 @@ fn value_size_by_limits<S: Source>(
     requires limit { 0 < first_limit }
     ensures { (s : Shape) → LevelIs S.Leaf.code S.meaning value s → result ≡ length (payload s) }
 {
-    if left > SHORT_IN_TOTAL && S::members_left(&later) <= FEW {
-        if let Some(size) = measure_members::<S>(S::fork(&later), 0, SHORT) {
+    if left > SHORT_IN_TOTAL && S::members_left(&later) <= FEW_SIBLINGS {
+        if let Some(size) = measure_members::<S>(S::fork(&later), 0, SHORT_SIBLINGS) {
             return left - size;
         }
     }

@@ -4,8 +4,9 @@ ghost use Rattle.std.specs.Prelude.{◌≡◌, ◌<◌, ◌≤◌, ◌+◌, ◌^
 ghost use Rattle.std.specs.Prelude.{MatchOption};
 ghost use Rattle.jsonb_codec.specs.declared.constants.TheConstants.{STRING_TAG};
 ghost use Rattle.jsonb_codec.specs.Room.{HasRoom, AppendsBytes};
-ghost use Rattle.jsonb_codec.specs.Shape.{Shape, Shapes, no_shapes, count};
-ghost use Rattle.jsonb_codec.specs.Source.{Meaning, Laws, LevelIs, AreSplit, level_size, LevelHeld};
+ghost use Rattle.jsonb_codec.specs.Shape.{Shape, Shapes, no_shapes, shape_count};
+ghost use Rattle.jsonb_codec.specs.Source.{SourceMeaning, Laws, LevelIs, AreSplit, level_size};
+ghost use Rattle.jsonb_codec.specs.Source.{LevelHeld};
 
 /// A scalar with a type and a payload.
 pub trait Leaf: Copy {
@@ -69,7 +70,7 @@ pub trait Source {
 
     type Members: Drop;
 
-    ghost meaning: { Meaning Self.Child Self.Items Self.Object Self.Members };
+    ghost meaning: { SourceMeaning Self.Child Self.Items Self.Object Self.Members };
 
     ghost laws: { Laws meaning };
 
@@ -97,7 +98,7 @@ pub trait Source {
 
     /// The number of items.
     fn count(items: Self::Items) -> usize
-        ensures { (ss : Shapes) → meaning.items items ss → result ≡ count ss };
+        ensures { (ss : Shapes) → meaning.items items ss → result ≡ shape_count ss };
 
     /// The first item, and the items after it. `None` if there is none.
     fn split_item(items: Self::Items) -> Option<(Self::Child, Self::Items)>
@@ -112,7 +113,7 @@ pub trait Source {
     /// How many members an object has, which is known at once: a walk over them may take a step for
     /// each of them to begin.
     fn object_count(object: Self::Object) -> usize
-        ensures { (ss : Shapes) → meaning.object object ss → result ≡ count ss };
+        ensures { (ss : Shapes) → meaning.object object ss → result ≡ shape_count ss };
 
     /// An iteration over the members of an object.
     fn members(object: Self::Object) -> Self::Members
@@ -122,7 +123,7 @@ pub trait Source {
 
     /// The number of members left.
     fn members_left(members: &Self::Members) -> usize
-        ensures { (ss : Shapes) → meaning.members members.now ss → result ≡ count ss };
+        ensures { (ss : Shapes) → meaning.members members.now ss → result ≡ shape_count ss };
 
     /// A second iteration over the members left.
     fn fork(members: &Self::Members) -> Self::Members

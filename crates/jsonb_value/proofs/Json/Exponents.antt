@@ -18,7 +18,7 @@ use Rattle.jsonb_value.specs.Json.Numeral.{numeral_text, is_whole, is_exponent, 
 use Rattle.jsonb_value.specs.Json.Numeral.{signed_number, number_of, whole_number, wide_number}
 use Rattle.jsonb_value.specs.Json.Numeral.{decimal_number, value_without_point, exponent_value}
 use Rattle.jsonb_value.specs.Json.Numeral.{scaled_number, numeral_meaning}
-use Rattle.jsonb_value.specs.Reader.Digits.{Counts, HasInteger}
+use Rattle.jsonb_value.specs.Reader.Digits.{IsCounted, HasInteger}
 use Rattle.jsonb_value.proofs.Json.Tests.{and_both, and_true, by_false, by_true, cond_some}
 
 -- ---- past 128 bits
@@ -108,7 +108,7 @@ scaled_past b f n m h =
 abbrev Stands : ℕ → ℕ → Type 0
 Stands n raised = (raised ≡ n) ⊎ ((2 ^ 128 ≤ n) × (2 ^ 128 ≤ raised + 1))
 
-stands : (n raised : ℕ) (o : Option ℕ) → Counts n o → raised ≡ unwrap_or o (2 ^ 128 - 1)
+stands : (n raised : ℕ) (o : Option ℕ) → IsCounted n o → raised ≡ unwrap_or o (2 ^ 128 - 1)
     → Stands n raised
 stands n raised None counts e = inr (omega arith, omega arith)
 stands n raised (Some x) counts e = inl (e ∙ counts.1)

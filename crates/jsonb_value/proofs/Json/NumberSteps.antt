@@ -12,7 +12,7 @@ use Rattle.jsonb_value.specs.Json.Bind.{◌>>=◌}
 use Rattle.jsonb_value.specs.declared.parser.number.Digits.{Digits}
 use Rattle.jsonb_value.specs.declared.parser.number.Exponents.{Exponents}
 use Rattle.jsonb_value.specs.declared.parser.number.Integer.{Integer}
-use Rattle.jsonb_value.specs.Reader.Digits.{Counts, AreDigits, HasInteger}
+use Rattle.jsonb_value.specs.Reader.Digits.{IsCounted, AreDigits, HasInteger}
 use Rattle.jsonb_value.proofs.Json.DigitLaws.{digits_value_after-append}
 use Rattle.jsonb_value.specs.declared.number.Number.{Number}
 use Rattle.jsonb_value.specs.Json.Characters.{zero_digit}
@@ -73,10 +73,10 @@ number_found rule s s1 w s2 f s3 s4 b z r sign whole fraction exponent value =
 no_test : (b : Bool) → (IsTrue b → ⊥) → b ≡ false
 no_test b h = grind arith
 
-counted_none : (n : ℕ) (o : Option ℕ) → Counts n o → o ≡ None → 2 ^ 128 ≤ n
+counted_none : (n : ℕ) (o : Option ℕ) → IsCounted n o → o ≡ None → 2 ^ 128 ≤ n
 counted_none n o h e = grind arith
 
-counted_some : (n m : ℕ) (o : Option ℕ) → Counts n o → o ≡ Some m → n ≡ m
+counted_some : (n m : ℕ) (o : Option ℕ) → IsCounted n o → o ≡ Some m → n ≡ m
 counted_some n m o h e = grind arith
 
 -- the results of the code's steps
@@ -97,8 +97,8 @@ pub record HasParts (rule : Exponents) (s s4 : List ℕ) (b : Bool) (digits : Di
 
 pub has_parts : (rule : Exponents) (s s1 s2 s3 s4 : List ℕ) (b : Bool) (o : Option ℕ)
     (digits : Digits) (exponent : Integer) → (b, s1) ≡ read_sign s
-    → (whole : (ds : List ℕ) × (read_whole s1 ≡ Some (ds, s2)) × Counts (digits_value 10 ds) o)
-    → ((n : ℕ) → Counts n o → (ds : List ℕ) × (read_fraction s2 ≡ Some (ds, s3))
+    → (whole : (ds : List ℕ) × (read_whole s1 ≡ Some (ds, s2)) × IsCounted (digits_value 10 ds) o)
+    → ((n : ℕ) → IsCounted n o → (ds : List ℕ) × (read_fraction s2 ≡ Some (ds, s3))
     × AreDigits n ds digits)
     → (read : (z : ℤ) × (read_exponent rule s3 ≡ Some (z, s4)) × HasInteger z exponent)
     → HasParts rule s s4 b digits exponent

@@ -13,7 +13,7 @@ use Rattle.std.specs.Str.{IsUtf8}
 use Rattle.jsonb_value.specs.declared.number.Number.{Number}
 use Rattle.jsonb_value.specs.declared.parser.number.Exponents.TheVariants.{Forbidden}
 use Rattle.jsonb_value.specs.Plain.{IsPlain, ArePlain, PairsPlain}
-use Rattle.jsonb_value.specs.Text.{Layout, in_one_line, on_lines, inside, line_start, colon}
+use Rattle.jsonb_value.specs.Text.{Layout, in_one_line, on_lines, inside, line_start, colon_text}
 use Rattle.jsonb_value.specs.Text.{number_text, laid_out, more_items}
 use Rattle.jsonb_value.specs.Text.{more_pairs}
 use Rattle.jsonb_value.specs.Text as bytes
@@ -28,7 +28,7 @@ use Rattle.jsonb_value.specs.Json.Numeral.{is_whole}
 use Rattle.jsonb_value.specs.Json.Syntax.{Syntax, nothing, truth, numeral, string, empty_array}
 use Rattle.jsonb_value.specs.Json.Syntax.{items, empty_object, members, Element, element, Items}
 use Rattle.jsonb_value.specs.Json.Syntax.{no_item, next_item, Member, member, Members, no_member}
-use Rattle.jsonb_value.specs.Json.Syntax.{next_member, string_text, syntax_text}
+use Rattle.jsonb_value.specs.Json.Syntax.{next_member, string_characters, syntax_text}
 use Rattle.jsonb_value.specs.Json.Syntax.{items_text, members_text, Entries, pairs}
 use Rattle.jsonb_value.specs.Json.Syntax.{insert_all, meaning, items_meaning}
 use Rattle.jsonb_value.specs.Json.Syntax.{members_meaning, Json}
@@ -115,11 +115,11 @@ later-blank l ts = grind (arith, line_start-blank)
 pair_after-blank : (l : Layout) (ps : Pairs) → all_blank (pair_after l ps) ≡ true
 pair_after-blank l ps = grind (arith, line_start-blank)
 
-colon-spelled : (l : Layout) → Spells (colon l) (58 ∷ gap l)
+colon-spelled : (l : Layout) → Spells (colon_text l) (58 ∷ gap l)
 colon-spelled in_one_line = Spells-ascii (58 ∷ []) refl
 colon-spelled (on_lines depth) = Spells-ascii (58 ∷ 32 ∷ []) refl
 
-colon-inside : (l : Layout) → Spells (colon l) (58 ∷ gap (inside l))
+colon-inside : (l : Layout) → Spells (colon_text l) (58 ∷ gap (inside l))
 colon-inside in_one_line = Spells-ascii (58 ∷ []) refl
 colon-inside (on_lines depth) = Spells-ascii (58 ∷ 32 ∷ []) refl
 
@@ -132,7 +132,7 @@ after_one {c} e h = Spells-append (Spells-ascii (c ∷ []) e) h
 
 -- a quoted string followed by other text
 string_spelled : {b x : List ℕ} (s : List ℕ) → IsUtf8 s → Spells b x
-    → Spells (bytes.string_text s ++ b) (string_text (printed_text s) ++ x)
+    → Spells (bytes.string_text s ++ b) (string_characters (printed_text s) ++ x)
 string_spelled s utf8 more =
     simp append_assoc
     (after_one refl (Spells-append (content_spelled s utf8) (after_one refl more)))

@@ -25,7 +25,7 @@ use Rattle.jsonb_value.specs.Json.Piece.{is_plain}
 use Rattle.jsonb_value.specs.Json.Syntax.{Syntax, nothing, truth, numeral, string, empty_array}
 use Rattle.jsonb_value.specs.Json.Syntax.{items, empty_object, members, Element, element, Items}
 use Rattle.jsonb_value.specs.Json.Syntax.{no_item, next_item, Member, member, Members, no_member}
-use Rattle.jsonb_value.specs.Json.Syntax.{next_member, string_text, syntax_text, element_text}
+use Rattle.jsonb_value.specs.Json.Syntax.{next_member, string_characters, syntax_text, element_text}
 use Rattle.jsonb_value.specs.Json.Syntax.{items_text, member_text, members_text, Entries}
 use Rattle.jsonb_value.specs.Json.Syntax.{between, meaning, element_meaning, items_meaning}
 use Rattle.jsonb_value.specs.Json.Syntax.{member_meaning, members_meaning}
@@ -186,7 +186,7 @@ pieces_stay (p ∷ ps) bytes e =
     Stays-append (piece_text p) (pieces_text ps) (piece_stays p c is) (pieces_stay ps bs are)))
 
 string_passes : (ps : List Piece) (bytes : List ℕ) → pieces_meaning ps ≡ Some bytes
-    → Passes (string_text ps) 0
+    → Passes (string_characters ps) 0
 string_passes ps bytes e = λ level rest.
     let inside = pieces_stay ps bytes e level (34 ∷ rest) in
     let split = append_assoc (pieces_text ps) (34 ∷ []) rest in
@@ -293,9 +293,9 @@ mutual
       let value = element_passes rule x t is_value in
       let mark = Passes-neutral (colon ∷ []) refl in
       λ level rest.
-      Passes-append before (string_text key ++ (after ++ colon ∷ element_text x)) 0
+      Passes-append before (string_characters key ++ (after ++ colon ∷ element_text x)) 0
       (max 0 (max 0 (max 0 (element_depth x)))) front
-      (Passes-append (string_text key) (after ++ colon ∷ element_text x) 0
+      (Passes-append (string_characters key) (after ++ colon ∷ element_text x) 0
       (max 0 (max 0 (element_depth x))) name
       (Passes-append after (colon ∷ element_text x) 0 (max 0 (element_depth x)) back
       (Passes-append (colon ∷ []) (element_text x) 0 (element_depth x) mark value))) level rest

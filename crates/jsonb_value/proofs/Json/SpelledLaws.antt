@@ -22,14 +22,14 @@ use Rattle.jsonb_value.specs.Value.{trees_of}
 use Rattle.jsonb_value.specs.Json.Syntax.{Syntax, nothing, truth, numeral, string, empty_array}
 use Rattle.jsonb_value.specs.Json.Syntax.{items, empty_object, members, Element, element, Items}
 use Rattle.jsonb_value.specs.Json.Syntax.{no_item, next_item, Member, member, Members, no_member}
-use Rattle.jsonb_value.specs.Json.Syntax.{next_member, string_text, syntax_text, element_text}
+use Rattle.jsonb_value.specs.Json.Syntax.{next_member, string_characters, syntax_text, element_text}
 use Rattle.jsonb_value.specs.Json.Syntax.{items_text, member_text, members_text, Entries, pairs}
 use Rattle.jsonb_value.specs.Json.Syntax.{insert_all, between, meaning, element_meaning}
 use Rattle.jsonb_value.specs.Json.Syntax.{items_meaning, member_meaning, members_meaning, JsonText}
 use Rattle.jsonb_value.specs.Json.Syntax.{Json}
 use Rattle.jsonb_value.specs.Reader.Reading.{skip_blank, expect}
 use Rattle.jsonb_value.specs.Reader.Reading.{read_element, after_item, read_items, read_member}
-use Rattle.jsonb_value.specs.Reader.Reading.{after_member, read_members, number_kind, kind_of}
+use Rattle.jsonb_value.specs.Reader.Reading.{after_member, read_members, number_kind, kind_begun}
 use Rattle.jsonb_value.specs.Reader.Reading.{read_number, read_value, read_document}
 use Rattle.jsonb_value.proofs.Json.Tests.{bind_then, some_same, and_true}
 use Rattle.jsonb_value.proofs.Json.Tests.{by_true, cond_some}
@@ -83,7 +83,7 @@ begins_value (c ∷ s) = not (is_blank c) && not (c == close_bracket)
 -- the characters begin with a character of a number
 abbrev BeginsNumber : List ℕ → Type 0
 BeginsNumber [] = ⊥
-BeginsNumber (c ∷ s) = kind_of c ≡ number_kind
+BeginsNumber (c ∷ s) = kind_begun c ≡ number_kind
 
 numeral_begins : (negative : Bool) (w more : List ℕ) → is_whole w ≡ true
     → (begins_value (sign_text negative ++ (w ++ more)) ≡ true)
@@ -136,8 +136,8 @@ number_value rule n m rest x e ends =
 
 text_value : (rule : Exponents) (pieces : List Piece) (m : ℕ) (rest own : List ℕ)
     → pieces_meaning pieces ≡ Some own
-    → length (string_text pieces ++ rest) ≤ m
-    → read_value rule (suc m) (string_text pieces ++ rest) ≡ Some (text own, rest)
+    → length (string_characters pieces ++ rest) ≤ m
+    → read_value rule (suc m) (string_characters pieces ++ rest) ≡ Some (text own, rest)
 unfolding read_value
 text_value rule pieces m rest own e h =
     let split = append_assoc (pieces_text pieces) (quote ∷ []) rest in

@@ -24,7 +24,7 @@ use Rattle.jsonb_value.specs.Reader.Reading.{Reader, skip_blank, expect, expect_
 use Rattle.jsonb_value.specs.Reader.Reading.{read_word, read_text, read_element, after_item}
 use Rattle.jsonb_value.specs.Reader.Reading.{read_items, read_member, after_member, read_members}
 use Rattle.jsonb_value.specs.Reader.Reading.{Kind, null_kind, true_kind, false_kind, string_kind}
-use Rattle.jsonb_value.specs.Reader.Reading.{array_kind, object_kind, number_kind, kind_of}
+use Rattle.jsonb_value.specs.Reader.Reading.{array_kind, object_kind, number_kind, kind_begun}
 use Rattle.jsonb_value.specs.Reader.Reading.{read_kind, read_number, read_value, if_last}
 use Rattle.jsonb_value.specs.Reader.Reading.{read_document}
 use Rattle.jsonb_value.proofs.Json.Tests.{bool_cases, bind_then, some_same}
@@ -263,7 +263,7 @@ kind_character array_kind c = c ≡ open_bracket
 kind_character object_kind c = c ≡ open_brace
 kind_character number_kind c = Unit {0}
 
-kind-tells : (k : Kind) (c : ℕ) → kind_of c ≡ k → kind_character k c
+kind-tells : (k : Kind) (c : ℕ) → kind_begun c ≡ k → kind_character k c
 kind-tells k c e = grind (arith, eqb-true)
 
 word-found : (rule : Exponents) (ls : List ℕ) (x : Tree) (word : Syntax) (c k : ℕ) (s : List ℕ)
@@ -300,7 +300,7 @@ unfolding read_value
 value-found rule zero s t rest e = no_error e
 value-found rule (suc n) [] t rest e = no_error e
 value-found rule (suc n) (c ∷ s) t rest e = kind-found rule (read_value rule n) (value-found rule n)
-    n (kind_of c) c s t rest (kind-tells (kind_of c) c refl) e
+    n (kind_begun c) c s t rest (kind-tells (kind_begun c) c refl) e
 
 last-found : (x : Tree) (s : List ℕ) (t : Tree) → if_last x s ≡ Some t → (x ≡ t) × (s ≡ [])
 last-found x s t e = grind arith

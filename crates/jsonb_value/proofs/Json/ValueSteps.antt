@@ -8,7 +8,7 @@ use Rattle.jsonb_value.specs.declared.parser.number.Exponents.{Exponents}
 use Rattle.jsonb_value.specs.Tree.{Tree}
 use Rattle.jsonb_value.specs.Json.Characters.{quote, colon}
 use Rattle.jsonb_value.specs.Reader.Reading.{skip_blank, expect, read_text}
-use Rattle.jsonb_value.specs.Reader.Reading.{read_value, read_kind, Kind, kind_of}
+use Rattle.jsonb_value.specs.Reader.Reading.{read_value, read_kind, Kind, kind_begun}
 use Rattle.jsonb_value.proofs.Json.Shorter.{skip_shorter, expect_shorter, text_shorter}
 use Rattle.jsonb_value.specs.declared.error.Error.{Error}
 use Rattle.jsonb_value.specs.Reader.Gives.{Gives, Fails}
@@ -20,7 +20,7 @@ fails_on e read other handed g = grind arith
 
 -- a value of the kind that its first character determines
 pub of_kind : (rule : Exponents) (P : Option (Tree × List ℕ) → Type 0) (s rest : List ℕ) (c : ℕ)
-    (k : Kind) → s ≡ c ∷ rest → k ≡ kind_of c
+    (k : Kind) → s ≡ c ∷ rest → k ≡ kind_begun c
     → ((turns : ℕ) → length rest < turns
     → P (read_kind rule (read_value rule turns) turns k c rest))
     → (n : ℕ) → length s < n → P (read_value rule n s)
@@ -30,7 +30,7 @@ of_kind rule P s rest c k e is reads (suc n) h = rw (e, ← is) (reads n (omega 
 
 pub reads_kind : (rule : Exponents) (s rest : List ℕ) (c : ℕ) (k : Kind) (t : Tree) (after : List ℕ)
     → s ≡ c ∷ rest
-    → k ≡ kind_of c
+    → k ≡ kind_begun c
     → ((turns : ℕ) → length rest < turns
     → read_kind rule (read_value rule turns) turns k c rest ≡ Some (t, after))
     → (n : ℕ) → length s < n → read_value rule n s ≡ Some (t, after)

@@ -47,8 +47,8 @@ mutual
     next_member : Member → Members → Members
 
 -- The characters of a string: its pieces between quotes.
-abbrev pub string_text : List Piece → List ℕ
-string_text pieces = quote ∷ (pieces_text pieces ++ quote ∷ [])
+abbrev pub string_characters : List Piece → List ℕ
+string_characters pieces = quote ∷ (pieces_text pieces ++ quote ∷ [])
 
 -- The characters of a truth value.
 abbrev pub truth_text : Bool → List ℕ
@@ -61,7 +61,7 @@ abbrev mutual
   syntax_text nothing = codes "null"
   syntax_text (truth b) = truth_text b
   syntax_text (numeral n) = numeral_text n
-  syntax_text (string pieces) = string_text pieces
+  syntax_text (string pieces) = string_characters pieces
   syntax_text (empty_array blank) = open_bracket ∷ (blank ++ close_bracket ∷ [])
   syntax_text (items x xs) = open_bracket ∷ (element_text x ++ items_text xs)
   syntax_text (empty_object blank) = open_brace ∷ (blank ++ close_brace ∷ [])
@@ -79,7 +79,7 @@ abbrev mutual
   -- The characters of a member.
   pub member_text : Member → List ℕ
   member_text (member before key after x) =
-      before ++ (string_text key ++ (after ++ colon ∷ element_text x))
+      before ++ (string_characters key ++ (after ++ colon ∷ element_text x))
 
   -- The characters of the rest of an object.
   pub members_text : Members → List ℕ

@@ -6,16 +6,16 @@ use Rattle.jsonb_value.specs.declared.parser.number.Integer.{Integer}
 use Rattle.jsonb_value.specs.Json.Numeral.{signed_number}
 
 -- `counted` is the number n, or nothing if n exceeds 128 bits.
-abbrev pub Counts : ℕ → Option ℕ → Type 0
-Counts n counted = SomeIff counted (n < 2 ^ 128) n
+abbrev pub IsCounted : ℕ → Option ℕ → Type 0
+IsCounted n counted = SomeIff counted (n < 2 ^ 128) n
 
 -- `digits` has the count of these digits and the number that they form after the digits of n.
 pub record AreDigits (n : ℕ) (ds : List ℕ) (digits : Digits) : Type 0 where
   pub count : digits.count ≡ length ds
-  pub value : Counts (digits_value_after 10 n ds) digits.value
+  pub value : IsCounted (digits_value_after 10 n ds) digits.value
 
 -- `integer` has the sign and the magnitude of z.
 pub record HasInteger (z : ℤ) (integer : Integer) : Type 0 where
   pub magnitude : ℕ
-  pub is_counted : Counts magnitude integer.magnitude
+  pub is_counted : IsCounted magnitude integer.magnitude
   pub is_value : z ≡ signed_number integer.is_negative magnitude

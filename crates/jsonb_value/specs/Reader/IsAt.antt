@@ -7,14 +7,15 @@ use Rattle.jsonb_value.specs.declared.parser.reader.Step.TheVariants as steps
 use Rattle.jsonb_value.specs.Reader.Resume.{State, whole, IsAtValue, IsAtKey}
 use Rattle.jsonb_value.specs.Reader.Resume.{IsAfterValue}
 
-abbrev pub IsAt : {S : Type 0} → Exponents → (S → State → Type 0) → Option Tree → S → List Bool
+abbrev pub IsAtStep : {S : Type 0} → Exponents → (S → State → Type 0) → Option Tree → S → List Bool
     → Step → Type 0
-IsAt rule is target sink kinds (steps.Value rest) =
+IsAtStep rule is target sink kinds (steps.Value rest) =
     IsAtValue rule is target sink kinds (chars rest.now)
-IsAt rule is target sink kinds (steps.Key rest) = IsAtKey rule is target sink kinds (chars rest.now)
-IsAt rule is target sink kinds (steps.After rest) =
+IsAtStep rule is target sink kinds (steps.Key rest) =
+    IsAtKey rule is target sink kinds (chars rest.now)
+IsAtStep rule is target sink kinds (steps.After rest) =
     IsAfterValue rule is target sink kinds (chars rest.now)
-IsAt rule is target sink kinds steps.End = (t : Tree) × ((target ≡ Some t) × is sink (whole t))
+IsAtStep rule is target sink kinds steps.End = (t : Tree) × ((target ≡ Some t) × is sink (whole t))
 
 -- More than the count of the characters that are left, or nothing at the end.
 abbrev pub left : Step → ℕ

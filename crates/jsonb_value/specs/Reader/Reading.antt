@@ -206,8 +206,8 @@ pub data Kind : Type 0 where
   number_kind : Kind
 
 -- The kind of a value that begins with the character c.
-abbrev pub kind_of : ℕ → Kind
-kind_of c =
+abbrev pub kind_begun : ℕ → Kind
+kind_begun c =
     cond (c == 110) null_kind (cond (c == 116) true_kind (cond (c == 102) false_kind
     (cond (c == quote) string_kind
     (cond (c == open_bracket) array_kind (cond (c == open_brace) object_kind number_kind)))))
@@ -226,7 +226,7 @@ read_kind rule value n number_kind c s = read_number rule (c ∷ s) >>= λ x. So
 unfoldable pub read_value : Exponents → ℕ → Reader Tree
 read_value rule zero s = None
 read_value rule (suc n) [] = None
-read_value rule (suc n) (c ∷ s) = read_kind rule (read_value rule n) n (kind_of c) c s
+read_value rule (suc n) (c ∷ s) = read_kind rule (read_value rule n) n (kind_begun c) c s
 
 -- The tree, if no characters are left.
 abbrev pub if_last : Tree → List ℕ → Option Tree

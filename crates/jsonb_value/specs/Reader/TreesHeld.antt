@@ -16,27 +16,27 @@ abbrev pub entry_of : String Global × Value → List ℕ × Tree
 entry_of e = (string_bytes e.0, tree_of e.1)
 
 -- The container has this content.
-abbrev pub ContainerIs : Container → Content → Type 0
-ContainerIs (containers.Array vs) (items front) = map tree_of vs.items ≡ front
-ContainerIs (containers.Object ms) (members front) = map entry_of (members_held ms) ≡ front
-ContainerIs (containers.Object ms) (at_key front k) =
+abbrev pub ContainerHolds : Container → Content → Type 0
+ContainerHolds (containers.Array vs) (items front) = map tree_of vs.items ≡ front
+ContainerHolds (containers.Object ms) (members front) = map entry_of (members_held ms) ≡ front
+ContainerHolds (containers.Object ms) (at_key front k) =
     (map entry_of (members_held ms) ≡ front) × (string_bytes ms.key ≡ k)
-ContainerIs _ _ = ⊥
+ContainerHolds _ _ = ⊥
 
 -- The containers, the innermost first, have these contents; the outermost is the place of the whole
 -- value.
-abbrev pub AreOpen : List Container → List Content → Type 0
-AreOpen (containers.Whole v ∷ []) [] = ⊤
-AreOpen (d ∷ ds) (c ∷ cs) = ContainerIs d c × AreOpen ds cs
-AreOpen _ _ = ⊥
+abbrev pub AreHeldOpen : List Container → List Content → Type 0
+AreHeldOpen (containers.Whole v ∷ []) [] = ⊤
+AreHeldOpen (d ∷ ds) (c ∷ cs) = ContainerHolds d c × AreHeldOpen ds cs
+AreHeldOpen _ _ = ⊥
 
 -- The containers are those of the state.
-abbrev pub AreIn : List Container → State → Type 0
-AreIn ds (going cs) = AreOpen ds cs
-AreIn (containers.Whole v ∷ []) (whole t) = tree_of v ≡ t
-AreIn _ (whole t) = ⊥
-AreIn ds lost = ⊤
+abbrev pub AreHeldIn : List Container → State → Type 0
+AreHeldIn ds (going cs) = AreHeldOpen ds cs
+AreHeldIn (containers.Whole v ∷ []) (whole t) = tree_of v ≡ t
+AreHeldIn _ (whole t) = ⊥
+AreHeldIn ds lost = ⊤
 
 -- The sink is in the state.
 abbrev pub trees_are : Trees → State → Type 0
-trees_are s = AreIn (s.innermost ∷ reverse s.outer.items)
+trees_are s = AreHeldIn (s.innermost ∷ reverse s.outer.items)

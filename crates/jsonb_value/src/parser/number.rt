@@ -6,7 +6,8 @@ ghost use Rattle.jsonb_value.specs.Words.{digit_value, is_ascii_digit, digits_va
 ghost use Rattle.jsonb_value.specs.Words.{signed_number, read_sign, read_whole, read_fraction};
 ghost use Rattle.jsonb_value.specs.Words.{is_exponent_mark, read_either_sign, read_integer};
 ghost use Rattle.jsonb_value.specs.Words.{read_exponent, read_number, front_digits, after_digits};
-ghost use Rattle.jsonb_value.specs.Words.{AreDigits, Counts, HasInteger, number_of, scaled_number};
+ghost use Rattle.jsonb_value.specs.Words.{AreDigits, IsCounted, HasInteger, number_of};
+ghost use Rattle.jsonb_value.specs.Words.{scaled_number};
 
 use crate::number::Number;
 use crate::parser::cursor::{after_char, split_first};
@@ -19,7 +20,7 @@ pub enum Exponents {
 }
 
 // A number below this still fits 64 bits after one more digit.
-const SHORT: u128 = 1 << 60;
+const FITS_AFTER_A_DIGIT: u128 = 1 << 60;
 
 /// Digits that were read: their count, and the number that they form with the digits before them,
 /// `None` if it exceeds 128 bits.
@@ -51,11 +52,11 @@ fn read_sign(text: &str) -> (bool, &str)
 #[inline(always)]
 fn with_digit(value: Option<u128>, digit: char) -> Option<u128>
     requires { IsTrue (is_ascii_digit digit) }
-    ensures { (n : ℕ) → Counts n value → Counts (n * 10 + digit_value digit) result }
+    ensures { (n : ℕ) → IsCounted n value → IsCounted (n * 10 + digit_value digit) result }
 {
     let digit = digit.to_digit(10)?;
     let value = value?;
-    if value < SHORT {
+    if value < FITS_AFTER_A_DIGIT {
         return Some(u128::from(value as u64 * 10 + u64::from(digit)));
     }
     value.checked_mul(10)?.checked_add(u128::from(digit))
@@ -65,7 +66,7 @@ fn with_digit(value: Option<u128>, digit: char) -> Option<u128>
 // after them.
 #[inline(always)]
 fn read_digits(start: Option<u128>, text: &str) -> (Digits, &str)
-    ensures digits { (n : ℕ) → Counts n start
+    ensures digits { (n : ℕ) → IsCounted n start
         → AreDigits n (front_digits (chars text.now)) result.0 }
     ensures rest { chars result.1.now ≡ after_digits (chars text.now) }
 {
@@ -91,7 +92,7 @@ fn read_digits(start: Option<u128>, text: &str) -> (Digits, &str)
 fn read_whole(text: &str) -> Option<(Option<u128>, &str)>
     ensures { MatchOption result (read_whole (chars text.now) ≡ None)
         (λ found. (ds : List ℕ) × (read_whole (chars text.now) ≡ Some (ds, chars found.1.now))
-        × Counts (digits_value 10 ds) found.0) }
+        × IsCounted (digits_value 10 ds) found.0) }
 {
     let (first, rest) = split_first(text)?;
     if !first.is_ascii_digit() {
@@ -109,7 +110,7 @@ fn read_whole(text: &str) -> Option<(Option<u128>, &str)>
 // `whole`.
 #[inline(always)]
 fn read_fraction(whole: Option<u128>, text: &str) -> Option<(Digits, &str)>
-    ensures { (n : ℕ) → Counts n whole
+    ensures { (n : ℕ) → IsCounted n whole
         → MatchOption result (read_fraction (chars text.now) ≡ None)
         (λ found. (ds : List ℕ) × (read_fraction (chars text.now) ≡ Some (ds, chars found.1.now))
         × AreDigits n ds found.0) }

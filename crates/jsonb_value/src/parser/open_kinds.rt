@@ -12,7 +12,7 @@ pub struct OpenKinds {
 impl OpenKinds {
     ghost use Rattle.std.specs.Prelude.{◌≡◌, ◌∷◌, [], List, Bool, OnOk, IfErr};
     ghost use Rattle.jsonb_value.specs.Words.{OutOfMemory};
-    ghost use Rattle.jsonb_value.specs.Reader.Kinds.{kinds_held};
+    ghost use Rattle.jsonb_value.specs.Reader.OpenKinds.{kinds_held};
     ghost use Rattle.jsonb_value.specs.Reader.Resume.{innermost};
 
     /// No container is open.

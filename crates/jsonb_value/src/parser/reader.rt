@@ -7,11 +7,11 @@ ghost use Rattle.jsonb_value.specs.declared.parser.number.Exponents.{Exponents};
 ghost use Rattle.jsonb_value.specs.Tree.{Tree};
 ghost use Rattle.jsonb_value.specs.Reader.Gives.{Fails, Gives};
 ghost use Rattle.jsonb_value.specs.Reader.Kind.{kind_view};
-ghost use Rattle.jsonb_value.specs.Reader.Kinds.{kinds_held};
-ghost use Rattle.jsonb_value.specs.Reader.Reading.{read_document, read_word, kind_of};
+ghost use Rattle.jsonb_value.specs.Reader.OpenKinds.{kinds_held};
+ghost use Rattle.jsonb_value.specs.Reader.Reading.{read_document, read_word, kind_begun};
 ghost use Rattle.jsonb_value.specs.Reader.Resume.{Adds, AddsKey, IsAtValue, IsAfterValue};
 ghost use Rattle.jsonb_value.specs.Reader.Resume.{IsAtKey};
-ghost use Rattle.jsonb_value.specs.Reader.IsAt.{IsAt, left};
+ghost use Rattle.jsonb_value.specs.Reader.IsAt.{IsAtStep, left};
 ghost use Rattle.jsonb_value.specs.Reader.Resume.{going, whole};
 ghost use Rattle.jsonb_value.specs.Json.Syntax.{JsonText};
 ghost use Rattle.jsonb_value.specs.Json.Characters.{open_bracket, open_brace};
@@ -37,7 +37,7 @@ enum Kind {
 }
 
 fn kind_of(first: char) -> Kind
-    ensures { kind_view result ≡ kind_of first }
+    ensures { kind_view result ≡ kind_begun first }
 {
     match first {
         'n' => Kind::Null,
@@ -81,7 +81,7 @@ fn go_on<'a, S: Sink<'a>>(
         × IsAfterValue rule S.is target sink.old (kinds_held kinds.old) (chars text.now)) }
     ensures ok { IfOk result (λ step. (rule : Exponents) (target : Option Tree)
         → IsAfterValue rule S.is target sink.old (kinds_held kinds.old) (chars text.now)
-        → IsAt rule S.is target sink.new (kinds_held kinds.new) step) }
+        → IsAtStep rule S.is target sink.new (kinds_held kinds.new) step) }
     ensures err { IfErr result (λ e. (rule : Exponents) (target : Option Tree)
         → IsAfterValue rule S.is target sink.old (kinds_held kinds.old) (chars text.now)
         → Fails e target) }
@@ -132,7 +132,7 @@ fn begin<'a, S: Sink<'a>>(
         × IsAtValue exponents S.is target sink.old (kinds_held kinds.old) (chars text.now) }
     ensures ok { IfOk result (λ step. (target : Option Tree)
         → IsAtValue exponents S.is target sink.old (kinds_held kinds.old) (chars text.now)
-        → IsAt exponents S.is target sink.new (kinds_held kinds.new) step) }
+        → IsAtStep exponents S.is target sink.new (kinds_held kinds.new) step) }
     ensures err { IfErr result (λ e. (target : Option Tree)
         → IsAtValue exponents S.is target sink.old (kinds_held kinds.old) (chars text.now)
         → Fails e target) }
@@ -185,7 +185,7 @@ fn begin_array<'a, S: Sink<'a>>(
         × IsAtValue rule S.is target sink.old (kinds_held kinds.old) (chars text.now)) }
     ensures ok { IfOk result (λ step. (rule : Exponents) (target : Option Tree)
         → IsAtValue rule S.is target sink.old (kinds_held kinds.old) (chars text.now)
-        → IsAt rule S.is target sink.new (kinds_held kinds.new) step) }
+        → IsAtStep rule S.is target sink.new (kinds_held kinds.new) step) }
     ensures memory { IfErr result (λ e. e ≡ Error.OutOfMemory) }
     ensures shorter { IfOk result (λ step. left step ≤ length (chars text.now)) }
 {
@@ -213,7 +213,7 @@ fn begin_object<'a, S: Sink<'a>>(
         × IsAtValue rule S.is target sink.old (kinds_held kinds.old) (chars text.now)) }
     ensures ok { IfOk result (λ step. (rule : Exponents) (target : Option Tree)
         → IsAtValue rule S.is target sink.old (kinds_held kinds.old) (chars text.now)
-        → IsAt rule S.is target sink.new (kinds_held kinds.new) step) }
+        → IsAtStep rule S.is target sink.new (kinds_held kinds.new) step) }
     ensures memory { IfErr result (λ e. e ≡ Error.OutOfMemory) }
     ensures shorter { IfOk result (λ step. left step ≤ length (chars text.now)) }
 {
@@ -240,7 +240,7 @@ fn read_key<'a, S: Sink<'a>>(
         × IsAtKey rule S.is target sink.old (kinds_held kinds.now) (chars text.now)) }
     ensures ok { IfOk result (λ step. (rule : Exponents) (target : Option Tree)
         → IsAtKey rule S.is target sink.old (kinds_held kinds.now) (chars text.now)
-        → IsAt rule S.is target sink.new (kinds_held kinds.now) step) }
+        → IsAtStep rule S.is target sink.new (kinds_held kinds.now) step) }
     ensures err { IfErr result (λ e. (rule : Exponents) (target : Option Tree)
         → IsAtKey rule S.is target sink.old (kinds_held kinds.now) (chars text.now)
         → Fails e target) }

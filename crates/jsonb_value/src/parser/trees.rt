@@ -3,7 +3,7 @@
 ghost use Rattle.std.specs.Prelude.{◌≡◌, List, [], ◌∷◌, IfErr, OnOk};
 ghost use Rattle.jsonb_value.specs.Words.{Tree, tree_of, OutOfMemory};
 ghost use Rattle.jsonb_value.specs.Reader.Resume.{Content, going, whole, Adds};
-ghost use Rattle.jsonb_value.specs.Reader.TreesHeld.{ContainerIs, trees_are};
+ghost use Rattle.jsonb_value.specs.Reader.TreesHeld.{ContainerHolds, trees_are};
 
 use crate::error::Error;
 use crate::number::Number;
@@ -70,7 +70,7 @@ impl<'a> Trees<'a> {
     // Begins a container.
     fn begin(&mut self, container: Container<'a>) -> Result<(), Error>
         ensures ok { OnOk result ((content : Content) (cs : List Content)
-            → ContainerIs container.entry content → trees_are self.old (going cs)
+            → ContainerHolds container.entry content → trees_are self.old (going cs)
             → trees_are self.new (going (content ∷ cs))) }
         ensures memory { IfErr result (λ e. e ≡ OutOfMemory) }
     {
@@ -84,7 +84,7 @@ impl<'a> Trees<'a> {
             × trees_are self.old (going (content ∷ cs))) }
         ensures { (content : Content) (cs : List Content)
             → trees_are self.old (going (content ∷ cs))
-            → ContainerIs result content × trees_are self.new (going cs) }
+            → ContainerHolds result content × trees_are self.new (going cs) }
     {
         let Some(outer) = self.outer.pop() else {
             unreachable!();

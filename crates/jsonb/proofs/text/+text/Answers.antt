@@ -1,9 +1,9 @@
 use Rattle.std.proofs.Common.{rules, ◌++◌, codes, refl, sym, ap, subst, arith}
-use Rattle.jsonb_value.specs.Text.{inside, line_start, colon, laid_out}
+use Rattle.jsonb_value.specs.Text.{inside, line_start, colon_text, laid_out}
 use Rattle.jsonb_value.specs.Value.{trees_of}
 use Rattle.jsonb_value.proofs.Writing.{joins_two, joins_three}
 use Rattle.jsonb.specs.EntryTrees.{part_tree, rest_trees, rest_pairs}
-use Rattle.jsonb.specs.Lines.{item_lines, pair_lines, pair_text, HasRoom}
+use Rattle.jsonb.specs.Lines.{item_lines, pair_lines, pair_text, HasIndentRoom}
 use Rattle.jsonb_codec.specs.Depth.{depth, size}
 use Rattle.jsonb.specs.Node.{pairs_of}
 use Rattle.jsonb.proofs.EntryTreeLaws.{entry_tree-node}
@@ -19,7 +19,7 @@ write_line-write_node-requires g t c κs within =
         within,
         (
           c.of_part.ensures.container,
-          subst (λ u. HasRoom (layout_of c.args.layout) (depth u)) is c.requires.room,
+          subst (λ u. HasIndentRoom (layout_of c.args.layout) (depth u)) is c.requires.room,
         ),
       ),
     )
@@ -88,13 +88,13 @@ pub write_member-write_node-requires : goal.write_member-write_node-requires
 write_member-write_node-requires g t c κs within =
     let is = entry_tree-node c.args.value c.of_part.result c.of_part.ensures.means in
     let l = layout_of c.args.layout in
-    let room : HasRoom l (depth (part_tree c.args.value)) = search rules in (
+    let room : HasIndentRoom l (depth (part_tree c.args.value)) = search rules in (
       omega (arith, ap size is),
       (
         within,
         (
           c.of_part.ensures.container,
-          subst (λ u. HasRoom l (depth u)) is room,
+          subst (λ u. HasIndentRoom l (depth u)) is room,
         ),
       ),
     )
@@ -108,7 +108,7 @@ write_member-returns g t c flush ok =
     let l = layout_of c.args.layout in
     let is = entry_tree-node c.args.value c.of_part.result c.of_part.ensures.means in
     let ends =
-    joins_two _ _ _ _ _ _ _ three four (ap (λ t. colon l ++ laid_out l t) (sym is)) in
+    joins_two _ _ _ _ _ _ _ three four (ap (λ t. colon_text l ++ laid_out l t) (sym is)) in
     joins_three _ _ _ _ _ _ _ _ _ one two ends refl
 
 pub write_members-members-init : goal.write_members-members-init

@@ -2,7 +2,7 @@ use Rattle.std.proofs.Common.{◌≡◌, ◌⊎◌, inr}
 use Rattle.jsonb_value.specs.declared.error.Error.{Error}
 use Rattle.jsonb_value.specs.declared.error.Error.TheVariants.{OutOfMemory}
 use Rattle.jsonb_codec.specs.Doc.{IsDocument}
-use Rattle.jsonb_codec.specs.Parts.{IsFault}
+use Rattle.jsonb_codec.specs.Parts.{IsFaultOf}
 use Rattle.jsonb_codec.proofs.Scalars.{raised_as}
 use Rattle.jsonb_codec.proofs.Building.{the_tree}
 use Rattle.jsonb_codec.proofs.Steps.{document_within_length}
@@ -13,7 +13,7 @@ returns-in_err-check-clause-fault c =
     let decided = c.in_err-check.ensures.decided in
     raised_as
     (λ (e : Error). (e ≡ OutOfMemory)
-    ⊎ (IsFault _ e
+    ⊎ (IsFaultOf _ e
     × (IsDocument _
     → ⊥))) _ _ c.from_residual.ensures.1
     (inr (decided.0, λ h. decided.1 ((document_within_length _).1 h)))

@@ -2,14 +2,14 @@
 use Rattle.std.proofs.Common.{◌≡◌, ℕ, List, length, nat_eq}
 use Rattle.std.specs.Cmp.Lexicographic.{pointwise}
 use Rattle.jsonb.specs.Entries.{entries_of}
-use Rattle.jsonb.specs.EntryTrees.{AreMembers}
+use Rattle.jsonb.specs.EntryTrees.{AreMemberEntries}
 use Rattle.jsonb.specs.Item.{Entry}
 use Rattle.jsonb.specs.StoredEntries.{AreEntriesOf, find_entry}
 use Rattle.jsonb.proofs.nodes.Members.find.Given as goal
 
 abbrev pub invariant-loop-key : goal.invariant-loop-key
 invariant-loop-key l = record {
-  readable : AreMembers (entries_of l.keys, entries_of l.values);
+  readable : AreMemberEntries (entries_of l.keys, entries_of l.values);
   same : (members : List (List ℕ × Entry)) → AreEntriesOf members l.fn.self
       → (later : List (List ℕ × Entry))
       × (AreEntriesOf later (entries_of l.keys, entries_of l.values)

@@ -6,7 +6,7 @@ use Rattle.std.proofs.lemmas.Result.{IfOk-weaker}
 use Rattle.jsonb_codec.specs.Stored.{code_of_some}
 use Rattle.jsonb.specs.declared.raw.RawJsonb.{RawJsonb}
 use Rattle.jsonb.specs.Building.{has_key, in_order, AreKeys}
-use Rattle.jsonb.specs.Children.{key_bytes}
+use Rattle.jsonb.specs.Children.{map_keys}
 use Rattle.jsonb.specs.Results.{input_pair, raw_pairs}
 use Rattle.jsonb.proofs.InputLaws.{key_there, one_more, still_distinct}
 use Rattle.jsonb.proofs.ResultObjects.{both_ok, IsObjectOfInputs-IsObjectOf}
@@ -103,5 +103,5 @@ returns-clause-ok g c =
           ),
         ),
       ),
-    )) (both_ok c.object_document.result _ (AreKeys (key_bytes walk.pairs.entries))
+    )) (both_ok c.object_document.result _ (AreKeys (map_keys walk.pairs.entries))
     c.object_document.ensures.ok c.object_document.ensures.keys)

@@ -4,7 +4,7 @@ use Rattle.std.specs.List.{IsDistinct}
 use Rattle.std.proofs.lemmas.Result.{IfOk-weaker}
 use Rattle.jsonb.specs.declared.document.Document.{Document}
 use Rattle.jsonb.specs.Building.{has_key, in_order, AreKeys}
-use Rattle.jsonb.specs.Children.{key_bytes}
+use Rattle.jsonb.specs.Children.{map_keys}
 use Rattle.jsonb.specs.Results.{document_pair, raw_pairs}
 use Rattle.jsonb.proofs.DocumentInputLaws.{has_entry, entry_of_document, document_shown}
 use Rattle.jsonb.proofs.DocumentInputLaws.{all_pair_documents, values-in_order, within_object}
@@ -109,5 +109,5 @@ returns-clause-ok g c =
           ),
         ),
       ),
-    )) (both_ok c.object_document.result _ (AreKeys (key_bytes walk.members.entries))
+    )) (both_ok c.object_document.result _ (AreKeys (map_keys walk.members.entries))
     c.object_document.ensures.ok c.object_document.ensures.keys)

@@ -3,7 +3,7 @@ use Rattle.std.proofs.lemmas.Result.{on_ok_weaker}
 use Rattle.jsonb_value.specs.Reader.Resume.{Adds, Content, going, items, put}
 use Rattle.jsonb_value.specs.Tree.{Tree, array}
 use Rattle.jsonb_value.specs.Value.{trees_of}
-use Rattle.jsonb_codec.specs.Tape.{ArrayIs, ContainerIs, Grows, IsMade, tape_is}
+use Rattle.jsonb_codec.specs.Tape.{TapeArrayIs, ContainerIs, Grows, IsMade, tape_is}
 use Rattle.jsonb_codec.proofs.OnTape.Growth.{added_after}
 use Rattle.jsonb_codec.proofs.tape.TapeSink.end_array.Goals as goal
 
@@ -19,7 +19,7 @@ returns-clause-ok c =
     → tape_is new (put (array (trees_of front)) cs) =
     λ ok front cs h.
     let ended = c.end.ensures.ended (items front) cs h in
-    let is = subst (λ s. ArrayIs s c.in-Array.array front) (sym c.end.ensures.storage)
+    let is = subst (λ s. TapeArrayIs s c.in-Array.array front) (sym c.end.ensures.storage)
     (subst (λ d. ContainerIs old.storage d (items front)) c.in-Array.is ended.0) in
     let made = subst (λ s. IsMade s entry (array (trees_of front)))
     (sym c.keep_array.ensures.storage) (c.in_ok-entry.ensures.ok front is) in

@@ -5,7 +5,7 @@ use Rattle.std.specs.Ordering.{nat_cmp}
 use Rattle.std.specs.declared.cmp.Ordering.TheVariants.{Less, Equal}
 use Rattle.std.specs.Cmp.Lexicographic.{slice_cmp}
 use Rattle.jsonb_value.specs.Value.{cow_bytes}
-use Rattle.jsonb_codec.specs.Tape.{MembersAre}
+use Rattle.jsonb_codec.specs.Tape.{TapeMembersAre}
 use Rattle.jsonb_codec.proofs.OnTape.Inserting.{passed_none, goes_on, goes_before, takes_place}
 use Rattle.jsonb_codec.proofs.OnTape.Inserting.{goes_last, Passed}
 use Rattle.jsonb_codec.proofs.tape.open.insert.Goals as goal
@@ -17,7 +17,7 @@ loop-index-init c =
 pub returns-in-Less-clause-ok : goal.returns-in-Less-clause-ok
 returns-in-Less-clause-ok c = λ storage front key t h is.
     let ms = c.loop-index.sorted.items in
-    let held = subst (λ xs. MembersAre storage xs front) (sym c.loop-index.invariant.0) h in
+    let held = subst (λ xs. TapeMembersAre storage xs front) (sym c.loop-index.invariant.0) h in
     let p = subst (λ k. Passed storage ms front k c.loop-index.index) is.0
     (c.loop-index.invariant.1 storage front held) in
     let low : c.loop-index.index < length c.loop-index.sorted.items =
@@ -37,7 +37,7 @@ returns-in-Less-clause-ok c = λ storage front key t h is.
 pub returns-in-Equal-clause-ok : goal.returns-in-Equal-clause-ok
 returns-in-Equal-clause-ok c = λ storage front key t h is.
     let ms = c.loop-index.sorted.items in
-    let held = subst (λ xs. MembersAre storage xs front) (sym c.loop-index.invariant.0) h in
+    let held = subst (λ xs. TapeMembersAre storage xs front) (sym c.loop-index.invariant.0) h in
     let p = subst (λ k. Passed storage ms front k c.loop-index.index) is.0
     (c.loop-index.invariant.1 storage front held) in
     let low : c.loop-index.index < length c.loop-index.sorted.items =
@@ -74,7 +74,7 @@ loop-index-preserved c =
 pub returns-clause-ok : goal.returns-clause-ok
 returns-clause-ok c = λ storage front key t h is.
     let ms = c.loop-index.sorted.items in
-    let held = subst (λ xs. MembersAre storage xs front) (sym c.loop-index.invariant.0) h in
+    let held = subst (λ xs. TapeMembersAre storage xs front) (sym c.loop-index.invariant.0) h in
     let p = subst (λ k. Passed storage ms front k c.loop-index.index) is.0
     (c.loop-index.invariant.1 storage front held) in
     goes_last storage ms c.push.new.self.items front key c.loop-index.index c.args.member t p

@@ -1,7 +1,7 @@
 use Rattle.std.proofs.Common.{refl, ap, arith, length}
 use Rattle.jsonb_codec.specs.Shape.{payload, payloads}
 use Rattle.jsonb_codec.specs.Writing.{AreFew, CanGoOn}
-use Rattle.jsonb_codec.proofs.RoomLaws.{IsAt-first, IsAt-more, IsAt-next}
+use Rattle.jsonb_codec.proofs.RoomLaws.{HasWordsAt-first, HasWordsAt-more, HasWordsAt-next}
 use Rattle.jsonb_codec.proofs.Shapes.{first, length-array, length-object}
 use Rattle.jsonb_codec.proofs.ShapeWriting.{going_start, going_fit, going_next, going_on, going_end}
 use Rattle.jsonb_codec.proofs.ShapeWriting.{stored_first, array_entries_room}
@@ -116,7 +116,7 @@ append_items-append_child-requires g t c κs within =
     let l = c.loop-item.invariant in let w = l.going in
     let f = first m.child m.items w.left (c.in-Some.ensures.split w.left w.are_left) in
     let words = stored_first f c.loop-item.entry c.loop-item.out.items l.words in
-    let word = IsAt-first _ _ _ _ words in
+    let word = HasWordsAt-first _ _ _ _ words in
     let fits = (going_fit w f).1.0 in
     let room = going_next w f (λ k s. payload s) (λ k s us. refl) in
     let v = within.1.1 in
@@ -137,7 +137,7 @@ append_items-loop-item-preserved g t c =
     let words = stored_first f c.loop-item.entry c.loop-item.out.items l.words in
     record {
       going = going_on w f (λ k s. payload s) (λ k s us. refl) _ put;
-      words = IsAt-next _ _ _ _ (IsAt-more _ _ words put);
+      words = HasWordsAt-next _ _ _ _ (HasWordsAt-more _ _ words put);
       smaller = omega (arith, l.smaller, c.in-Some.ensures.size);
     }
 
@@ -161,7 +161,7 @@ append_values-append_child-requires g t c κs within =
     let l = c.loop-value.invariant in let w = l.going in
     let f = first m.child m.members w.left (c.in-Some.ensures.split w.left w.are_left) in
     let words = stored_first f c.loop-value.entry c.loop-value.out.items l.words in
-    let word = IsAt-first _ _ _ _ words in
+    let word = HasWordsAt-first _ _ _ _ words in
     let fits = (going_fit w f).1.0 in
     let room = going_next w f (λ k s. payload s) (λ k s us. refl) in
     let v = within.1.1 in
@@ -182,7 +182,7 @@ append_values-loop-value-preserved g t c =
     let words = stored_first f c.loop-value.entry c.loop-value.out.items l.words in
     record {
       going = going_on w f (λ k s. payload s) (λ k s us. refl) _ put;
-      words = IsAt-next _ _ _ _ (IsAt-more _ _ words put);
+      words = HasWordsAt-next _ _ _ _ (HasWordsAt-more _ _ words put);
       smaller = omega (arith, l.smaller, c.in-Some.ensures.size);
     }
 

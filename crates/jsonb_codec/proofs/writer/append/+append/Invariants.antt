@@ -1,6 +1,6 @@
 use Rattle.std.proofs.Common.{◌≤◌, ◌+◌, ◌*◌}
 use Rattle.jsonb_codec.specs.Shape.{entries, payloads}
-use Rattle.jsonb_codec.specs.Room.{IsAt}
+use Rattle.jsonb_codec.specs.Room.{HasWordsAt}
 use Rattle.jsonb_codec.proofs.ShapeWriting.{Going}
 use Rattle.jsonb_codec.proofs.writer.append.+append.Given as goal
 
@@ -25,7 +25,7 @@ abbrev pub invariant-append_items-loop-item : goal.invariant-append_items-loop-i
 invariant-append_items-loop-item g l =
     let m = g.S.Source.meaning in record {
       going : Going m.items payloads l.fn.items l.fn.out l.out l.left;
-      words : IsAt l.entry (entries going.left) l.out.items;
+      words : HasWordsAt l.entry (entries going.left) l.out.items;
       smaller : m.items_size l.left ≤ m.items_size l.fn.items;
     }
 
@@ -36,7 +36,7 @@ abbrev pub invariant-append_values-loop-value : goal.invariant-append_values-loo
 invariant-append_values-loop-value g l =
     let m = g.S.Source.meaning in record {
       going : Going m.members payloads l.fn.members l.fn.out l.out l.left;
-      words : IsAt l.entry (entries going.left) l.out.items;
+      words : HasWordsAt l.entry (entries going.left) l.out.items;
       smaller : m.members_size l.left ≤ m.members_size l.fn.members;
     }
 

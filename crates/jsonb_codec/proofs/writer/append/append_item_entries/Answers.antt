@@ -1,7 +1,7 @@
 use Rattle.std.proofs.Common.{◌≡◌, ◌+◌, length, refl, ap, arith}
-use Rattle.jsonb_codec.specs.Word.{word}
+use Rattle.jsonb_codec.specs.WordBytes.{word}
 use Rattle.jsonb_codec.specs.Room.{AppendsBytes}
-use Rattle.jsonb_codec.specs.Shape.{type_of, payload, entries}
+use Rattle.jsonb_codec.specs.Shape.{shape_type, payload, entries}
 use Rattle.jsonb_codec.proofs.Shapes.{first, first_body}
 use Rattle.jsonb_codec.proofs.ShapeWriting.{going_start, going_on, going_takes, going_end}
 use Rattle.jsonb_codec.proofs.ShapeWriting.{is_leaf, is_container}
@@ -28,7 +28,7 @@ loop-item-preserved g c =
     let f = first m.child m.items w.left (c.in-Some.ensures.split w.left w.are_left) in
     let is = c.level.ensures.is f.child f.is in
     let size = length (payload f.child) in
-    let put : AppendsBytes c.loop-item.out c.match-level.out (word (type_of f.child + size))
+    let put : AppendsBytes c.loop-item.out c.match-level.out (word (shape_type f.child + size))
     × (c.match-level.size_left ≡ size) =
     elim c.match-level.branch [
       | in-Leaf b ↦
@@ -42,7 +42,8 @@ loop-item-preserved g c =
           rw (b.out-is, b.size_left-is, type)
           (rw known at entry.written, rw known at entry.size)
     ] in record {
-      going = going_on w f (λ k s. word (type_of s + length (payload s))) (λ k s us. refl) _ put.0;
+      going =
+          going_on w f (λ k s. word (shape_type s + length (payload s))) (λ k s us. refl) _ put.0;
       size = omega (arith, l.size, first_body f, put.1, ap length f.keyed);
     }
 

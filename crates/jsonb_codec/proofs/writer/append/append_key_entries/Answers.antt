@@ -1,6 +1,6 @@
 use Rattle.std.proofs.Common.{◌+◌, length, refl}
 use Rattle.jsonb_codec.specs.declared.constants.TheConstants.{STRING_TAG}
-use Rattle.jsonb_codec.specs.Word.{word}
+use Rattle.jsonb_codec.specs.WordBytes.{word}
 use Rattle.jsonb_codec.proofs.Shapes.{first}
 use Rattle.jsonb_codec.proofs.ShapeWriting.{going_on, going_end}
 use Rattle.jsonb_codec.proofs.writer.append.append_key_entries.Goals as goal

@@ -3,7 +3,7 @@ use Rattle.std.proofs.Common.{◌≡◌, length}
 use Rattle.std.specs.Option.{ok_or}
 use Rattle.std.proofs.lemmas.Option.{IfSome_then}
 use Rattle.jsonb_value.specs.declared.error.Error.{Error}
-use Rattle.jsonb_codec.specs.Shape.{Fits, document}
+use Rattle.jsonb_codec.specs.Shape.{ShapeFits, document}
 use Rattle.jsonb_codec.proofs.Shapes.{IfNone_then, leaf_document, array_short, object_short}
 use Rattle.jsonb_codec.proofs.writer.measure.measure_document.Goals as goal
 use Rattle.jsonb_codec.proofs.writer.measure.measure_document.Goals.{in-Leaf, in-Array, in-Object}
@@ -28,12 +28,12 @@ returns-clause-ok g c = rw c.ok_or.ensures.value (IfOk-ok_or _ c.match-level.end
           w.measure_array-end.ensures.some
           (λ n known s is. let (ss, (e, h)) = rw w.in-Array.is at is in
           let (fit, long) = known ss h in
-          subst (λ s. Fits s × (n ≡ length (document s))) (sym e) (fit, omega (arith, long))))
+          subst (λ s. ShapeFits s × (n ≡ length (document s))) (sym e) (fit, omega (arith, long))))
       | in-Object w ↦ rw w.end-is (IfSome_then w.measure_object-end.result
           w.measure_object-end.ensures.some
           (λ n known s is. let (ss, (e, h)) = rw w.in-Object.is at is in
           let (fit, long) = known ss h in
-          subst (λ s. Fits s × (n ≡ length (document s))) (sym e) (fit, omega (arith, long))))
+          subst (λ s. ShapeFits s × (n ≡ length (document s))) (sym e) (fit, omega (arith, long))))
     ]))
 
 pub returns-clause-err : goal.returns-clause-err
@@ -46,11 +46,11 @@ returns-clause-err g c = rw c.ok_or.ensures.value (OnErr-ok_or _ c.match-level.e
       | in-Array w ↦ rw w.end-is (IfNone_then w.measure_array-end.result
           w.measure_array-end.ensures.none (λ past s is fits.
           let (ss, (e, h)) = rw w.in-Array.is at is in
-          let fit = subst Fits e fits in
+          let fit = subst ShapeFits e fits in
           absurd (omega (arith, past ss h fit, array_short ss fit))))
       | in-Object w ↦ rw w.end-is (IfNone_then w.measure_object-end.result
           w.measure_object-end.ensures.none (λ past s is fits.
           let (ss, (e, h)) = rw w.in-Object.is at is in
-          let fit = subst Fits e fits in
+          let fit = subst ShapeFits e fits in
           absurd (omega (arith, past ss h fit, object_short ss fit))))
     ]))

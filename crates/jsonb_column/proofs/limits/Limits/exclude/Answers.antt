@@ -1,5 +1,5 @@
 use Rattle.std.proofs.Common.{◌||◌, Bool, ap, ap₂, ◌∙◌}
-use Rattle.jsonb_column.specs.Zones.{starts_above, starts_below}
+use Rattle.jsonb_column.specs.SkippedBlocks.{starts_above, starts_below}
 use Rattle.jsonb_column.proofs.ZoneLaws.{excluded}
 use Rattle.jsonb_column.proofs.limits.Limits.exclude.Goals as goal
 

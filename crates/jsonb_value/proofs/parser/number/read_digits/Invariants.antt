@@ -3,7 +3,7 @@ use denote.Text.{Utf8}
 use denote.Shadow.{shadow}
 use Rattle.std.specs.Str.Parse.{digits_value_after}
 use Rattle.jsonb_value.specs.Reader.Reading.{front_digits, after_digits}
-use Rattle.jsonb_value.specs.Reader.Digits.{Counts}
+use Rattle.jsonb_value.specs.Reader.Digits.{IsCounted}
 use Rattle.jsonb_value.proofs.parser.number.read_digits.Given as goal
 
 -- the digits so far and the remaining ones are the whole
@@ -12,7 +12,7 @@ invariant-digits l =
     shadow (Utf8 l.rest)
     × (l.digits.count + length (front_digits (chars l.rest))
     ≡ length (front_digits (chars l.fn.text)))
-    × ((n : ℕ) → Counts n l.fn.start → (m : ℕ) × Counts m l.digits.value
+    × ((n : ℕ) → IsCounted n l.fn.start → (m : ℕ) × IsCounted m l.digits.value
     × (digits_value_after 10 m (front_digits (chars l.rest))
     ≡ digits_value_after 10 n (front_digits (chars l.fn.text))))
     × (after_digits (chars l.rest) ≡ after_digits (chars l.fn.text))

@@ -1,6 +1,6 @@
 use Rattle.std.proofs.Common.{chars}
-use Rattle.jsonb_value.specs.Reader.IsAt.{IsAt}
-use Rattle.jsonb_value.specs.Reader.Kinds.{kinds_held}
+use Rattle.jsonb_value.specs.Reader.IsAt.{IsAtStep}
+use Rattle.jsonb_value.specs.Reader.OpenKinds.{kinds_held}
 use Rattle.jsonb_value.specs.Reader.Reading.{read_document}
 use Rattle.std.proofs.Common.{subst}
 use Rattle.jsonb_value.proofs.Json.ReaderSteps.{text_begins, text_ends}
@@ -15,7 +15,7 @@ pub returns-in-End-clause-ok : goal.returns-in-End-clause-ok
 returns-in-End-clause-ok g c =
     text_ends c.args.exponents g.S.Sink.is _ _
     (subst
-    (λ x. IsAt c.args.exponents g.S.Sink.is
+    (λ x. IsAtStep c.args.exponents g.S.Sink.is
     (read_document c.args.exponents (chars c.args.text.now)) c.steps.sink
     (kinds_held c.steps.kinds) x)
     c.in-End.is c.steps.invariant)

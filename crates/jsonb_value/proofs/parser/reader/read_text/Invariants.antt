@@ -1,12 +1,12 @@
 use Rattle.std.proofs.Common.{chars}
-use Rattle.jsonb_value.specs.Reader.Kinds.{kinds_held}
+use Rattle.jsonb_value.specs.Reader.OpenKinds.{kinds_held}
 use Rattle.jsonb_value.specs.Reader.Reading.{read_document}
-use Rattle.jsonb_value.specs.Reader.IsAt.{IsAt, left}
+use Rattle.jsonb_value.specs.Reader.IsAt.{IsAtStep, left}
 use Rattle.jsonb_value.proofs.parser.reader.read_text.Given as goal
 
 abbrev pub invariant-steps : goal.invariant-steps
 invariant-steps g l =
-    IsAt l.exponents g.S.Sink.is (read_document l.exponents (chars l.fn.text)) l.sink
+    IsAtStep l.exponents g.S.Sink.is (read_document l.exponents (chars l.fn.text)) l.sink
     (kinds_held l.kinds) l.step
 
 abbrev pub decreases-steps : goal.decreases-steps

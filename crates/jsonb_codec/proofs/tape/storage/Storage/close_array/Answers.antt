@@ -1,7 +1,7 @@
 use Rattle.std.proofs.Common.{◌≡◌, ◌+◌, ◌++◌, ◌/◌, arith, ap, drop, length, length-append, rules}
 use Rattle.jsonb_codec.specs.declared.constants.TheConstants.{ARRAY_CONTAINER_TAG}
 use Rattle.jsonb_codec.specs.declared.tape.storage.Storage.{Storage}
-use Rattle.jsonb_codec.specs.Word.{word}
+use Rattle.jsonb_codec.specs.WordBytes.{word}
 use Rattle.jsonb_codec.proofs.Words.{length-word}
 use Rattle.jsonb_codec.proofs.OnTape.Closing.{array_closed, array_too_long, array_unfit}
 use Rattle.jsonb_codec.proofs.OnTape.Closing.{nothing_grows}

@@ -6,7 +6,7 @@ use Rattle.jsonb_value.specs.Tree.{object}
 use Rattle.jsonb_value.specs.Value.{cow_bytes}
 use Rattle.jsonb_codec.specs.declared.constants.TheConstants.{OBJECT_CONTAINER_TAG, STRING_TAG}
 use Rattle.jsonb_codec.specs.declared.tape.storage.Storage.{Storage}
-use Rattle.jsonb_codec.specs.Word.{word}
+use Rattle.jsonb_codec.specs.WordBytes.{word}
 use Rattle.jsonb_codec.proofs.Words.{length-word}
 use Rattle.jsonb_codec.proofs.OnTape.Closing.{bytes_grow, grows_further, head_begins, head_goes_on}
 use Rattle.jsonb_codec.proofs.OnTape.Closing.{long_key, nothing_grows, object_closed, object_head}

@@ -3,7 +3,7 @@ use Rattle.std.specs.Prelude.{OnOk}
 use Rattle.std.proofs.lemmas.Result.{on_ok_weaker}
 use Rattle.jsonb_value.specs.Json.Syntax.{Entries, pairs}
 use Rattle.jsonb_value.specs.Reader.Resume.{Adds, Content, going, members, put}
-use Rattle.jsonb_value.specs.Reader.TreesHeld.{ContainerIs, trees_are}
+use Rattle.jsonb_value.specs.Reader.TreesHeld.{ContainerHolds, trees_are}
 use Rattle.jsonb_value.specs.Tree.{object}
 use Rattle.jsonb_value.specs.Value.{pairs_view}
 use Rattle.jsonb_value.proofs.TreesLaws.{object_is, view-Object}
@@ -17,7 +17,7 @@ returns-clause-ok c =
     → trees_are c.add.new.self (put (object (pairs front)) cs) =
     λ adds front cs h.
     let ended = c.end.ensures (members front) cs h in
-    let is = subst (λ container. ContainerIs container (members front)) c.in-Object.is ended.0 in
+    let is = subst (λ container. ContainerHolds container (members front)) c.in-Object.is ended.0 in
     subst (λ t. trees_are c.add.new.self (put t cs))
     (object_is entries _ front c.in_ok-object.ensures.ok is) (adds cs ended.1) in
     on_ok_weaker c.add.result by
