@@ -47,6 +47,8 @@ def place_of(crate, module, name):
         return crate, module
     for path, listed in uses_in(text):
         if listed == name:
+            if path[0] == "crate":
+                return place_of(crate, path[1:], name)
             if os.path.isdir(f"{TOP}/crates/{path[0]}"):
                 return place_of(path[0], path[1:], name)
             return place_of(crate, [*module, *path], name)
@@ -233,27 +235,38 @@ def named_item(crate, module, name):
     raise LookupError(name)
 
 
-def module_of(crate, name):
-    """A public module, with its items."""
+def modules_of(crate, name, shown):
+    """A public module with its items, and then the modules that it passes on."""
     text = text_of(file_of(crate, [name]))
     about = re.findall(r"^//! ?(.*)$", text, re.M)
-    item = Item("mod", name, [], about)
+    item, inner = Item("mod", shown, [], about), []
     own = [found[2] for line in text.split("\n") if (found := KIND.match(line))]
-    for it in own + [passed for _, passed in uses_in(text)]:
+    for it in own:
         item.items.append(named_item(crate, [name], it))
-    return item
+    for path, it in uses_in(text):
+        if is_module(path[0], path[1:], it):
+            inner += modules_of(path[0], it, f"{shown}::{it}")
+        else:
+            item.items.append(named_item(crate, [name], it))
+    return [item, *inner]
+
+
+def is_module(crate, module, name):
+    """Whether this name of a library's module is a module too."""
+    path = file_of(crate, module)
+    return os.path.isfile(path) and re.search(rf"^pub mod {name};", text_of(path), re.M)
 
 
 def public_items(crate):
-    """What the root of a crate exports."""
+    """What a crate exports."""
     text = text_of(file_of(crate, []))
-    items = [module_of(crate, name) for name in re.findall(r"^pub mod (\w+);", text, re.M)]
+    items = [it for name in re.findall(r"^pub mod (\w+);", text, re.M)
+             for it in modules_of(crate, name, name)]
     for path, name in uses_in(text):
         source, module = (path[0], path[1:]) if os.path.isdir(f"{TOP}/crates/{path[0]}") \
             else (crate, path)
-        root = text_of(file_of(source, module))
-        if re.search(rf"^pub mod {name};", root, re.M):
-            items.append(module_of(source, name))
+        if is_module(source, module, name):
+            items += modules_of(source, name, name)
         else:
             items.append(named_item(source, module, name))
     return items

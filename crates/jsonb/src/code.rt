@@ -8,8 +8,8 @@ ghost use Rattle.jsonb.specs.Words.{IsHeld, HasSameEntry, raw_view};
 use crate::document::Document;
 use crate::item::{JsonbItem, text_of};
 use crate::raw::RawJsonb;
-use jsonb_codec::DocumentBytes;
 use jsonb_codec::constants::{EXTENSION_TAG, FALSE_TAG, NULL_TAG, NUMBER_TAG, TRUE_TAG};
+use jsonb_codec::layer::DocumentBytes;
 use jsonb_codec::parts::Part;
 use jsonb_codec::writer::{Stored, StoredEntry, part_code};
 

@@ -15,10 +15,11 @@ use jsonb_codec::constants::{
     ARRAY_CONTAINER_TAG, CONTAINER_TAG, EXTENSION_TAG, FALSE_TAG, NULL_TAG, NUMBER_TAG,
     OBJECT_CONTAINER_TAG, STRING_TAG, TRUE_TAG,
 };
-use jsonb_codec::parts::Part;
-use jsonb_codec::{
-    DocumentBytes, append_canonical_document, is_canonical_document, read_header, value_of_document,
+use jsonb_codec::layer::{
+    DocumentBytes, append_canonical_document, is_canonical_document, value_of_document,
 };
+use jsonb_codec::parts::Part;
+use jsonb_codec::read_header;
 use jsonb_value::{Error, Value};
 use std::alloc::Global;
 use std::borrow::CowStr;

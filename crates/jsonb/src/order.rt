@@ -20,7 +20,7 @@ use crate::document::{Document, Node};
 use crate::item::{JsonbItem, text_of};
 use crate::item_type::JsonbItemType;
 use crate::sort_key::SortKey;
-use jsonb_codec::document_text;
+use jsonb_codec::layer::document_text;
 use std::cmp::Ordering;
 use walk::cmp_nodes;
 

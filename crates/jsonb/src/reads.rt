@@ -6,7 +6,7 @@ ghost use Rattle.std.specs.Prelude.{◌≡◌, ℕ, ◌+◌, ◌<◌, ◌≤◌,
 ghost use Rattle.jsonb.specs.Words.{word_at};
 
 use byteorder::{BigEndian, ByteOrder};
-use jsonb_codec::read_word;
+use jsonb_codec::layer::read_word;
 use jsonb_value::Error;
 use std::marker::Model;
 

@@ -14,7 +14,8 @@ use crate::document::{Contents, Document, Node};
 use crate::nodes::{Items, Members};
 use bstr::ByteSlice;
 use jsonb_codec::parts::Part;
-use jsonb_value::{Error, ExtensionValue, extension_text, write_number, write_string};
+use jsonb_value::layer::{write_number, write_string};
+use jsonb_value::{Error, ExtensionValue, extension_text};
 use std::alloc::Global;
 use std::fmt;
 

@@ -13,9 +13,8 @@ ghost use Rattle.jsonb_cli.specs.Names.{order_words};
 use crate::answer::{Answer, Refusal};
 use crate::command::{decode_shallow, decode_word};
 use crate::words::Words;
-use jsonb::{
-    ArrayBuilder, Document, Error, JsonbItemType, Node, OwnedJsonb, RawJsonb, parse_string,
-};
+use jsonb::layer::parse_string;
+use jsonb::{ArrayBuilder, Document, Error, JsonbItemType, Node, OwnedJsonb, RawJsonb};
 use std::alloc::Global;
 use std::cmp::Ordering;
 use std::str;

@@ -13,12 +13,10 @@ ghost use Rattle.jsonb_codec.specs.Words.{AreChildren, AreMembers};
 use crate::constants::{CONTAINER_TAG, FALSE_TAG, NULL_TAG, NUMBER_TAG, STRING_TAG, TRUE_TAG};
 use crate::document::{DocumentBytes, FaultTable, check};
 use crate::parts::{Children, Contents, Members, Part};
+use jsonb_value::layer::LEAF_PAIRS;
 use jsonb_value::{Error, ExtensionValue, Number, Object, Value};
 use std::alloc::Global;
 use std::borrow::CowStr;
-// The number of pairs in one leaf of a map.
-const LEAF_PAIRS: usize = 15;
-
 use std::collections::BTreeMap;
 
 /// Decodes a document. Strings and extension data in the value are borrowed from the bytes.

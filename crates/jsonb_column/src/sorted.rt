@@ -8,7 +8,8 @@ ghost use Rattle.jsonb_value.specs.TreeOrder.{tree_cmp};
 ghost use Rattle.jsonb.specs.Document.{document_bytes, document_tree, tree_in};
 
 use crate::column::Column;
-use jsonb::{Document, Error, order_of_trees};
+use jsonb::laws::order_of_trees;
+use jsonb::{Document, Error};
 use std::alloc::Global;
 use std::cmp::Ordering;
 

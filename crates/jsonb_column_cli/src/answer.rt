@@ -10,7 +10,8 @@ ghost use Rattle.jsonb_column_cli.specs.Words.{column_refusal_name, refusal_of, 
 ghost use Rattle.jsonb_column_cli.specs.Words.{name_view, reply_line, rows_line, reply_of};
 
 use hex::FromHexError;
-use jsonb::{Document, Error, OwnedJsonb, ParseError, Reads, is_text_within, parse_string};
+use jsonb::layer::{is_text_within, parse_string};
+use jsonb::{Document, Error, OwnedJsonb, ParseError, Reads};
 use jsonb_column::{Column, Sorted};
 use std::alloc::{AllocError, Global};
 

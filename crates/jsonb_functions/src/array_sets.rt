@@ -13,8 +13,8 @@ ghost use Rattle.jsonb_functions.specs.Words.{shape_of, some_shared};
 
 use crate::chosen::{Chosen, ChosenItems, ChosenLevel};
 use jsonb::constants::CONTAINER_TAG;
-use jsonb::parts::{Children, Contents, Part};
-use jsonb::writer::{Level, append_document};
+use jsonb::layer::parts::{Children, Contents, Part};
+use jsonb::layer::writer::{Level, append_document};
 use jsonb::{Document, Error, Node, OwnedJsonb};
 use std::alloc::Global;
 use std::collections::BTreeMap;

@@ -8,8 +8,8 @@ ghost use Rattle.jsonb_functions.specs.Words.{keys_size, kept_pairs, level_size,
 ghost use Rattle.jsonb_functions.specs.Words.{pair_count, part_meaning};
 
 use crate::choice::{Choice, is_kept, keep_all};
-use jsonb::parts::{Child, Children, Member, Members, Object, Part};
-use jsonb::writer::{Level, Side, Source, StoredEntry};
+use jsonb::layer::parts::{Child, Children, Member, Members, Object, Part};
+use jsonb::layer::writer::{Level, Side, Source, StoredEntry};
 
 /// A part that is kept whole.
 #[derive(Clone, Copy)]

@@ -15,8 +15,8 @@ ghost use Rattle.jsonb_functions.specs.Words.{wrapped};
 
 use crate::path::{Position, Step, is_next, item_position};
 use jsonb::constants::CONTAINER_TAG;
-use jsonb::parts::{Child, Children, Contents, Member, Members, Object, Part};
-use jsonb::writer::{Level, Side, Source, StoredEntry, append_document};
+use jsonb::layer::parts::{Child, Children, Contents, Member, Members, Object, Part};
+use jsonb::layer::writer::{Level, Side, Source, StoredEntry, append_document};
 use jsonb::{Document, Error, OwnedJsonb};
 use std::alloc::Global;
 use std::cmp::Ordering;

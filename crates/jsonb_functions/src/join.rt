@@ -13,8 +13,8 @@ ghost use Rattle.jsonb_functions.specs.Words.{no_pairs, no_trees, object, owned_
 ghost use Rattle.jsonb_functions.specs.Words.{part_meaning, run_size, shape_of};
 
 use jsonb::constants::CONTAINER_TAG;
-use jsonb::parts::{Child, Children, Contents, Member, Members, Object, Part};
-use jsonb::writer::{Level, Side, Source, StoredEntry, append_document};
+use jsonb::layer::parts::{Child, Children, Contents, Member, Members, Object, Part};
+use jsonb::layer::writer::{Level, Side, Source, StoredEntry, append_document};
 use jsonb::{Document, Error, OwnedJsonb};
 use std::alloc::Global;
 use std::cmp::Ordering;

@@ -5,8 +5,8 @@ ghost use Rattle.jsonb_functions.specs.Words.{IsObject, Pairs, array, canon, doc
 ghost use Rattle.jsonb_functions.specs.Words.{key_array, key_texts, owned_bytes};
 
 use jsonb::constants::CONTAINER_TAG;
-use jsonb::parts::{Contents, Object, Part};
-use jsonb::writer::{Level, append_document};
+use jsonb::layer::parts::{Contents, Object, Part};
+use jsonb::layer::writer::{Level, append_document};
 use jsonb::{Document, Error, OwnedJsonb};
 use std::alloc::Global;
 

@@ -16,8 +16,8 @@ ghost use Rattle.jsonb_functions.specs.Words.{patched_size, shape_of};
 
 use crate::join::{maybe_stored_len, members_of, object_of};
 use jsonb::constants::NULL_TAG;
-use jsonb::parts::{Child, Children, Member, Members, Object, Part};
-use jsonb::writer::{Level, Side, Source, StoredEntry, append_document};
+use jsonb::layer::parts::{Child, Children, Member, Members, Object, Part};
+use jsonb::layer::writer::{Level, Side, Source, StoredEntry, append_document};
 use jsonb::{Document, Error, OwnedJsonb};
 use std::alloc::Global;
 use std::cmp::Ordering;

@@ -9,8 +9,8 @@ ghost use Rattle.jsonb_functions.specs.Words.{picked, shape_of};
 use crate::choice::{Choice, Kept, sorted};
 use crate::chosen::{Chosen, ChosenLevel, ChosenObject, count_kept, lifted};
 use jsonb::constants::CONTAINER_TAG;
-use jsonb::parts::{Contents, Part};
-use jsonb::writer::{Level, Source, append_document};
+use jsonb::layer::parts::{Contents, Part};
+use jsonb::layer::writer::{Level, Source, append_document};
 use jsonb::{Document, Error, OwnedJsonb};
 use std::alloc::Global;
 

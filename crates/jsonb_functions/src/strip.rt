@@ -10,8 +10,8 @@ ghost use Rattle.jsonb_functions.specs.Words.{no_pairs, owned_bytes, pair_count,
 ghost use Rattle.jsonb_functions.specs.Words.{stripped};
 
 use jsonb::constants::{CONTAINER_TAG, NULL_TAG};
-use jsonb::parts::{Child, Children, Contents, Member, Members, Object, Part};
-use jsonb::writer::{Level, Side, Source, StoredEntry, append_document};
+use jsonb::layer::parts::{Child, Children, Contents, Member, Members, Object, Part};
+use jsonb::layer::writer::{Level, Side, Source, StoredEntry, append_document};
 use jsonb::{Document, Error, OwnedJsonb};
 use std::alloc::Global;
 

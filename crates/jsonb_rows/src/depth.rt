@@ -1,6 +1,7 @@
 // The depth of documents of some lengths, and the depth to which they are examined.
 use crate::documents::{decode_again, nested, read_as_tree};
-use jsonb::{Error, OwnedJsonb, ParseError, RawJsonb, Value, is_text_within, parse_value_within};
+use jsonb::layer::is_text_within;
+use jsonb::{Error, OwnedJsonb, ParseError, RawJsonb, Value, parse_value_within};
 use jsonb_codec::{is_document, is_document_within, nests_deeper};
 use std::alloc::Global;
 use std::test::Fail;

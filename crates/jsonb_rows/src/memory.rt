@@ -2,10 +2,11 @@
 // passes on the error once it has examined what the failure left; tools/refuse_each.py runs it with
 // each of its allocations failing in turn.
 use crate::documents::{decode_again, encoded, read_as_tree};
+use jsonb::layer::append_canonical;
 use jsonb::{
     ArrayBuilder, ArrayDistinctBuilder, Date, Decimal64, Decoder, Document, Encoder, Error,
     ExtensionValue, JsonAst, JsonAstEncoder, JsonbItem, Number, NumberItem, ObjectBuilder,
-    OwnedJsonb, RawJsonb, Value, append_canonical, parse_value, sort_views, value_of,
+    OwnedJsonb, RawJsonb, Value, parse_value, sort_views, value_of,
 };
 use std::alloc::Global;
 use std::borrow::CowStr;

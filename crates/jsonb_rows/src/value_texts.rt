@@ -1,8 +1,7 @@
 // Texts of numbers, strings and extension values with a writer that fails, and with width and fill.
 use crate::documents::Narrow;
-use jsonb::{
-    Decimal64, ExtensionValue, Interval, Number, Opaque, extension_text, write_number, write_string,
-};
+use jsonb::layer::{write_number, write_string};
+use jsonb::{Decimal64, ExtensionValue, Interval, Number, Opaque, extension_text};
 use std::alloc::Global;
 use std::fmt;
 use std::test::Fail;

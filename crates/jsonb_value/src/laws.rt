@@ -1,9 +1,12 @@
-//! Laws of JSON texts.
+//! Laws of JSON texts and of the orders of values.
 
 ghost use Rattle.std.specs.Prelude.{◌≡◌, ℕ, IsUtf8, List};
 ghost use Rattle.jsonb_value.specs.Words.{HasDepthOfSpelled, Json, JsonText, JsonWithExponents};
 ghost use Rattle.jsonb_value.specs.Words.{Tree};
 
+pub use crate::order::{
+    order_of_extension_values, order_of_meanings, order_of_numbers, order_of_trees,
+};
 use crate::parser::Exponents;
 
 /// Laws of JSON texts, with exponents or without. No text means two trees. A text without exponents

@@ -6,6 +6,9 @@ use crate::opaque::Opaque;
 use std::borrow::CowStr;
 use std::collections::BTreeMap;
 
+/// How many pairs one leaf of an object's map holds.
+pub const LEAF_PAIRS: usize = 15;
+
 /// The pairs of an object, in the byte order of their keys.
 pub type Object<'a> = BTreeMap<String, Value<'a>>;
 

@@ -7,7 +7,8 @@ ghost use Rattle.kohiblad.specs.Words.{numbered_child, value_answer};
 
 use crate::answer::{NONE, OK, code};
 use crate::places::{KohibladPlace, place_answer};
-use jsonb::{Entry, Error, payloads_end, read_header};
+use jsonb::layer::{Entry, payloads_end};
+use jsonb::{Error, read_header};
 use jsonb_codec::constants::{ARRAY_CONTAINER_TAG, OBJECT_CONTAINER_TAG};
 
 /// The state of a walk over the children of an array or object: the index of the next child, and

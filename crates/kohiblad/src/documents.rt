@@ -5,7 +5,8 @@ ghost use Rattle.kohiblad.specs.Words.{meaning_cmp, Tree, IsDocumentWithin, Doc,
 ghost use Rattle.kohiblad.specs.Words.{kind_of_tree, meaning_within, sign, kind_answer};
 
 use crate::answer::{OK, code};
-use jsonb::{JsonbItemType, RawJsonb, SortKey, document_text, is_document_within};
+use jsonb::layer::document_text;
+use jsonb::{JsonbItemType, RawJsonb, SortKey, is_document_within};
 use std::cmp::Ordering;
 
 // Bytes of at most this length are compared by their meaning at once: checking takes few steps.

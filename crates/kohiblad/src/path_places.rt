@@ -18,7 +18,8 @@ ghost use Rattle.kohiblad.specs.Words.{entry_there};
 
 use crate::children::{Child, KohibladCursor, child_at_cursor, cursor_after, first_cursor};
 use crate::places::{KohibladPlace, place_answer};
-use jsonb::{Entry, Error, Node, payloads_end, read_header};
+use jsonb::layer::{Entry, payloads_end};
+use jsonb::{Error, Node, read_header};
 use jsonb_codec::constants::{ARRAY_CONTAINER_TAG, CONTAINER_TAG, OBJECT_CONTAINER_TAG};
 use jsonb_codec::parts::Part;
 use jsonb_functions::{Bound, Selector, Step, count_before, count_through, holds};

@@ -12,7 +12,8 @@ ghost use Rattle.kohiblad.specs.Words.{IsPlaceHandedOver, IsValuePlace, is_entry
 ghost use Rattle.kohiblad.specs.Words.{part_document, IsPartDocument};
 
 use crate::answer::{NO_ROOM, NONE, OK, PAYLOAD_LIMIT, code, hand_over, hand_over_scalar, refuse};
-use jsonb::{Cursor, Entry, Error, RawJsonb, Reads, read_header};
+use jsonb::layer::{Cursor, Entry};
+use jsonb::{Error, RawJsonb, Reads, read_header};
 use jsonb_codec::constants::{
     ARRAY_CONTAINER_TAG, CONTAINER_TAG, EXTENSION_TAG, FALSE_TAG, NULL_TAG, NUMBER_TAG,
     OBJECT_CONTAINER_TAG, STRING_TAG, TRUE_TAG,

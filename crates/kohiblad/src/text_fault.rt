@@ -6,7 +6,8 @@ ghost use Rattle.kohiblad.specs.Words.{IsTextFault, IsJsonUnder, IsFaultUnder, r
 
 use crate::answer::{BAD_NUMBER, OK, TOO_DEEP, code};
 use json_fault::{Fault, FaultReason, text_fault, text_fault_with_exponents};
-use jsonb::{Error, is_text_within};
+use jsonb::Error;
+use jsonb::layer::is_text_within;
 use std::alloc::Global;
 use std::str;
 

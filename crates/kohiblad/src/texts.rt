@@ -6,7 +6,8 @@ ghost use Rattle.kohiblad.specs.Words.{result_bytes};
 
 use crate::answer::{TOO_DEEP, code, hand_over, hand_over_made, refuse};
 use bstr::ByteSlice;
-use jsonb::{Error, OwnedJsonb, SortKey, is_text_within};
+use jsonb::layer::is_text_within;
+use jsonb::{Error, OwnedJsonb, SortKey};
 use std::alloc::Global;
 use std::str;
 

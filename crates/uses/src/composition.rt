@@ -9,7 +9,8 @@ ghost use Rattle.uses.specs.Words.{Fits, Doc, raw_bytes, AnswersOf, find, IsItem
 ghost use Rattle.uses.specs.Words.{value_of_key, words_for_key, IsFoundIn, item_view};
 
 use crate::composition::walks::{array_items, object_keys, object_pairs, object_values};
-use jsonb::{Encoder, Error, JsonbItem, JsonbItemType, RawJsonb, Reads, Value, meaning_laws};
+use jsonb::laws::meaning_laws;
+use jsonb::{Encoder, Error, JsonbItem, JsonbItemType, RawJsonb, Reads, Value};
 use std::alloc::Global;
 use std::cmp::Ordering;
 

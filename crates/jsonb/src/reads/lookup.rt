@@ -10,8 +10,9 @@ ghost use Rattle.jsonb.specs.Words.{count_in_header};
 use crate::entries::Entry;
 use crate::item::JsonbItem;
 use crate::reads::Reads;
+use jsonb_codec::JEntry;
 use jsonb_codec::constants::OBJECT_CONTAINER_TAG;
-use jsonb_codec::{JEntry, decode_header};
+use jsonb_codec::layer::decode_header;
 use jsonb_value::Error;
 
 /// A value that a look-up found, and its entry, with the place of its payload.

@@ -4,13 +4,10 @@ ghost use Rattle.std.specs.Prelude.{◌≡◌, ◌++◌, [], string_cmp, IfOk, I
 ghost use Rattle.jsonb_value.specs.Words.{insert_entry, IsFromIterResult, members_held, pairs_view};
 
 use crate::error::Error;
-use crate::value::{Object, Value};
+use crate::value::{LEAF_PAIRS, Object, Value};
 use std::alloc::Global;
 use std::collections::BTreeMap;
 use std::mem::replace;
-
-// The number of pairs in one leaf of a map.
-const LEAF_PAIRS: usize = 15;
 
 /// The members read so far. The first are in a map, as long as they fit one leaf; later ones are in
 /// a list in the order read, because building a map from a list costs less than single insertions.

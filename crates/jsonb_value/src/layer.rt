@@ -1,0 +1,6 @@
+//! What the libraries above this one are built of, and their callers rarely need.
+
+pub use crate::json_string::parse_string;
+pub use crate::text::{write_number, write_string};
+pub use crate::text_depth::is_text_within;
+pub use crate::value::LEAF_PAIRS;
