@@ -31,6 +31,7 @@ pub struct Fault {
 }
 
 // The innermost open bracket.
+#[tactic(auto, using(crate::proofs::OpenBrackets::last_is))]
 fn innermost(brackets: &Vec<Bracket>) -> Option<Bracket>
     ensures { result ≡ innermost_bracket (reverse brackets.now.items) }
 {

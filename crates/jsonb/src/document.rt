@@ -113,6 +113,7 @@ impl<'a> Document<'a> {
     }
 
     /// The bytes of the document.
+    #[tactic(auto, using(crate::proofs::DocumentLaws::known_Doc))]
     pub fn as_bytes(&self) -> &'a [u8]
         ensures bytes { result.now ≡ document_bytes self.now }
         ensures document { Doc result.now (document_tree self.now) }
@@ -140,6 +141,7 @@ impl<'a> Document<'a> {
 
     /// The single part that the document consists of.
     #[inline(always)]
+    #[tactic(auto, using(crate::proofs::DocumentLaws::known_Doc))]
     pub fn part(&self) -> Part<'a>
         ensures means { PartMeans result (document_tree self.now) }
         ensures len { length result.payload.now < 2 ^ 64 }

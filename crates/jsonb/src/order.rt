@@ -95,6 +95,7 @@ pub fn cmp_meanings(left: &JsonbItem<'_>, right: &JsonbItem<'_>) -> Ordering
 }
 
 // The bytes of an item that holds bytes.
+#[tactic(auto, using(crate::proofs::ItemMeaningLaws::value_meaning))]
 fn bytes_of<'i>(item: &'i JsonbItem<'_>) -> Option<&'i [u8]>
     ensures { MatchOption result ((t : Tree) × (item_meaning item.now ≡ document t))
         (λ bytes. item_meaning item.now ≡ meaning_of bytes.now) }

@@ -61,6 +61,7 @@ impl Layout {
 
     // Writes what precedes an item or a closing bracket.
     #[inline(always)]
+    #[tactic(auto, using(jsonb_value::proofs::Writing::joins_two, crate::proofs::LineLaws::indent))]
     fn start_line<W: fmt::Write>(self, f: &mut fmt::Formatter<W>) -> fmt::Result
         ensures { WritesStyledOnOk W.write_str_gives f.old result
             (line_start (layout_of self)) f.new }

@@ -28,6 +28,7 @@ pub fn is_canonical(bytes: &[u8]) -> bool
 /// Whether a checked document is canonical, that is, the one that the encoder writes for its value:
 /// each integer in the fewest bytes, zero as the single byte 0, and no decimal and no timestamp
 /// with a time zone in an older form.
+#[tactic(auto, using(crate::proofs::Decision::known_document))]
 pub fn is_canonical_document(document: DocumentBytes<'_>) -> bool
     ensures { IsTrue result ↔ IsCanonical (bytes_of document.entry) }
 {
@@ -57,6 +58,7 @@ fn is_written(part: Part<'_>) -> bool
 }
 
 // Among the payloads of a number only the written one has its length.
+#[tactic(auto, using(crate::proofs::CanonicalSteps::written_number))]
 fn is_written_number(payload: &[u8], value: Number) -> bool
     ensures { Payload (number value) payload.now
         → IsTrue result ↔ IsWritten (number value) payload.now }
@@ -64,6 +66,7 @@ fn is_written_number(payload: &[u8], value: Number) -> bool
     payload.len() == value.compact_len()
 }
 
+#[tactic(auto, using(crate::proofs::CanonicalSteps::written_extension))]
 fn is_written_extension(payload: &[u8], value: ExtensionValue) -> bool
     ensures { Payload (extension (extension_of value.entry)) payload.now
         → IsTrue result ↔ IsWritten (extension (extension_of value.entry)) payload.now }

@@ -25,6 +25,7 @@ pub fn canonical_laws()
 /// Printed texts can be parsed: if a tree fits the format and has no extension value, its compact
 /// text is a JSON text whose tree fits the format and compares `Equal` to it; the same holds for
 /// its pretty text.
+#[tactic(auto, using(crate::proofs::RereadLaws::reread_text))]
 pub fn printed_text_laws()
     ensures compact { (t : Tree) → IsTree t → IsPlain t → Fits t
         → MeansAgain (chars (compact t)) t }

@@ -85,6 +85,7 @@ impl<'a> Part<'a> {
 
     /// The text of a string.
     #[inline(always)]
+    #[tactic(auto, using(crate::proofs::Decision::known_part, crate::proofs::Scalars::text_after))]
     pub fn text(self) -> &'a str
         requires { self.type_code ≡ STRING_TAG }
         ensures means { (t : Tree) → PartMeans self.entry t → t ≡ text result.now }
@@ -107,6 +108,7 @@ impl<'a> Part<'a> {
 
     /// The extension value.
     #[inline(always)]
+    #[tactic(auto, using(crate::proofs::Building::meant))]
     pub fn extension(self) -> ExtensionValue<'a>
         requires { self.type_code ≡ EXTENSION_TAG }
         ensures { (t : Tree) → PartMeans self.entry t → t ≡ extension (extension_of result) }

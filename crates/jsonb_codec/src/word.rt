@@ -79,6 +79,7 @@ pub struct Tagged<'a> {
 /// The word at the start of the bytes, and the bytes after it. `None` if there are fewer than four
 /// bytes.
 #[inline(always)]
+#[tactic(auto, using(crate::proofs::Words::word_at_front))]
 pub fn split_word(bytes: &[u8]) -> Option<(u32, &[u8])>
     ensures found { IfSome result (λ x. bytes.now ≡ word x.0 ++ x.1.now) }
     ensures small { IfSome result (λ x. x.0 < 2 ^ 32) }

@@ -76,6 +76,7 @@ impl<'c> Zones<'c> {
     /// none of a block in which all keys begin below that of `value`, or all above it, and else at
     /// most two words for each pair of a row and one more for the row. It must be at most
     /// `MAX_READS` before the call. `OutOfMemory` is the only error.
+    #[tactic(auto, using(crate::proofs::BlockLaws::equal_rows))]
     pub fn select(
         &self,
         alloc: Global,

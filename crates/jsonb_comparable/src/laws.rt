@@ -50,6 +50,7 @@ pub fn key_laws()
 
 /// The same laws of the keys of any bytes, but for those of parts: documents are below all other
 /// bytes, and those compare as bytes.
+#[tactic(auto, using(crate::proofs::KeyLaws::is_meaning, crate::proofs::KeyLaws::meanings_laws))]
 pub fn key_laws_of_bytes()
     ensures { KeyLaws meaning_of }
 {}

@@ -94,6 +94,7 @@ struct SplitDigits {
 }
 
 // A magnitude over 10 ^ scale, times 10 ^ 256.
+#[tactic(auto, using(crate::proofs::PowerLaws::even_digits, crate::proofs::PowerLaws::odd_digits))]
 fn split_digits(magnitude: u128, scale: u8) -> SplitDigits
     requires { magnitude ≤ 2 ^ 127 }
     ensures value { magnitude * 10 ^ (256 - scale) ≡ digits_value result }

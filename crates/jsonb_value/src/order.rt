@@ -126,12 +126,14 @@ fn cmp_intervals(left: Interval, right: Interval) -> Ordering
 
 /// The order of numbers by value is total: swapping the arguments reverses the result, it is
 /// transitive, and two numbers that compare `Equal` compare alike with every other.
+#[tactic(auto, using(crate::proofs::NumberLaws::number_cmp_total))]
 pub fn order_of_numbers()
     ensures { IsTotalOrder number_cmp }
 {}
 
 /// The order of extension values is total: swapping the arguments reverses the result, it is
 /// transitive, and two values that compare `Equal` compare alike with every other.
+#[tactic(auto, using(crate::proofs::ExtensionLaws::extension_cmp_total))]
 pub fn order_of_extension_values()
     ensures { IsTotalOrder extension_cmp }
 {}
@@ -149,6 +151,7 @@ pub fn order_of_trees()
 
 /// The order of byte strings by meaning is total. A byte string means the tree of a document, or
 /// itself if it is not a document.
+#[tactic(auto, using(crate::proofs::MeaningLaws::meaning_cmp_total))]
 pub fn order_of_meanings()
     ensures { IsTotalOrder meaning_cmp }
 {}

@@ -28,6 +28,7 @@ fn escape_lanes<const N: usize>(lanes: Simd<u8, N>) -> u64
 
 // Whether the N bytes at `at` are all unescaped.
 #[inline(always)]
+#[tactic(auto, using(crate::proofs::RunLaws::none_escaped))]
 fn is_plain_at<const N: usize>(bytes: &[u8], at: usize) -> bool
     requires few { N ≤ 64 }
     requires within { at + N ≤ length bytes.now }

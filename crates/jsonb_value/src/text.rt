@@ -166,6 +166,7 @@ fn hex_digit(digit: u8) -> char
 
 // Writes a string without its quotes.
 #[inline(always)]
+#[tactic(auto, using(crate::proofs::Escapes::plain_front))]
 fn write_content<W: fmt::Write>(text: &str, f: &mut fmt::Formatter<W>) -> fmt::Result
     ensures { WritesStyledOnOk W.write_str_gives f.old result (flat_map byte_text text.now) f.new }
 {

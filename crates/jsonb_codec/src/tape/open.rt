@@ -104,6 +104,7 @@ pub struct OpenObject<'a> {
 
 impl<'a> OpenObject<'a> {
     /// No members. The memory of these is kept.
+    #[tactic(auto, using(crate::proofs::OnTape::Members::no_members))]
     pub fn new(mut members: Vec<Member<'a>>) -> OpenObject<'a>
         ensures { (storage : Storage) → TapeObjectIs storage result [] }
     {
@@ -159,6 +160,7 @@ impl<'a> OpenObject<'a> {
 
 // Whether all keys ascend with this one, if those before it do.
 #[inline(always)]
+#[tactic(auto, using(crate::proofs::OnTape::Members::last_below))]
 fn still_ascends(ascends: bool, members: &[Member<'_>], key: &str) -> bool
     ensures before { result ≡ true → ascends ≡ true }
     ensures last { result ≡ true → (storage : Storage) (read : Entries)

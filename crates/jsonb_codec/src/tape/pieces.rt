@@ -39,6 +39,7 @@ pub struct Payloads {
 
 impl Payloads {
     /// No payload.
+    #[tactic(auto, using(crate::proofs::OnTape::Pieces::no_payload))]
     pub fn new(alloc: Global) -> Payloads
         ensures { (storage : Storage) → PayloadsAre storage result [] }
     {
@@ -90,6 +91,7 @@ impl Payloads {
     }
 
     /// Forgets all payloads, but keeps the memory.
+    #[tactic(auto, using(crate::proofs::OnTape::Pieces::no_payload))]
     pub fn clear(&mut self)
         ensures { (storage : Storage) → PayloadsAre storage self.new [] }
     {

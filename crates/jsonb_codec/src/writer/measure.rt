@@ -362,6 +362,7 @@ fn child_size<S: Source>(child: Level<S::Leaf, S::Items, S::Object>) -> usize
 
 // The total length of items, measured completely.
 #[inline(always)]
+#[tactic(auto, using(crate::proofs::Shapes::children_short))]
 fn items_size<S: Source>(items: S::Items) -> usize
     requires { (ss : Shapes) × (S.meaning.items items ss × AreFew ss) }
     ensures { (ss : Shapes) → S.meaning.items items ss → result ≡ body ss }
@@ -374,6 +375,7 @@ fn items_size<S: Source>(items: S::Items) -> usize
 
 // The total length of values and their keys, measured completely.
 #[inline(always)]
+#[tactic(auto, using(crate::proofs::Shapes::children_short))]
 fn members_size<S: Source>(members: S::Members) -> usize
     requires { (ss : Shapes) × (S.meaning.members members ss × AreFew ss) }
     ensures { (ss : Shapes) → S.meaning.members members ss → result ≡ body ss }

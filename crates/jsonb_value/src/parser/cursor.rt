@@ -5,6 +5,7 @@ ghost use Rattle.jsonb_value.specs.Words.{is_blank, skip_blank, expect, expect_a
 
 /// The first character, and the text after it.
 #[inline(always)]
+#[tactic(auto, using(std::proofs::lemmas::Str::chars_past_char))]
 pub fn split_first(text: &str) -> Option<(char, &str)>
     ensures { MatchOption result (chars text.now ≡ [])
         (λ parts. chars text.now ≡ parts.0 ∷ chars parts.1.now) }

@@ -168,6 +168,7 @@ fn is_exponent_mark(character: char) -> bool
 // Reads an exponent, if exponents are allowed and the text begins with `e` or `E`; otherwise it is
 // 0. Returns the text after it.
 #[inline(always)]
+#[tactic(auto, using(crate::proofs::Json::NumberSteps::no_exponent))]
 fn read_exponent(exponents: Exponents, text: &str) -> Option<(Integer, &str)>
     ensures { MatchOption result (read_exponent exponents (chars text.now) ≡ None)
         (λ found. (z : ℤ)

@@ -27,6 +27,7 @@ fn read_unit(text: &str) -> Option<(u32, &str)>
 }
 
 // The number of four hexadecimal digits.
+#[tactic(auto, using(crate::proofs::Json::TextSteps::all_digits_give))]
 fn unit_value(first: char, second: char, third: char, fourth: char) -> Option<u32>
     ensures value { result ≡ unit_value (unit4 first second third fourth) }
     ensures short { IfSome result (λ value. value < 65536) }

@@ -55,6 +55,7 @@ impl<'a> Trees<'a> {
     }
 
     // Adds a value to the innermost container.
+    #[tactic(auto, using(crate::proofs::TreesLaws::member_added))]
     fn add(&mut self, value: Value<'a>) -> Result<(), Error>
         ensures ok { OnOk result (Adds trees_are self.old self.new (tree_of value.entry)) }
         ensures memory { IfErr result (λ e. e ≡ OutOfMemory) }

@@ -1,7 +1,0 @@
-use Rattle.std.proofs.Common.{arith}
-use Rattle.std.proofs.lemmas.Str.{chars_past_char}
-use Rattle.jsonb_value.proofs.parser.cursor.split_first.Goals as goal
-
-pub returns : goal.returns
-returns c =
-    grind (arith, chars_past_char)
