@@ -3,7 +3,7 @@
 ghost use Rattle.std.specs.Prelude.{◌≡◌, ℕ, [], ◌∷◌, ◌++◌, List, Option, OnOk, OnErr, IfOk, IfSome};
 ghost use Rattle.std.specs.Prelude.{IsErrOf, IsOkUnless, string_bytes};
 ghost use Rattle.answer_lines.specs.Words.{IsAtEnd, IsLine, IsReply, AppendsReplies, AppendsWhole};
-ghost use Rattle.answer_lines.specs.Words.{AppendsBeginning, IsPrompt, Memory};
+ghost use Rattle.answer_lines.specs.Words.{AppendsBeginning, IsPrompt, Memory, reason_of};
 
 use crate::answerer::LineAnswerer;
 use crate::reader::LineReader;
@@ -21,6 +21,19 @@ pub enum RunError {
     Write,
     /// The allocation of a line or of a reply failed.
     Memory,
+}
+
+impl RunError {
+    /// What failed, in words: the line on standard error has them after the program's name.
+    pub fn reason(self) -> &'static str
+        ensures { result.now ≡ reason_of self }
+    {
+        match self {
+            Self::Read => "read failed",
+            Self::Write => "write failed",
+            Self::Memory => "out of memory",
+        }
+    }
 }
 
 impl From<AllocError> for RunError {

@@ -1,5 +1,4 @@
 pub mod Commands
 pub mod Grammar
 pub mod Answers
-pub mod Fault
 pub mod Words

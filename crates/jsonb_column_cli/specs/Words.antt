@@ -14,6 +14,5 @@ pub use Rattle.jsonb_column_cli.specs.Answers.{reply_line, reply_of, rows_line}
 pub use Rattle.jsonb_column_cli.specs.Commands.{add, count, escaped_after, find, find_in, form_in}
 pub use Rattle.jsonb_column_cli.specs.Commands.{is_space, load, name_len, name_word}
 pub use Rattle.jsonb_column_cli.specs.Commands.{open_after, range, row, save, sort}
-pub use Rattle.jsonb_column_cli.specs.Fault.{fault_line}
 pub use Rattle.jsonb_column_cli.specs.Grammar.{column_form, name_view}
 pub use Rattle.jsonb_column_cli.specs.declared.answer.Refusal.TheVariants.{Call}

@@ -55,6 +55,6 @@ fn requested(rt: &HostRuntime) -> Result<Request, RunError> {
 
 // If standard error fails too, only the status reports the fault.
 fn report(rt: &HostRuntime, error: RunError) -> ExitCode {
-    let _ = eprintln!(rt; "{}", run::fault_line(error));
+    let _ = eprintln!(rt; "jsonb_column_cli: {}", error.reason());
     ExitCode::FAILURE
 }

@@ -2,7 +2,7 @@
 
 ghost use Rattle.std.specs.Prelude.{◌≡◌, [], List, ℕ, OnOk, OnErr, IfSome, IsErrOf};
 ghost use Rattle.jsonb_column_cli.specs.Words.{IsAtEnd, AppendsReplies, AppendsWhole};
-ghost use Rattle.jsonb_column_cli.specs.Words.{AppendsBeginning, Rows, AnswersLine, fault_line};
+ghost use Rattle.jsonb_column_cli.specs.Words.{AppendsBeginning, Rows, AnswersLine};
 
 use crate::answer::line_text;
 use crate::command;
@@ -11,17 +11,6 @@ use jsonb_column::Column;
 use std::alloc::{AllocError, Global};
 use std::io::{Read, Write};
 use std::marker::Model;
-
-/// The line that reports a fault on standard error.
-pub fn fault_line(error: RunError) -> &'static str
-    ensures { result.now ≡ fault_line error }
-{
-    match error {
-        RunError::Read => "jsonb_column_cli: read failed",
-        RunError::Write => "jsonb_column_cli: write failed",
-        RunError::Memory => "jsonb_column_cli: out of memory",
-    }
-}
 
 /// Replies to each line by its command, on the rows that the previous lines left.
 #[derive(Drop)]
