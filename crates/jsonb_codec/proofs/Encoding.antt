@@ -4,14 +4,10 @@ use Rattle.std.proofs.Common.{IfErr, OnOk, OnErr, IsOk, refl, rules}
 use Rattle.jsonb_value.specs.declared.error.Error.{Error}
 use Rattle.jsonb_value.specs.declared.error.Error.TheVariants.{InvalidJsonb, OutOfMemory}
 use Rattle.jsonb_value.specs.Tree.{Tree}
-use Rattle.jsonb_value.specs.Norm.{norm}
-use Rattle.jsonb_value.specs.WellFormed.{IsTree}
 use Rattle.jsonb_codec.specs.Canon as tree
 use Rattle.jsonb_codec.specs.Canon.{canon}
-use Rattle.jsonb_codec.specs.Doc.{Doc}
 use Rattle.jsonb_codec.specs.Made.{MadeIfFit}
 use Rattle.jsonb_codec.specs.Shape.{Shape, document, ShapeFits}
-use Rattle.jsonb_codec.proofs.CanonLaws.{Doc-canon}
 use Rattle.jsonb_codec.proofs.MadeLaws.{made_if_fit}
 use Rattle.std.proofs.lemmas.Result.{on_ok_weaker}
 use Rattle.jsonb_codec.specs.Canon.{shape_of}
@@ -37,13 +33,6 @@ module _ (LevelIs : Shape → Type 0) (t : Tree) (is : LevelIs (shape_of t)) whe
       let (fits, is_new) = ok (shape_of t) is in
       (fits, is_new)
   appended (Err e) new old ok = tt
-
-  -- What is appended means the tree's normal form.
-  pub meant : {A : Type 0} (r : Result A Error) (new old : List ℕ)
-      → OnOk r ((s : Shape) → LevelIs s → ShapeFits s × (new ≡ old ++ document s))
-      → OnOk r (IsTree t) → OnOk r (Doc (canon t) (norm t))
-  meant (Ok x) new old ok held = Doc-canon t held (ok (shape_of t) is).0
-  meant (Err e) new old ok held = tt
 
   -- If the tree does not fit, nothing is appended or allocated.
   pub limits : {A : Type 0} (r : Result A Error) (new old : List ℕ)

@@ -7,7 +7,7 @@ use Rattle.std.specs.declared.alloc.Global.{Global}
 use Rattle.std.specs.declared.borrow.CowStr.{CowStr}
 use Rattle.std.specs.declared.cmp.Ordering.TheVariants.{Less}
 use Rattle.std.specs.Cmp.Lexicographic.{slice_cmp}
-use Rattle.jsonb_value.specs.Tree.{Tree, Ascend}
+use Rattle.jsonb_value.specs.Tree.{Tree, array, Ascend}
 use Rattle.jsonb_value.specs.Value.{cow_bytes, trees_of}
 use Rattle.jsonb_value.specs.WellFormed.{IsTree, AreTrees}
 use Rattle.jsonb_value.specs.Json.Syntax.{Entries, pairs, insert_all}
@@ -25,9 +25,9 @@ use Rattle.jsonb_codec.specs.declared.tape.pieces.Piece.TheVariants as piece
 use Rattle.jsonb_codec.specs.declared.tape.pieces.Payloads.{Payloads}
 use Rattle.jsonb_codec.specs.declared.tape.storage.Storage.{Storage}
 use Rattle.jsonb_codec.specs.declared.tape.entry.Entry.{Entry}
-use Rattle.jsonb_codec.specs.declared.tape.open.OpenArray.{OpenArray}
-use Rattle.jsonb_codec.specs.declared.tape.open.OpenObject.{OpenObject}
-use Rattle.jsonb_codec.specs.declared.tape.open.Member.{Member}
+use Rattle.jsonb_codec.specs.declared.tape.open_array.OpenArray.{OpenArray}
+use Rattle.jsonb_codec.specs.declared.tape.open_object.OpenObject.{OpenObject}
+use Rattle.jsonb_codec.specs.declared.tape.open_object.Member.{Member}
 use Rattle.jsonb_codec.specs.declared.tape.Container.{Container}
 use Rattle.jsonb_codec.specs.declared.tape.Container.TheVariants as containers
 use Rattle.jsonb_codec.specs.declared.tape.Tape.{Tape}
@@ -102,10 +102,10 @@ pub record TapeItemsAre (s : Storage) (a : OpenArray) (ts : List Tree) : Type 0 
   pub contents : PayloadsAre s a.payloads (payloads (shapes_of ts))
   pub size : a.size ≡ length (payloads (shapes_of ts))
 
--- The array has these items if all fit, and else one of them does not fit.
+-- The array has these items, or it is known that an array of them does not fit.
 abbrev pub HasItemsIfFit : Bool → Storage → OpenArray → List Tree → Type 0
 HasItemsIfFit true s a ts = TapeItemsAre s a ts
-HasItemsIfFit false s a ts = AllFit (shapes_of ts) → ⊥
+HasItemsIfFit false s a ts = FitsInside (shape_of (array (trees_of ts))) → ⊥
 
 -- The array that is being read has these items so far.
 abbrev pub TapeArrayIs : Storage → OpenArray → List Tree → Type 0

@@ -6,8 +6,8 @@ pub mod value;
 ghost use Rattle.std.specs.Prelude.{◌≡◌, ◌≤◌, ◌+◌, ◌++◌, ◌↔◌, length, vec_capacity, IsOk};
 ghost use Rattle.std.specs.Prelude.{IfOk, IfErr, OnOk, OnErr};
 ghost use Rattle.jsonb_codec.specs.Canon.{Fits};
-ghost use Rattle.jsonb_codec.specs.Words.{tree_of, ast_tree, AscendEverywhere, norm, IsTree, Doc};
-ghost use Rattle.jsonb_codec.specs.Words.{canon, MadeIfFit};
+ghost use Rattle.jsonb_codec.specs.Words.{tree_of, ast_tree, AscendEverywhere, Tree, norm, IsTree};
+ghost use Rattle.jsonb_codec.specs.Words.{Doc, canon, MadeIfFit};
 
 use crate::writer::append::append_document;
 use crate::writer::measure::measure_document;
@@ -46,7 +46,8 @@ impl<'a> Encoder<'a> {
     /// Appends the value's canonical document with a single growth of the buffer. `InvalidJsonb`,
     /// before any allocation, if a payload or a key is longer than 268,435,455 bytes, or a count
     /// exceeds 536,870,911; `OutOfMemory` if the buffer cannot grow. After an error the bytes of
-    /// the buffer are unchanged. `canonical_laws` says which values have the same document.
+    /// the buffer are unchanged. The document means the value with signed zeros made unsigned, and
+    /// values that differ in more than that have different documents.
     pub fn encode(&mut self, value: &Value<'_>) -> Result<(), Error>
         ensures same_buffer { (buffer self.new).ghost_name ≡ (buffer self.old).ghost_name }
         ensures appended { OnOk result
@@ -61,9 +62,12 @@ impl<'a> Encoder<'a> {
             ≤ vec_capacity (buffer self.old).now
             → IsOk result }
 
-        // What is appended means the value's tree with signed zeros made unsigned.
+        // The canonical document of a tree that fits means the tree with signed zeros made
+        // unsigned; trees that differ in more than that have different canonical documents.
         ensures tree { OnOk result (IsTree (tree_of value.now)) }
-        ensures means { OnOk result (Doc (canon (tree_of value.now)) (norm (tree_of value.now))) }
+        ensures means { (t : Tree) → IsTree t → Fits t → Doc (canon t) (norm t) }
+        ensures distinct { (t u : Tree) → IsTree t → IsTree u → Fits t → Fits u
+            → (canon t ≡ canon u) ↔ (norm t ≡ norm u) }
     {
         append_document::<&Value>(self.buf, value_level(value))
     }
@@ -104,7 +108,8 @@ impl<'a> JsonAstEncoder<'a> {
     /// object must ascend (`has_ascending_keys`). `InvalidJsonb`, before any allocation, if a
     /// payload or a key is longer than 268,435,455 bytes, or a count exceeds 536,870,911;
     /// `OutOfMemory` if the buffer cannot grow. After an error the bytes of the buffer are
-    /// unchanged. `canonical_laws` says which values have the same document.
+    /// unchanged. The document means the value with signed zeros made unsigned, and values that
+    /// differ in more than that have different documents.
     pub fn encode(&mut self, value: &JsonAst<'_>) -> Result<(), Error>
         requires { AscendEverywhere (ast_tree value.now) }
         ensures same_buffer { (ast_buffer self.new).ghost_name ≡ (ast_buffer self.old).ghost_name }
@@ -121,9 +126,12 @@ impl<'a> JsonAstEncoder<'a> {
             ≤ vec_capacity (ast_buffer self.old).now
             → IsOk result }
 
-        // What is appended means the value's tree with signed zeros made unsigned.
+        // The canonical document of a tree that fits means the tree with signed zeros made
+        // unsigned; trees that differ in more than that have different canonical documents.
         ensures tree { OnOk result (IsTree (ast_tree value.now)) }
-        ensures means { OnOk result (Doc (canon (ast_tree value.now)) (norm (ast_tree value.now))) }
+        ensures means { (t : Tree) → IsTree t → Fits t → Doc (canon t) (norm t) }
+        ensures distinct { (t u : Tree) → IsTree t → IsTree u → Fits t → Fits u
+            → (canon t ≡ canon u) ↔ (norm t ≡ norm u) }
     {
         append_document::<&JsonAst>(self.buf, ast_level(value))
     }

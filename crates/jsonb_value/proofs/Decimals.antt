@@ -1,7 +1,7 @@
 -- The digits of a decimal are those of its magnitude, split in two or padded with zeros.
 use Rattle.std.proofs.Common.{◌≡◌, ℕ, zero, suc, ◌+◌, ◌-◌, ◌/◌, ◌%◌, ◌^◌, ◌<◌, ◌≤◌, List, [], ◌∷◌}
 use Rattle.std.proofs.Common.{◌++◌, length, take, drop, refl, sym, ap, ◌∙◌, inl, inr, arith}
-use Rattle.std.proofs.Common.{append_assoc, append-nil, length-append, decimal, codes}
+use Rattle.std.proofs.Common.{append_assoc, append-nil, length-append, decimal, codes, max}
 use Rattle.std.proofs.Math.Seq.{take-append_seam, drop-append_seam}
 use Rattle.std.proofs.lemmas.Bool.{cases_lt}
 use Rattle.std.proofs.lemmas.Fmt.{decimal_digit, decimal_step_wide}
@@ -99,3 +99,25 @@ pub pointed-short : (s m : ℕ) → m < 10 ^ 64 → length (decimal m) ≤ s
     → codes "0." ++ (repeat (s - length (decimal m)) (codes "0") ++ decimal m) ≡ point_text s m
 pointed-short s m small short =
     grind (arith, after_zeros, decimal_digit)
+
+-- a point, and the digits with at least one before it
+pub length-point_text : (s m : ℕ) → m < 10 ^ 64
+    → length (point_text s m) ≡ max (length (decimal m)) (s + 1) + 1
+length-point_text s m small =
+    let front = decimal (front_of s m) in
+    let back = last_digits s m in
+    let parts = length-append front (codes "." ++ back) in
+    let many = length-last_digits s m in
+    elim (cases_lt s (length (decimal m))) [
+      | inl long ↦
+          omega (
+            arith,
+            parts,
+            many,
+            length-append front back,
+            ap length (digits_in_two s m small long),
+          )
+      | inr short ↦
+          let none = ap (λ n. length (decimal n)) (after_zeros s m small short).front in
+          omega (arith, parts, many, none, ap length (decimal_digit 0 (omega arith)))
+    ]

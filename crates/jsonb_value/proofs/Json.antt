@@ -10,6 +10,7 @@ pub mod NumberLaws
 pub mod TextLaws
 pub mod ValueLaws
 pub mod SpelledLaws
+pub mod FirstCharacter
 pub mod Shorter
 pub mod DigitLaws
 pub mod Exponents

@@ -15,7 +15,9 @@ pub mod Json
 pub mod Writing
 pub mod Decimals
 pub mod Escapes
+pub mod LaneRuns
 pub mod RunLaws
+pub mod BlankLaws
 pub mod TextVectors
 pub mod BigEndian
 pub mod PayloadLaws

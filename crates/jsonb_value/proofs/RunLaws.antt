@@ -2,21 +2,21 @@
 use Rattle.std.proofs.Common.{◌≡◌, ℕ, ◌+◌, ◌<◌, ◌≤◌, ◌%◌, ◌^◌, Bool, true, not, cond, eqb}
 use Rattle.std.proofs.Common.{ltb, ◌||◌, ◌==◌, List, [], ◌∷◌, map, length, drop, replicate, bit_or}
 use Rattle.std.proofs.Common.{refl, sym, ap, ◌∙◌, inl, inr, get_or, ◌-◌, arith}
-use Rattle.std.proofs.lemmas.Bool.{cases_lt, cases_Bool, eq-eqb, ne_eqb, eqb-true, not-true}
+use Rattle.std.proofs.lemmas.Bool.{cases_lt, eqb-true, not-true}
 use Rattle.std.proofs.lemmas.Bool.Decides.{nat_tests}
 use Rattle.std.proofs.lemmas.Simd.{zip2_splat, zip2_of_maps, mask_l-mod, none_from_empty_mask}
-use Rattle.std.proofs.lemmas.Simd.{chunk-drop, length-chunk, leading_from_mask_l, trailing_mask_l}
+use Rattle.std.proofs.lemmas.Simd.{length-chunk}
 use Rattle.std.proofs.lemmas.Simd.{get_or-chunk}
 use Rattle.std.proofs.lemmas.List.{length-map, length-append, length-take-le, take_all}
 use Rattle.std.proofs.lemmas.List.{get_or_append_left, get_or-append_right, get_or-take}
 use Rattle.std.proofs.lemmas.List.Sums.{prefix_len_passes}
-use Rattle.std.proofs.lemmas.List.Folds.{prefix_len-append}
 use Rattle.std.specs.Bool.{OnTrue}
 use Rattle.std.specs.List.{prefix_len}
 use Rattle.std.specs.Simd.Lanes.{top, mask_l, chunk}
 use lib.Lanes.{zip2}
 use lib.Count.{count_trailing_zeros}
 use Rattle.jsonb_value.specs.Json.Piece.{is_plain}
+use Rattle.jsonb_value.proofs.LaneRuns.{passes_through, stops_within}
 use Rattle.jsonb_value.specs.Text.{is_escaped, ends, NoneEscaped}
 
 abbrev hit : ℕ → ℕ → ℕ
@@ -98,50 +98,16 @@ none_escaped_at_ends bytes n mask within covers is = on_true _ _ (λ e.
 is_plain-not_escaped : (b : ℕ) → is_plain b ≡ not (is_escaped b)
 is_plain-not_escaped b = grind (arith, nat_tests)
 
-same_run : (xs : List ℕ) → prefix_len is_plain xs ≡ prefix_len (λ x. not (is_escaped x)) xs
-same_run [] = refl
-same_run (x ∷ xs) = grind (arith, is_plain-not_escaped, same_run xs)
-
-split_run : (bytes : List ℕ) (i n : ℕ)
-    → prefix_len is_plain (drop i bytes)
-    ≡ cond (eqb (prefix_len is_plain (chunk i n bytes)) (length (chunk i n bytes)))
-    (length (chunk i n bytes) + prefix_len is_plain (drop (i + n) bytes))
-    (prefix_len is_plain (chunk i n bytes))
-split_run bytes i n = ap (prefix_len is_plain) (chunk-drop i n bytes)
-    ∙ prefix_len-append is_plain (chunk i n bytes) (drop (i + n) bytes)
-
 pub run_through : (bytes : List ℕ) (i n : ℕ) → i + n ≤ length bytes
     → mask_l (map is_escaped (chunk i n bytes)) ≡ 0
     → prefix_len is_plain (drop i bytes) ≡ n + prefix_len is_plain (drop (i + n) bytes)
-run_through bytes i n within none =
-    let c = chunk i n bytes in
-    split_run bytes i n
-    ∙ ap (λ b. cond b (length c + prefix_len is_plain (drop (i + n) bytes)) (prefix_len is_plain c))
-    (eq-eqb _ _ (same_run c ∙ leading_from_mask_l is_escaped c none))
-    ∙ ap (λ k. k + prefix_len is_plain (drop (i + n) bytes)) (length-chunk i n bytes within)
-
--- a run that covers all lanes has an empty mask
-whole_run : (xs : List ℕ) → prefix_len (λ x. not (is_escaped x)) xs ≡ length xs
-    → mask_l (map is_escaped xs) ≡ 0
-whole_run [] e = refl
-whole_run (x ∷ xs) e = elim (cases_Bool (is_escaped x)) [
-  | inl escaped ↦ absurd (omega (arith, rw escaped at e))
-  | inr plain ↦ rw plain (omega (arith, whole_run xs (omega (arith, rw plain at e))))
-]
+run_through = passes_through is_escaped is_plain is_plain-not_escaped
 
 pub run_stops : (bytes : List ℕ) (i n : ℕ) → i + n ≤ length bytes → n ≤ 64
     → 0 < mask_l (map is_escaped (chunk i n bytes))
     → prefix_len is_plain (drop i bytes)
     ≡ count_trailing_zeros 64 (mask_l (map is_escaped (chunk i n bytes)))
-run_stops bytes i n within few some =
-    let c = chunk i n bytes in
-    split_run bytes i n
-    ∙ ap (λ b. cond b (length c + prefix_len is_plain (drop (i + n) bytes)) (prefix_len is_plain c))
-    (ne_eqb _ _
-    (λ (e : prefix_len is_plain c ≡ length c). omega
-    (arith, whole_run c (sym (same_run c) ∙ e))))
-    ∙ same_run c
-    ∙ sym (trailing_mask_l is_escaped 64 c (omega (arith, length-chunk i n bytes within)) some)
+run_stops = stops_within is_escaped is_plain is_plain-not_escaped
 
 pub none_escaped_in_run : (xs : List ℕ) (n : ℕ) → n ≡ prefix_len is_plain xs
     → OnTrue (n == length xs) (NoneEscaped xs 0 (length xs))

@@ -1,6 +1,6 @@
 -- The texts of numbers, strings, extension values and whole trees, as bytes.
 use Rattle.std.specs.Prelude.{take, length, ◌-◌, ◌≡◌, ◌<◌, ◌≤◌, get_or, ℕ, zero, suc, ◌*◌, ◌+◌, ◌/◌}
-use Rattle.std.specs.Prelude.{◌%◌, ℤ, Bool, true, false, ◌||◌, ◌==◌, nat_lt, if◌then◌else◌, List}
+use Rattle.std.specs.Prelude.{◌%◌, ◌^◌, min, ℤ, Bool, true, false, ◌||◌, ◌==◌, nat_lt, if◌then◌else◌, List}
 use Rattle.std.specs.Prelude.{[], ◌∷◌, ◌++◌, codes, replicate, flat_map, decimal, unsigned_abs}
 use Rattle.std.specs.Int.{is_negative}
 use Rattle.std.specs.Simd.Lanes.{chunk}
@@ -148,6 +148,10 @@ abbrev mutual
   more_pairs l no_pairs = []
   more_pairs l (pair k t ps) = codes ","
       ++ (line_start l ++ (string_text k ++ (colon_text l ++ (laid_out l t ++ more_pairs l ps))))
+
+-- A length in 64 bits: a greater one is the greatest that they have.
+abbrev pub length_64 : List ℕ → ℕ
+length_64 bytes = min (length bytes) (2 ^ 64 - 1)
 
 -- The compact text, without white space.
 abbrev pub compact : Tree → List ℕ

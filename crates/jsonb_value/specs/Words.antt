@@ -17,7 +17,7 @@ pub use Rattle.jsonb_value.specs.Ast.{ast_tree, asts_view}
 pub use Rattle.jsonb_value.specs.ErrorName.{name_of}
 pub use Rattle.jsonb_value.specs.ExtCode.{ExtCode, HasKnownTag, IsInterval, IsOldZoned, IsZoned}
 pub use Rattle.jsonb_value.specs.ExtCode.{extension_of, extension_payload, opaque_bytes, opaque_tag}
-pub use Rattle.jsonb_value.specs.Json.Characters.{is_blank, is_exponent_mark}
+pub use Rattle.jsonb_value.specs.Json.Characters.{is_blank, is_not_blank, is_exponent_mark}
 pub use Rattle.jsonb_value.specs.Json.Numeral.{decimal_number, number_of, scaled_number}
 pub use Rattle.jsonb_value.specs.Json.Numeral.{signed_number, whole_number}
 pub use Rattle.jsonb_value.specs.Json.Piece.{escape_value, is_plain, pair_character, unit4}
@@ -32,7 +32,7 @@ pub use Rattle.jsonb_value.specs.ParseErrorName.{parse_error_name}
 pub use Rattle.jsonb_value.specs.Payload.{IsDecimalLength, IsSigned, IsSignedNumber}
 pub use Rattle.jsonb_value.specs.Payload.{IsUnsignedNumber, IsWholeLength}
 pub use Rattle.jsonb_value.specs.Reader.Content.{members_held}
-pub use Rattle.jsonb_value.specs.Reader.Digits.{AreDigits, IsCounted, HasInteger}
+pub use Rattle.jsonb_value.specs.Reader.Digits.{AreDigits, IsCounted, HasInteger, IsShort}
 pub use Rattle.jsonb_value.specs.Reader.Gives.{Fails, Gives}
 pub use Rattle.jsonb_value.specs.Reader.Kind.{kind_view}
 pub use Rattle.jsonb_value.specs.Reader.Reading.{after_digits, expect, expect_all, front_digits}
@@ -45,7 +45,7 @@ pub use Rattle.jsonb_value.specs.Reader.Reading.{read_unit, read_value, read_who
 pub use Rattle.jsonb_value.specs.Reader.Reading.{skip_blank, string_kind}
 pub use Rattle.jsonb_value.specs.Text.{NoneEscaped, byte_text, decimal_text, ends, escape}
 pub use Rattle.jsonb_value.specs.Text.{extension_text, hex_byte, hex_text, is_escaped, number_text}
-pub use Rattle.jsonb_value.specs.Text.{point_text, string_text}
+pub use Rattle.jsonb_value.specs.Text.{length_64, point_text, string_text}
 pub use Rattle.jsonb_value.specs.TextDepth.{HasDepthOfSpelled, level_after, state_after, text_depth}
 pub use Rattle.jsonb_value.specs.Tree.{Ascend, Extension, Tree, date, interval, object, text}
 pub use Rattle.jsonb_value.specs.Tree.{timestamp, timestamp_tz}

@@ -16,6 +16,7 @@ mod payload;
 mod runs;
 mod text;
 mod text_depth;
+mod text_len;
 mod value;
 mod within;
 

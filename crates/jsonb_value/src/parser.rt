@@ -1,6 +1,7 @@
 //! The parser of JSON texts: one reader, which is a loop, and sinks for what it reads.
 
 ghost use Rattle.std.specs.Prelude.{◌≡◌, ◌⊎◌, ◌↔◌, IsTrue, Err, chars, IfOk, IfErr};
+ghost use Rattle.jsonb_value.specs.Depth.{depth as tree_depth};
 ghost use Rattle.jsonb_value.specs.Words.{Tree, Json, JsonText, JsonWithExponents, tree_of};
 
 mod cursor;
@@ -15,6 +16,7 @@ mod trees;
 
 use crate::error::Error;
 use crate::value::Value;
+pub use cursor::{after_char, skip_blank};
 use nothing::Nothing;
 pub use number::Exponents;
 pub use reader::read_text;
@@ -43,6 +45,8 @@ pub fn parse<'a>(alloc: Global, text: &'a str, exponents: Exponents) -> Result<V
     ensures invalid { result ≡ Err Error.InvalidJson
         → (t : Tree) → JsonText exponents (chars text.now) t → ⊥ }
     ensures errors { IfErr result (λ e. (e ≡ Error.InvalidJson) ⊎ (e ≡ Error.OutOfMemory)) }
+    ensures one { (t u : Tree) → JsonText exponents (chars text.now) t
+        → JsonText exponents (chars text.now) u → t ≡ u }
 {
     let mut trees = Trees::new(alloc);
     read_text(alloc, &mut trees, text, exponents)?;
@@ -50,7 +54,7 @@ pub fn parse<'a>(alloc: Global, text: &'a str, exponents: Exponents) -> Result<V
 }
 
 /// Parses a whole text. Strings without escapes are borrowed from the text. No text means two
-/// values (`json_laws`).
+/// values.
 ///
 /// The grammar is JSON without exponents. The kind of a number follows from its value and its
 /// number of fraction digits: an integer is `UInt64` (`-0` too), `Int64`, or `Decimal128` of scale
@@ -64,6 +68,8 @@ pub fn parse_value<'a>(alloc: Global, text: &'a str) -> Result<Value<'a>, Error>
     // A text refused as `InvalidJson` means no value.
     ensures invalid { result ≡ Err Error.InvalidJson → (t : Tree) → Json (chars text.now) t → ⊥ }
     ensures errors { IfErr result (λ e. (e ≡ Error.InvalidJson) ⊎ (e ≡ Error.OutOfMemory)) }
+    // No text means two values.
+    ensures one { (t u : Tree) → Json (chars text.now) t → Json (chars text.now) u → t ≡ u }
 {
     parse(alloc, text, Exponents::Forbidden)
 }
@@ -84,6 +90,32 @@ pub fn parse_value_with_exponents<'a>(alloc: Global, text: &'a str) -> Result<Va
     ensures invalid { result ≡ Err Error.InvalidJson
         → (t : Tree) → JsonWithExponents (chars text.now) t → ⊥ }
     ensures errors { IfErr result (λ e. (e ≡ Error.InvalidJson) ⊎ (e ≡ Error.OutOfMemory)) }
+    // No text means two values.
+    ensures one { (t u : Tree) → JsonWithExponents (chars text.now) t
+        → JsonWithExponents (chars text.now) u → t ≡ u }
 {
     parse(alloc, text, Exponents::Allowed)
+}
+
+/// The scalar that a whole text spells, with exponents if they are allowed: null, a truth value, a
+/// number or a string. `InvalidJson` for every other text; an array or an object is refused at its
+/// first character, so no stack is taken for its depth. `OutOfMemory` if an allocation fails.
+pub fn parse_scalar<'a>(
+    alloc: Global,
+    text: &'a str,
+    exponents: Exponents,
+) -> Result<Value<'a>, Error>
+    // An accepted text means the returned value, which is a scalar.
+    ensures ok { IfOk result (λ value. JsonText exponents (chars text.now) (tree_of value)) }
+    ensures scalar { IfOk result (λ value. tree_depth (tree_of value) ≡ 0) }
+    // A text refused as `InvalidJson` means no scalar.
+    ensures invalid { result ≡ Err Error.InvalidJson
+        → (t : Tree) → JsonText exponents (chars text.now) t → tree_depth t ≡ 0 → ⊥ }
+    ensures errors { IfErr result (λ e. (e ≡ Error.InvalidJson) ⊎ (e ≡ Error.OutOfMemory)) }
+{
+    let begun = skip_blank(text);
+    if after_char(begun, '[').is_some() || after_char(begun, '{').is_some() {
+        return Err(Error::InvalidJson);
+    }
+    parse(alloc, text, exponents)
 }

@@ -1,8 +1,8 @@
-//! Runs of bytes that a JSON string holds unescaped, tested several at a time.
+//! Runs of bytes that a JSON string holds unescaped, and of white space, tested several at a time.
 
 ghost use Rattle.std.specs.Prelude.{◌≡◌, ◌+◌, ◌≤◌, length, map};
 ghost use Rattle.jsonb_value.specs.Words.{OnTrue, prefix_len, mask_l, is_plain, is_escaped, ends};
-ghost use Rattle.jsonb_value.specs.Words.{NoneEscaped};
+ghost use Rattle.jsonb_value.specs.Words.{NoneEscaped, is_blank, is_not_blank};
 
 use std::simd::Simd;
 use std::simd::prelude::*;
@@ -114,4 +114,57 @@ pub fn plain_len(bytes: &[u8]) -> usize
         at += 16;
     }
     at + plain_len_by_one(&bytes[at..])
+}
+
+fn is_blank(byte: u8) -> bool
+    ensures { result ≡ is_blank byte }
+{
+    byte <= b' ' && matches!(byte, b' ' | b'\t' | b'\n' | b'\r')
+}
+
+// The lanes with a byte that is not white space, one bit for each lane.
+#[inline(always)]
+fn not_blank_lanes<const N: usize>(lanes: Simd<u8, N>) -> u64
+    requires { N ≤ 64 }
+    ensures { result ≡ mask_l (map is_not_blank lanes.entry) }
+{
+    let others = lanes.simd_ne(Simd::splat(b' '))
+        & lanes.simd_ne(Simd::splat(b'\t'))
+        & lanes.simd_ne(Simd::splat(b'\n'))
+        & lanes.simd_ne(Simd::splat(b'\r'));
+    others.to_bitmask()
+}
+
+#[inline(always)]
+fn blank_len_by_one(bytes: &[u8]) -> usize
+    ensures count { result ≡ prefix_len is_blank bytes.now }
+    ensures within { result ≤ length bytes.now }
+{
+    bytes.iter().take_while(|byte| is_blank(**byte)).count()
+}
+
+#[inline(never)]
+fn blank_run_len(bytes: &[u8]) -> usize
+    ensures { result ≡ prefix_len is_blank bytes.now }
+{
+    let mut at = 0;
+    'vectors: while bytes.len() - at >= 16 {
+        let others = not_blank_lanes(u8x16::from_slice(&bytes[at..]));
+        if others != 0 {
+            return at + others.trailing_zeros() as usize;
+        }
+        at += 16;
+    }
+    at + blank_len_by_one(&bytes[at..])
+}
+
+/// The length of the longest prefix of white space.
+#[inline(always)]
+pub fn blank_len(bytes: &[u8]) -> usize
+    ensures { result ≡ prefix_len is_blank bytes.now }
+{
+    match bytes {
+        [first, ..] if is_blank(*first) => blank_run_len(bytes),
+        _ => 0,
+    }
 }

@@ -1,11 +1,11 @@
 -- Closing a container on the tape of a text.
-use Rattle.std.proofs.Common.{◌≡◌, ℕ, suc, ◌+◌, ◌*◌, ◌/◌, ◌<◌, ◌≤◌, ◌^◌, refl, sym, ap, subst, ◌∙◌}
+use Rattle.std.proofs.Common.{◌≡◌, ℕ, suc, ◌+◌, ◌/◌, ◌<◌, ◌≤◌, ◌^◌, refl, sym, ap, subst, ◌∙◌}
 use Rattle.std.proofs.Common.{List}
 use Rattle.std.proofs.Common.{[], ◌∷◌, ◌++◌, length, arith, length-append, take, drop, true, false}
 use Rattle.std.proofs.Common.{map, get_or, zero}
 use Rattle.std.specs.Prelude.{⊤}
 use Rattle.std.specs.Global.{Vec}
-use Rattle.std.proofs.lemmas.List.{append_assoc, append-nil}
+use Rattle.std.proofs.lemmas.List.{append_assoc, append-nil, length-map}
 use Rattle.std.proofs.Math.Seq.{drop-append_seam, take-length}
 use Rattle.jsonb_value.specs.Tree.{Tree, array, object, Ascend}
 use Rattle.jsonb_value.specs.Value.{cow_bytes, trees_of}
@@ -27,37 +27,21 @@ use Rattle.jsonb_codec.specs.declared.tape.pieces.Piece.{Piece}
 use Rattle.jsonb_codec.specs.declared.tape.pieces.Piece.TheVariants as piece
 use Rattle.jsonb_codec.specs.declared.tape.storage.Storage.{Storage}
 use Rattle.jsonb_codec.specs.declared.tape.entry.Entry.{Entry}
-use Rattle.jsonb_codec.specs.declared.tape.open.OpenArray.{OpenArray}
-use Rattle.jsonb_codec.specs.declared.tape.open.Member.{Member}
-use Rattle.jsonb_codec.proofs.Shapes.{length-entries}
-use Rattle.jsonb_codec.proofs.OnTape.Pieces.{pieces_grow, payloads_grow}
+use Rattle.jsonb_codec.specs.declared.tape.open_array.OpenArray.{OpenArray}
+use Rattle.jsonb_codec.specs.declared.tape.open_object.Member.{Member}
+use Rattle.jsonb_codec.proofs.OnTape.Pieces.{count_items, pieces_grow, payloads_grow, words_count}
 
 -- ---- arrays
-
-count_items : (ts : List Tree) → shape_count (shapes_of ts) ≡ length ts
-count_items [] = refl
-count_items (t ∷ ts) = ap suc (count_items ts)
 
 -- the entry of a container: what was stored of it, then the payloads of its children
 abbrev pub IsClosed : Storage → Entry → OpenArray → Storage → List ℕ → Type 0
 IsClosed s e a new head = (e.type_code ≡ CONTAINER_TAG) × ((p : List ℕ) → PayloadsAre s a.payloads p
     → a.size ≡ length p → (e.size ≡ length (head ++ p)) × PieceIs new e.piece (head ++ p))
 
-words_count : (s : Storage) (a : OpenArray) (ts : List Tree) → TapeItemsAre s a ts
-    → length a.words.items ≡ 4 * shape_count (shapes_of ts)
-words_count s a ts h = ap length h.words ∙ length-entries (shapes_of ts)
-
 pub array_unfit : (s : Storage) (a : OpenArray) (ts : List Tree) → a.fits ≡ false
     → TapeArrayIs s a ts
     → FitsInside (shape_of (array (trees_of ts))) → ⊥
-array_unfit s a ts off h fits = subst (λ b. HasItemsIfFit b s a ts) off h fits.1
-
-pub array_too_long : (s : Storage) (a : OpenArray) (ts : List Tree) → a.fits ≡ true
-    → TapeArrayIs s a ts
-    → 2 ^ 29 ≤ length a.words.items / 4 → FitsInside (shape_of (array (trees_of ts))) → ⊥
-array_too_long s a ts on h long fits =
-    let held = subst (λ b. HasItemsIfFit b s a ts) on h in
-    omega (arith, fits.0, long, words_count s a ts held)
+array_unfit s a ts off h fits = subst (λ b. HasItemsIfFit b s a ts) off h fits
 
 pub array_closed : (s mid new : Storage) (a : OpenArray) (ts : List Tree) (e : Entry)
     (head : List ℕ) → a.fits ≡ true → TapeArrayIs s a ts → length a.words.items / 4 < 2 ^ 29
@@ -262,9 +246,18 @@ pub object_unfit : (old now : Storage) (n : ℕ) (keys : List ℕ) (values : Ope
     (left : List Member) (front : Entries) → HeadIs old now n keys values left front
     → length left ≡ 0 → values.fits ≡ false → FitsInside (shape_of (object (pairs front))) → ⊥
 object_unfit old now n keys values left front h none off fits =
-    subst (λ b. HasItemsIfFit b old values (values_of h.done)) off h.values_are
-    (values_fit h.done (subst (λ es. AllFit (pairs_shapes (pairs es)))
-    (all_done old now n keys values left front h none) fits.1))
+    let is_done = all_done old now n keys values left front h none in
+    subst (λ b. HasItemsIfFit b old values (values_of h.done)) off h.values_are (
+      omega (
+        arith,
+        fits.0,
+        ap length is_done,
+        count_pairs front,
+        count_items (values_of h.done),
+        length-map h.done (λ e. e.1),
+      ),
+      values_fit h.done (subst (λ es. AllFit (pairs_shapes (pairs es))) is_done fits.1),
+    )
 
 pub object_closed : (old now mid new : Storage) (n : ℕ) (keys : List ℕ) (values : OpenArray)
     (left ms : List Member) (front : Entries) (e : Entry) (head : List ℕ)

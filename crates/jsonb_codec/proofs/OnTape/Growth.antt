@@ -13,9 +13,9 @@ use Rattle.jsonb_codec.specs.Tape.{AreOpenOnTape, tape_is}
 use Rattle.jsonb_codec.specs.Tape.{IsScalar, PieceIs}
 use Rattle.jsonb_codec.specs.declared.tape.storage.Storage.{Storage}
 use Rattle.jsonb_codec.specs.declared.tape.entry.Entry.{Entry}
-use Rattle.jsonb_codec.specs.declared.tape.open.OpenArray.{OpenArray}
-use Rattle.jsonb_codec.specs.declared.tape.open.OpenObject.{OpenObject}
-use Rattle.jsonb_codec.specs.declared.tape.open.Member.{Member}
+use Rattle.jsonb_codec.specs.declared.tape.open_array.OpenArray.{OpenArray}
+use Rattle.jsonb_codec.specs.declared.tape.open_object.OpenObject.{OpenObject}
+use Rattle.jsonb_codec.specs.declared.tape.open_object.Member.{Member}
 use Rattle.jsonb_codec.specs.declared.tape.Container.{Container}
 use Rattle.jsonb_codec.specs.declared.tape.Container.TheVariants as containers
 use Rattle.jsonb_codec.specs.declared.tape.Tape.{Tape}

@@ -15,7 +15,7 @@ use Rattle.jsonb_value.specs.Tree.{Tree}
 use Rattle.jsonb_value.specs.Value.{cow_bytes}
 use Rattle.jsonb_codec.specs.Tape.{MemberIs, TapeMembersAre}
 use Rattle.jsonb_codec.specs.declared.tape.storage.Storage.{Storage}
-use Rattle.jsonb_codec.specs.declared.tape.open.Member.{Member}
+use Rattle.jsonb_codec.specs.declared.tape.open_object.Member.{Member}
 
 -- the members before the index have lower keys
 pub record Passed (s : Storage) (ms : List Member) (es : Entries) (key : List ℕ) (index : ℕ)

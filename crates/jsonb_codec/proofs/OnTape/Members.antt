@@ -21,8 +21,8 @@ use Rattle.jsonb_codec.specs.Tape.{ObjectAt}
 use Rattle.jsonb_codec.specs.Tape.{member_of}
 use Rattle.jsonb_codec.specs.declared.tape.storage.Storage.{Storage}
 use Rattle.jsonb_codec.specs.declared.tape.entry.Entry.{Entry}
-use Rattle.jsonb_codec.specs.declared.tape.open.OpenObject.{OpenObject}
-use Rattle.jsonb_codec.specs.declared.tape.open.Member.{Member}
+use Rattle.jsonb_codec.specs.declared.tape.open_object.OpenObject.{OpenObject}
+use Rattle.jsonb_codec.specs.declared.tape.open_object.Member.{Member}
 use Rattle.jsonb_codec.proofs.OnTape.KeyOrder.{ascends_snoc, inserts_last, all_ascend, in_order}
 
 pub members_snoc : (s : Storage) (ms : List Member) (es : Entries) (m : Member) (e : List ℕ × Tree)

@@ -1,19 +1,20 @@
 -- What each step does to what the tape of a text holds.
-use Rattle.std.proofs.Common.{◌≡◌, ℕ, ◌+◌, ◌-◌, ◌<◌, ◌≤◌, ◌^◌, refl, sym, ap, subst, ◌∙◌, List, []}
-use Rattle.std.proofs.Common.{◌∷◌}
+use Rattle.std.proofs.Common.{◌≡◌, ℕ, suc, ◌+◌, ◌-◌, ◌*◌, ◌/◌, ◌<◌, ◌≤◌, ◌^◌, refl, sym, ap, subst}
+use Rattle.std.proofs.Common.{◌∙◌, List, [], ◌∷◌}
 use Rattle.std.proofs.Common.{◌++◌, length, arith, length-append, take, drop, Bool, true, false}
 use Rattle.std.proofs.lemmas.List.{append_assoc, append-nil, take-append-le, drop-append-le}
 use Rattle.std.proofs.lemmas.List.{length-drop, drop-drop}
 use Rattle.std.proofs.Math.Seq.{take-add}
-use Rattle.jsonb_value.specs.Tree.{Tree}
+use Rattle.jsonb_value.specs.Tree.{Tree, array}
 use Rattle.jsonb_value.specs.Value.{trees_of}
 use Rattle.jsonb_value.specs.WellFormed.{IsTree, AreTrees}
 use Rattle.jsonb_codec.specs.WordBytes.{word}
-use Rattle.jsonb_codec.specs.Shape.{AllFit, FitsInside, entries, payloads, shape_type}
+use Rattle.jsonb_codec.specs.Shape.{AllFit, FitsInside, entries, payloads, shape_count, shape_type}
 use Rattle.jsonb_codec.specs.Canon.{shape_of, payload_of}
 use Rattle.jsonb_codec.specs.Tape.{run_bytes, IsRun, block_pieces, PiecesAre, no_piece, run_piece}
 use Rattle.jsonb_codec.specs.Tape.{block_piece, PieceIs}
-use Rattle.jsonb_codec.specs.Tape.{PayloadsAre, EntryIs, HasItemsIfFit, TapeArrayIs, shapes_of}
+use Rattle.jsonb_codec.specs.Tape.{PayloadsAre, EntryIs, HasItemsIfFit, TapeArrayIs, TapeItemsAre}
+use Rattle.jsonb_codec.specs.Tape.{shapes_of}
 use Rattle.jsonb_codec.specs.Tape.{Grows}
 use Rattle.jsonb_codec.specs.declared.tape.pieces.Run.{Run}
 use Rattle.jsonb_codec.specs.declared.tape.pieces.Block.{Block}
@@ -22,7 +23,8 @@ use Rattle.jsonb_codec.specs.declared.tape.pieces.Piece.TheVariants as piece
 use Rattle.jsonb_codec.specs.declared.tape.pieces.Payloads.{Payloads}
 use Rattle.jsonb_codec.specs.declared.tape.storage.Storage.{Storage}
 use Rattle.jsonb_codec.specs.declared.tape.entry.Entry.{Entry}
-use Rattle.jsonb_codec.specs.declared.tape.open.OpenArray.{OpenArray}
+use Rattle.jsonb_codec.specs.declared.tape.open_array.OpenArray.{OpenArray}
+use Rattle.jsonb_codec.proofs.Shapes.{length-entries}
 
 -- ---- slices
 
@@ -216,14 +218,47 @@ fit_snoc : (ts : List Tree) (t : Tree) → AllFit (shapes_of ts) → FitsInside 
 fit_snoc [] t h inside short = ((omega arith, (inside, short)), tt)
 fit_snoc (u ∷ ts) t h inside short = (h.0, fit_snoc ts t h.1 inside short)
 
-fit_front : (ts : List Tree) (t : Tree) → AllFit (shapes_of (ts ++ t ∷ [])) → AllFit (shapes_of ts)
-fit_front [] t h = tt
-fit_front (u ∷ ts) t h = (h.0, fit_front ts t h.1)
+all_fit_front : (ts : List Tree) (t : Tree) → AllFit (shapes_of (ts ++ t ∷ []))
+    → AllFit (shapes_of ts)
+all_fit_front [] t h = tt
+all_fit_front (u ∷ ts) t h = (h.0, all_fit_front ts t h.1)
+
+pub count_items : (ts : List Tree) → shape_count (shapes_of ts) ≡ length ts
+count_items [] = refl
+count_items (t ∷ ts) = ap suc (count_items ts)
+
+count_snoc : (ts : List Tree) (t : Tree) → shape_count (shapes_of (ts ++ t ∷ []))
+    ≡ shape_count (shapes_of ts) + 1
+count_snoc ts t = omega (
+  arith,
+  count_items ts,
+  count_items (ts ++ t ∷ []),
+  length-append ts (t ∷ []),
+)
+
+-- an array with one item more does not fit unless that without it does
+fit_front : (ts : List Tree) (t : Tree) → FitsInside (shape_of (array (trees_of (ts ++ t ∷ []))))
+    → FitsInside (shape_of (array (trees_of ts)))
+fit_front ts t h = (omega (arith, h.0, count_snoc ts t), all_fit_front ts t h.1)
 
 pub fit_last : (ts : List Tree) (t : Tree) → AllFit (shapes_of (ts ++ t ∷ []))
     → FitsInside (shape_of t) × (length (payload_of t) < 2 ^ 28)
 fit_last [] t h = h.0.1
 fit_last (u ∷ ts) t h = fit_last ts t h.1
+
+pub words_count : (s : Storage) (a : OpenArray) (ts : List Tree) → TapeItemsAre s a ts
+    → length a.words.items ≡ 4 * shape_count (shapes_of ts)
+words_count s a ts h = ap length h.words ∙ length-entries (shapes_of ts)
+
+-- there are as many items as fit
+pub array_full : (s : Storage) (a : OpenArray) (ts : List Tree) (t : Tree) → TapeArrayIs s a ts
+    → 2 ^ 29 - 1 ≤ length a.words.items / 4
+    → FitsInside (shape_of (array (trees_of (ts ++ t ∷ [])))) → ⊥
+array_full s a ts t h full fits = by a.fits h
+  where
+    by : (b : Bool) → HasItemsIfFit b s a ts → ⊥
+    by false never = never (fit_front ts t fits)
+    by true held = omega (arith, full, fits.0, count_snoc ts t, words_count s a ts held)
 
 trees_snoc : (ts : List Tree) (t : Tree) → AreTrees (trees_of ts) → IsTree t
     → AreTrees (trees_of (ts ++ t ∷ []))

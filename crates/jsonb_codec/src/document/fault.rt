@@ -19,6 +19,7 @@ use crate::constants::{
 };
 use crate::word::{split_entry, split_header, split_word};
 use jsonb_value::{Error, ExtensionValue, Number};
+use simdutf8::basic;
 use std::cmp::Ordering;
 
 /// How faults are named as errors: the two readers name some of them differently, and `Depth` tells
@@ -393,7 +394,7 @@ pub(super) fn check_text(faults: FaultTable, payload: &[u8]) -> Result<(), Error
 fn check_utf8(faults: FaultTable, payload: &[u8]) -> Result<(), Error>
     ensures { HoldsOrFaults faults result (IsUtf8 payload.now) }
 {
-    match str::from_utf8(payload) {
+    match basic::from_utf8(payload) {
         Ok(_) => Ok(()),
         Err(_) => Err(Error::InvalidUtf8),
     }

@@ -14,7 +14,8 @@ ghost use Rattle.jsonb_codec.specs.Tape.{PayloadsAre};
 ghost use Rattle.jsonb_codec.specs.Tape.{IsPushed, PieceIs, block_pieces, run_bytes};
 
 use super::entry::Entry;
-use super::open::{Member, OpenArray};
+use super::open_array::OpenArray;
+use super::open_object::Member;
 use super::pieces::{Block, Payloads, Piece, Run};
 use crate::constants::{
     ARRAY_CONTAINER_TAG, CONTAINER_TAG, NUMBER_TAG, OBJECT_CONTAINER_TAG, STRING_TAG,
@@ -139,9 +140,6 @@ impl Storage {
             return Ok(None);
         }
         let count = parts.words.len() / 4;
-        if count > MAX_COUNT {
-            return Ok(None);
-        }
         let start = self.bytes.len();
         self.push_word(ARRAY_CONTAINER_TAG + count as u32)?;
         self.bytes.extend_from_slice(&parts.words)?;
@@ -180,7 +178,8 @@ impl Storage {
         }
         self.bytes.extend_from_slice(&values.words)?;
         self.bytes.extend_from_slice(&keys)?;
-        let entry = self.close(start, &mut values.payloads, values.size)?;
+        let size = values.size;
+        let entry = self.close(start, &mut values.payloads, size)?;
         self.keys = keys;
         self.values = values;
         Ok(Some(entry))
@@ -225,7 +224,8 @@ impl Storage {
 
     // Closes a container, whose header, entry words and keys were stored since `start`.
     fn close(&mut self, start: usize, payloads: &mut Payloads, size: usize) -> Result<Entry, Error>
-        requires { start < length self.old.bytes.items }
+        requires start { start < length self.old.bytes.items }
+        requires size { size ≤ 2 ^ 57 }
         ensures grows { IfOk result (λ entry. Grows self.old self.new) }
         ensures tag { IfOk result (λ entry. entry.type_code ≡ CONTAINER_TAG) }
         ensures ok { IfOk result (λ entry. (p : List ℕ) → PayloadsAre self.old payloads.old p
@@ -235,9 +235,7 @@ impl Storage {
         ensures memory { IfErr result (λ e. e ≡ OutOfMemory) }
     {
         let head = self.since(start);
-        let Some(size) = size.checked_add(head.end - head.start) else {
-            return Err(Error::OutOfMemory);
-        };
+        let size = size + (head.end - head.start);
         payloads.end_run()?;
         if payloads.pieces.is_empty() {
             return Ok(container(Piece::Run(head), size));

@@ -1,5 +1,5 @@
 -- Steps of reading a number.
-use Rattle.std.proofs.Common.{◌≡◌, ℕ, ◌^◌, ◌≤◌, Bool, true, false, eqb-true, lit<}
+use Rattle.std.proofs.Common.{◌≡◌, ℕ, ◌^◌, ◌≤◌, ◌<◌, ap, Bool, true, false, eqb-true, lit<}
 use Rattle.std.proofs.Common.{refl, sym, ◌∙◌, List, [], ◌∷◌, length, arith, Option, Some}
 use Rattle.std.proofs.Common.{None}
 use Rattle.std.specs.Prelude.{◌==◌, ◌≢◌, ℤ, pos, ◌-ℤ◌, IsTrue, SomeIff}
@@ -10,9 +10,10 @@ use mir.Val.{SFits, of_z, to_z}
 use Rattle.std.specs.Str.Parse.{digits_value, digits_value_after}
 use Rattle.jsonb_value.specs.Json.Bind.{◌>>=◌}
 use Rattle.jsonb_value.specs.declared.parser.number.Digits.{Digits}
+use Rattle.jsonb_value.specs.declared.parser.number.short.ShortDigits.{ShortDigits}
 use Rattle.jsonb_value.specs.declared.parser.number.Exponents.{Exponents}
 use Rattle.jsonb_value.specs.declared.parser.number.Integer.{Integer}
-use Rattle.jsonb_value.specs.Reader.Digits.{IsCounted, AreDigits, HasInteger}
+use Rattle.jsonb_value.specs.Reader.Digits.{IsCounted, AreDigits, HasInteger, IsShort}
 use Rattle.jsonb_value.proofs.Json.DigitLaws.{digits_value_after-append}
 use Rattle.jsonb_value.specs.declared.number.Number.{Number}
 use Rattle.jsonb_value.specs.Json.Characters.{zero_digit}
@@ -22,6 +23,7 @@ use Rattle.jsonb_value.specs.Reader.Reading.{read_sign, read_whole, read_fractio
 use Rattle.jsonb_value.specs.Reader.Reading.{front_digits, after_digits, some_digits}
 use Rattle.jsonb_value.specs.Reader.Reading.{read_either_sign, read_integer, read_exponent}
 use Rattle.jsonb_value.proofs.Json.Exponents.{within_large, number_large, scaled_large}
+use Rattle.jsonb_value.proofs.Json.Exponents.{scaled_plain}
 use Rattle.jsonb_value.proofs.Json.Tests.{no_error}
 
 pub whole_zero : (s rest : List ℕ) (c : ℕ) → s ≡ c ∷ rest → is_ascii_digit c ≡ true → c ≡ zero_digit
@@ -69,6 +71,24 @@ pub number_found : (rule : Exponents) (s s1 w s2 f s3 s4 : List ℕ) (b : Bool) 
     → read_number rule s ≡ (r >>= λ n. Some (n, s4))
 number_found rule s s1 w s2 f s3 s4 b z r sign whole fraction exponent value =
     grind (arith, digits_value_after-append)
+
+-- a short number without an exponent
+module _ (rule : Exponents) (s s1 s2 s3 : List ℕ) (b : Bool) (m : ℕ) (digits : ShortDigits)
+    (x : Number) where
+  pub short_found : (b, s1) ≡ read_sign s
+      → (ds : List ℕ) × (read_whole s1 ≡ Some (ds, s2)) × (m ≡ digits_value 10 ds) × (m < 10 ^ 18)
+      → (ds : List ℕ) × (read_fraction s2 ≡ Some (ds, s3)) × IsShort digits m ds
+      → read_exponent rule s3 ≡ Some (pos 0, s3)
+      → number_of digits.count (signed_number b digits.value) ≡ Some x
+      → read_number rule s ≡ Some (x, s3)
+  short_found sign whole part none value =
+      number_found rule s s1 whole.0 s2 part.0 s3 s3 b (pos 0) (Some x) sign whole.1 part.1 none
+      (ap (λ n. scaled_number (pos (length part.0) -ℤ pos 0)
+      (signed_number b (digits_value_after 10 n part.0))) (sym whole.2)
+      ∙ ap (λ n. scaled_number (pos (length part.0) -ℤ pos 0) (signed_number b n))
+      (sym part.2.value)
+      ∙ ap (λ n. scaled_number (pos n -ℤ pos 0) (signed_number b digits.value)) (sym part.2.count)
+      ∙ scaled_plain digits.count (signed_number b digits.value) ∙ value)
 
 no_test : (b : Bool) → (IsTrue b → ⊥) → b ≡ false
 no_test b h = grind arith

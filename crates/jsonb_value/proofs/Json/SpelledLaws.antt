@@ -64,7 +64,7 @@ ends-after [] (c ∷ s) blank e =
     follow_test (λ d. ends_number (d ∷ [])) true c s refl refl refl e
 ends-after (c ∷ after) rest blank e = grind (arith, blank_test)
 
-skip-append : (blank s : List ℕ) → all_blank blank ≡ true → skip_blank (blank ++ s) ≡ skip_blank s
+pub skip-append : (blank s : List ℕ) → all_blank blank ≡ true → skip_blank (blank ++ s) ≡ skip_blank s
 skip-append [] s e = refl
 skip-append (c ∷ blank) s e =
     let parts = and_true _ _ e in
@@ -76,21 +76,21 @@ skip-follows s e = grind (arith, follow_test)
 -- ---- how a value begins
 
 -- neither with white space nor with a closing bracket
-abbrev begins_value : List ℕ → Bool
+abbrev pub begins_value : List ℕ → Bool
 begins_value [] = false
 begins_value (c ∷ s) = not (is_blank c) && not (c == close_bracket)
 
 -- the characters begin with a character of a number
-abbrev BeginsNumber : List ℕ → Type 0
+abbrev pub BeginsNumber : List ℕ → Type 0
 BeginsNumber [] = ⊥
 BeginsNumber (c ∷ s) = kind_begun c ≡ number_kind
 
-numeral_begins : (negative : Bool) (w more : List ℕ) → is_whole w ≡ true
+pub numeral_begins : (negative : Bool) (w more : List ℕ) → is_whole w ≡ true
     → (begins_value (sign_text negative ++ (w ++ more)) ≡ true)
     × BeginsNumber (sign_text negative ++ (w ++ more))
 numeral_begins negative w more e = grind (arith, first_of_whole, nat_tests)
 
-option_some : {A B : Type 0} (f : A → B) (o : Option A) (y : B) → option_map f o ≡ Some y → (x : A)
+pub option_some : {A B : Type 0} (f : A → B) (o : Option A) (y : B) → option_map f o ≡ Some y → (x : A)
     × (o ≡ Some x) × (f x ≡ y)
 option_some f o y e = grind arith
 
@@ -103,7 +103,7 @@ value_begins rule (numeral n) t e =
     (numeral_begins n.is_negative n.whole more (grind arith)).0
 value_begins rule x t e = refl
 
-skip-begins : (s rest : List ℕ) → begins_value s ≡ true
+pub skip-begins : (s rest : List ℕ) → begins_value s ≡ true
     → (skip_blank (s ++ rest) ≡ s ++ rest) × (expect close_bracket (s ++ rest) ≡ None)
 skip-begins s rest e = grind arith
 

@@ -1,5 +1,5 @@
 -- The codes of the characters that have a meaning in JSON.
-use Rattle.std.specs.Prelude.{ℕ, List, [], ◌∷◌, Bool, true, ◌||◌, ◌&&◌, ◌==◌}
+use Rattle.std.specs.Prelude.{ℕ, List, [], ◌∷◌, Bool, true, not, ◌||◌, ◌&&◌, ◌==◌}
 use Rattle.std.specs.Char.{is_ascii_digit}
 
 -- The code of `"`.
@@ -57,6 +57,10 @@ close_brace = 125
 -- The character is white space: space, tab, line feed or carriage return.
 abbrev pub is_blank : ℕ → Bool
 is_blank c = (c == 32) || (c == 9) || (c == 10) || (c == 13)
+
+-- The character is not white space.
+abbrev pub is_not_blank : ℕ → Bool
+is_not_blank c = not (is_blank c)
 
 -- The character begins an exponent: `E` or `e`.
 abbrev pub is_exponent_mark : ℕ → Bool

@@ -2,6 +2,7 @@
 use Rattle.std.specs.Prelude.{◌≡◌, ℕ, ℤ, ◌<◌, ◌^◌, Option, SomeIff, length, List}
 use Rattle.std.specs.Str.Parse.{digits_value_after}
 use Rattle.jsonb_value.specs.declared.parser.number.Digits.{Digits}
+use Rattle.jsonb_value.specs.declared.parser.number.short.ShortDigits.{ShortDigits}
 use Rattle.jsonb_value.specs.declared.parser.number.Integer.{Integer}
 use Rattle.jsonb_value.specs.Json.Numeral.{signed_number}
 
@@ -19,3 +20,10 @@ pub record HasInteger (z : ℤ) (integer : Integer) : Type 0 where
   pub magnitude : ℕ
   pub is_counted : IsCounted magnitude integer.magnitude
   pub is_value : z ≡ signed_number integer.is_negative magnitude
+
+-- `digits` has the count of these digits and the number below 10^18 that they form after the digits
+-- of n.
+pub record IsShort (digits : ShortDigits) (n : ℕ) (ds : List ℕ) : Type 0 where
+  pub count : digits.count ≡ length ds
+  pub value : digits.value ≡ digits_value_after 10 n ds
+  pub short : digits.value < 10 ^ 18

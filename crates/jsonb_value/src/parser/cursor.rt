@@ -1,7 +1,9 @@
 //! Steps over the characters at the start of a text.
 
 ghost use Rattle.std.specs.Prelude.{◌≡◌, [], ◌∷◌, chars, option_map, MatchOption};
-ghost use Rattle.jsonb_value.specs.Words.{is_blank, skip_blank, expect, expect_all};
+ghost use Rattle.jsonb_value.specs.Words.{skip_blank, expect, expect_all};
+
+use crate::runs::blank_len;
 
 /// The first character, and the text after it.
 #[inline(always)]
@@ -38,25 +40,10 @@ pub fn after_all<'a>(text: &'a str, expected: &[char]) -> Option<&'a str>
     Some(rest)
 }
 
-// Whether the character is JSON white space. The first comparison rules out most characters.
-#[inline(always)]
-fn is_blank(character: char) -> bool
-    ensures { result ≡ is_blank character }
-{
-    character <= ' ' && matches!(character, ' ' | '\t' | '\n' | '\r')
-}
-
 /// The text after its leading white space.
 #[inline(always)]
 pub fn skip_blank(text: &str) -> &str
     ensures { chars result.now ≡ skip_blank (chars text.now) }
 {
-    let mut rest = text;
-    'blanks: while let Some((first, after)) = split_first(rest) {
-        if !is_blank(first) {
-            break;
-        }
-        rest = after;
-    }
-    rest
+    text.split_at(blank_len(text.as_bytes())).1
 }

@@ -1,6 +1,7 @@
 //! The parser of strings; the opening quote has been read.
 
 ghost use Rattle.std.specs.Prelude.{◌≡◌, ℕ, ◌<◌, ◌++◌, true, [], Some, None, chars, length, IfSome};
+ghost use Rattle.std.specs.Prelude.{IfOk, IfErr};
 ghost use Rattle.std.specs.Prelude.{option_map, string_bytes, encode_utf8_all};
 ghost use Rattle.jsonb_value.specs.Words.{list_all, cow_bytes, unit4, unit_value, escape_value};
 ghost use Rattle.jsonb_value.specs.Words.{unit_character, pair_character, is_plain, read_unit};
@@ -12,6 +13,9 @@ use crate::parser::cursor::{after_char, split_first};
 use crate::runs::plain_len;
 use std::alloc::Global;
 use std::borrow::CowStr;
+
+// How many bytes are asked for at first for what follows the front of a string that has escapes.
+const ROOM_AFTER_FRONT: usize = 40;
 
 // Reads four hexadecimal digits; returns the text after them.
 fn read_unit(text: &str) -> Option<(u32, &str)>
@@ -141,6 +145,17 @@ fn split_plain(text: &str) -> (&str, &str)
     text.split_at(plain_len(text.as_bytes()))
 }
 
+// The content of a string that has escapes, as far as its front, with room for more.
+#[inline(always)]
+fn begin_content(alloc: Global, front: &str) -> Result<String, Error>
+    ensures ok { IfOk result (λ content. string_bytes content ≡ front.now) }
+    ensures memory { IfErr result (λ e. e ≡ Error.OutOfMemory) }
+{
+    let mut content = String::with_capacity(alloc, front.len() + ROOM_AFTER_FRONT)?;
+    content.push_str(front)?;
+    Ok(content)
+}
+
 // Reads the rest of a string up to its closing quote and appends it to `front`; returns the text
 // after the quote.
 #[inline(never)]
@@ -149,7 +164,7 @@ fn read_escapes<'a>(alloc: Global, front: &str, text: &'a str) -> Result<(String
         → Gives (λ found. (string_bytes found.0, chars found.1.now)) result
         (read_text n front.now (chars text.now)) }
 {
-    let mut content = String::from_str(alloc, front)?;
+    let mut content = begin_content(alloc, front)?;
     let mut rest = text;
     'pieces: loop {
         let Some((first, after)) = split_first(rest) else {

@@ -1,5 +1,6 @@
-use Rattle.std.proofs.lemmas.Result.{IfOk-weaker, on_ok_weaker}
-use Rattle.jsonb_codec.proofs.Encoding.{appended, limits, meant}
+use Rattle.std.proofs.lemmas.Result.{IfOk-weaker}
+use Rattle.jsonb_codec.proofs.CanonLaws.{Doc-canon, norm-canon}
+use Rattle.jsonb_codec.proofs.Encoding.{appended, limits}
 use Rattle.jsonb_codec.proofs.ser.JsonAstEncoder.encode.Goals as goal
 
 pub returns-clause-appended : goal.returns-clause-appended
@@ -20,7 +21,7 @@ returns-clause-room c fits room =
     room
 
 pub returns-clause-means : goal.returns-clause-means
-returns-clause-means c =
-    let a = c.append_document in
-    meant _ _ c.ast_level.ensures.is a.result _ _ a.ensures.appended
-    (on_ok_weaker a.result (λ held. c.ast_level.ensures.held held c.requires) a.ensures.held)
+returns-clause-means c = Doc-canon
+
+pub returns-clause-distinct : goal.returns-clause-distinct
+returns-clause-distinct c = norm-canon

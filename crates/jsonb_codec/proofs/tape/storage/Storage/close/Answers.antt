@@ -1,5 +1,4 @@
-use Rattle.std.proofs.Common.{◌≡◌, ◌+◌, ◌++◌, ◌-◌, [], ◌∷◌, arith, drop, length-append, rules}
-use Rattle.std.proofs.Common.{subst, sym}
+use Rattle.std.proofs.Common.{◌++◌, [], ◌∷◌, arith, drop, length-append, rules, subst, sym}
 use Rattle.std.proofs.lemmas.List.{append-nil, length-drop}
 use Rattle.jsonb_codec.specs.Tape.{PieceIs}
 use Rattle.jsonb_codec.specs.declared.tape.pieces.Piece.TheVariants as piece
@@ -14,12 +13,10 @@ pub returns-then-is_empty-clause-ok : goal.returns-then-is_empty-clause-ok
 returns-then-is_empty-clause-ok c = λ p h same.
     let storage = c.args.self.now in
     let head = drop c.args.start storage.bytes.items in
-    let run = c.since-head.result in
-    let sum : c.in-Some.size ≡ c.args.size + (run.end - run.start) = search rules in (
+    let run = c.since-head.result in (
       omega (
         arith,
         c.container.ensures.size,
-        sum,
         same,
         c.since-head.ensures.start,
         c.since-head.ensures.end,
@@ -28,7 +25,7 @@ returns-then-is_empty-clause-ok c = λ p h same.
       ),
       subst (λ x. PieceIs storage x (head ++ p)) (sym c.container.ensures.piece)
           (only_head storage run c.end_run.new.self.pieces.items head p (
-            omega (arith, c.requires, c.since-head.ensures.start, c.since-head.ensures.end),
+            omega (arith, c.requires.start, c.since-head.ensures.start, c.since-head.ensures.end),
             omega (arith, c.since-head.ensures.end),
           ) c.since-head.ensures.bytes
           (c.in_ok-end_run.ensures.ok storage p h).0 (search rules)),
@@ -48,12 +45,10 @@ returns-clause-ok c = λ p h same.
     let new : Storage = record storage { closed = c.extend_from_slice.new.self } in
     let head = drop c.args.start storage.bytes.items in
     let run = c.since-head.result in
-    let pieces = c.end_run.new.self.pieces.items in
-    let sum : c.in-Some.size ≡ c.args.size + (run.end - run.start) = search rules in (
+    let pieces = c.end_run.new.self.pieces.items in (
       omega (
         arith,
         c.container-2.ensures.size,
-        sum,
         same,
         c.since-head.ensures.start,
         c.since-head.ensures.end,
@@ -62,17 +57,16 @@ returns-clause-ok c = λ p h same.
       ),
       subst (λ x. PieceIs new x (head ++ p)) (sym c.container-2.ensures.piece)
           (block_closed storage new run head p pieces _ (
-            omega (arith, c.requires, c.since-head.ensures.start, c.since-head.ensures.end),
+            omega (arith, c.requires.start, c.since-head.ensures.start, c.since-head.ensures.end),
             omega (arith, c.since-head.ensures.end),
           ) c.since-head.ensures.bytes
-          (omega (arith, c.requires, c.since-head.ensures.start, c.since-head.ensures.end))
+          (omega (arith, c.requires.start, c.since-head.ensures.start, c.since-head.ensures.end))
           (c.in_ok-end_run.ensures.ok storage p h).0 (search rules) (returns-clause-grows c)
           (closed_grown _ c.push.new.self.items _ pieces _ c.in_ok-push.ensures.items
           (search rules))
           (search rules) (search rules)
           (omega (
             arith,
-            sum,
             same,
             c.since-head.ensures.start,
             c.since-head.ensures.end,

@@ -3,8 +3,7 @@ use Rattle.jsonb_codec.specs.declared.constants.TheConstants.{ARRAY_CONTAINER_TA
 use Rattle.jsonb_codec.specs.declared.tape.storage.Storage.{Storage}
 use Rattle.jsonb_codec.specs.WordBytes.{word}
 use Rattle.jsonb_codec.proofs.Words.{length-word}
-use Rattle.jsonb_codec.proofs.OnTape.Closing.{array_closed, array_too_long, array_unfit}
-use Rattle.jsonb_codec.proofs.OnTape.Closing.{nothing_grows}
+use Rattle.jsonb_codec.proofs.OnTape.Closing.{array_closed, array_unfit, nothing_grows}
 use Rattle.jsonb_codec.proofs.OnTape.Closing.{stored_grows, stored_since}
 use Rattle.jsonb_codec.proofs.tape.storage.Storage.close_array.Goals as goal
 
@@ -14,14 +13,6 @@ returns-then-not-parts-clause-ok c = λ front h.
 
 pub returns-then-not-parts-clause-grows : goal.returns-then-not-parts-clause-grows
 returns-then-not-parts-clause-grows c = nothing_grows _
-
-pub returns-then-count-gt-MAX_COUNT-clause-grows :
-    goal.returns-then-count-gt-MAX_COUNT-clause-grows
-returns-then-count-gt-MAX_COUNT-clause-grows c = nothing_grows _
-
-pub returns-then-count-gt-MAX_COUNT-clause-ok : goal.returns-then-count-gt-MAX_COUNT-clause-ok
-returns-then-count-gt-MAX_COUNT-clause-ok c = λ front h.
-    array_too_long c.args.self.now c.args.parts.now front c.if-not-parts.false h (search rules)
 
 pub close-requires : goal.close-requires
 close-requires c = omega (
