@@ -25,6 +25,7 @@ pub mod ItemMeaningLaws
 pub mod OrderLaws
 pub mod LineLaws
 pub mod TextLaws
+mod TextLengths
 pub mod ResultMeanings
 pub mod Classes
 pub mod DocumentLaws

@@ -13,8 +13,8 @@ use Rattle.jsonb_codec.specs.declared.constants.TheConstants.{OBJECT_CONTAINER_T
 use Rattle.jsonb_codec.specs.WordBytes.{header_at}
 use Rattle.jsonb.specs.declared.entries.Entry.{Entry as PlacedEntry}
 use Rattle.jsonb.specs.declared.item.JsonbItem.{JsonbItem}
-use Rattle.jsonb.specs.declared.reads.lookup.Accepted.{Accepted}
-use Rattle.jsonb.specs.declared.reads.lookup.FoundValue.{FoundValue}
+use Rattle.jsonb.specs.declared.lookup.Accepted.{Accepted}
+use Rattle.jsonb.specs.declared.lookup.FoundValue.{FoundValue}
 use Rattle.jsonb.specs.ItemView.{ItemView, item_view}
 use Rattle.jsonb.specs.Steps.{◌>>=◌}
 use Rattle.jsonb.specs.Item.{Entry}

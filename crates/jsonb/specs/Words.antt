@@ -17,7 +17,7 @@ pub use Rattle.jsonb_value.specs.Norm.{norm}
 pub use Rattle.jsonb_value.specs.NumCode.{NumCode}
 pub use Rattle.jsonb_value.specs.Plain.{IsPlain}
 pub use Rattle.jsonb_value.specs.Text.{colon_text, compact, extension_text, inside, laid_out}
-pub use Rattle.jsonb_value.specs.Text.{line_start}
+pub use Rattle.jsonb_value.specs.Text.{length_64, line_start}
 pub use Rattle.jsonb_value.specs.Text.{pretty, quoted_text}
 pub use Rattle.jsonb_value.specs.Tree.{Extension, Pairs, Tree, Trees, array, no_pairs, no_trees}
 pub use Rattle.jsonb_value.specs.Tree.{pair, text, tree}

@@ -4,13 +4,13 @@ use crate::entries::{Cursor, count_under};
 use crate::extension_item::ExtensionItem;
 use crate::item::JsonbItem;
 use crate::item_type::JsonbItemType;
+use crate::lookup::{MAX_READS, Reads, count_pairs, find_value};
 use crate::nodes::{Items, Members};
 use crate::number_item::NumberItem;
 use crate::owned::OwnedJsonb;
 use crate::raw::RawJsonb;
-use crate::reads::Reads;
-use crate::reads::lookup::{MAX_READS, count_pairs, find_value};
 use crate::text::{Layout, document_text, node_text, write_document, write_value};
+use crate::text_len::document_text_len;
 use jsonb_codec::constants::{
     ARRAY_CONTAINER_TAG, CONTAINER_TAG, EXTENSION_TAG, FALSE_TAG, NULL_TAG, NUMBER_TAG,
     OBJECT_CONTAINER_TAG, STRING_TAG, TRUE_TAG,
@@ -65,6 +65,7 @@ impl<'a> Document<'a> {
     ghost use Rattle.jsonb.specs.Words.{node_tree, value_of_key, words_for_key};
     ghost use Rattle.jsonb.specs.Words.{items_of, item_at_index, members_of, first_key_of};
     ghost use Rattle.jsonb.specs.Words.{IsContainer, HoldsNoScalar, owned_bytes, raw_bytes};
+    ghost use Rattle.jsonb.specs.Words.{length_64};
 
     /// Checks the bytes. `None` if they are not a document.
     pub fn new(bytes: &'a [u8]) -> Option<Self>
@@ -317,7 +318,8 @@ impl<'a> Document<'a> {
         ensures text { IfOk result (λ text. string_bytes text ≡ compact (document_tree self.now)) }
         ensures memory { IfErr result (λ e. e ≡ Error.OutOfMemory) }
     {
-        document_text(alloc, *self, Layout::InOneLine)
+        // The text is usually about as long as the bytes.
+        document_text(alloc, *self, Layout::InOneLine, self.as_bytes().len())
     }
 
     /// The text with each item or pair on its own line, indented by two spaces for each enclosing
@@ -326,7 +328,25 @@ impl<'a> Document<'a> {
         ensures text { IfOk result (λ text. string_bytes text ≡ pretty (document_tree self.now)) }
         ensures memory { IfErr result (λ e. e ≡ Error.OutOfMemory) }
     {
-        document_text(alloc, *self, Layout::OnLines(0))
+        // Indents may make the text many times as long as the bytes: memory is asked for once.
+        document_text(alloc, *self, Layout::OnLines(0), self.pretty_len())
+    }
+
+    /// The length in bytes of the text of `to_string`, or `usize::MAX` if it is longer. The text is
+    /// counted without memory for it, in one walk over the document.
+    pub fn text_len(&self) -> usize
+        ensures { result ≡ length_64 (compact (document_tree self.now)) }
+    {
+        document_text_len(*self, Layout::InOneLine)
+    }
+
+    /// The length in bytes of the text of `to_pretty_string`, or `usize::MAX` if it is longer. The
+    /// text is counted without memory for it, in one walk over the document: each indent is one
+    /// step, so that the time does not grow with the text.
+    pub fn pretty_len(&self) -> usize
+        ensures { result ≡ length_64 (pretty (document_tree self.now)) }
+    {
+        document_text_len(*self, Layout::OnLines(0))
     }
 
     /// Decodes the document. Strings and extension data in the value are borrowed from the bytes.

@@ -12,15 +12,16 @@ mod item_type;
 mod iterator;
 pub mod laws;
 pub mod layer;
+mod lookup;
 mod nodes;
 mod number_item;
 mod order;
 mod owned;
 mod raw;
-mod reads;
 mod sort_key;
 mod sorting;
 mod text;
+mod text_len;
 
 pub use builder::{ArrayBuilder, ArrayDistinctBuilder, ObjectBuilder};
 pub use document::{Contents, Document, Node};
@@ -38,11 +39,10 @@ pub use jsonb_value::{
     parse_value, parse_value_with_exponents, parse_value_with_exponents_within, parse_value_within,
     read_text,
 };
+pub use lookup::{FoundValue, MAX_READS, Reads};
 pub use nodes::{Items, Members};
 pub use number_item::NumberItem;
 pub use owned::OwnedJsonb;
 pub use raw::RawJsonb;
-pub use reads::Reads;
-pub use reads::lookup::{FoundValue, MAX_READS};
 pub use sort_key::SortKey;
 pub use sorting::sort_views;

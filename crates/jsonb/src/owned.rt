@@ -23,9 +23,10 @@ pub struct OwnedJsonb {
 }
 
 impl OwnedJsonb {
-    ghost use Rattle.std.specs.Prelude.{◌↔◌, IfSome, IsSome, IsTrue};
+    ghost use Rattle.std.specs.Prelude.{◌↔◌, IfSome, IsSome, IsTrue, chars};
     ghost use Rattle.jsonb.specs.Words.{IsParsed, IsParsedUnder, IsParsedWithExponents, ParsesTo};
     ghost use Rattle.jsonb.specs.Words.{ParsesUnder, ParsesWithin, ParsesUnderWithin};
+    ghost use Rattle.jsonb.specs.Words.{Json, JsonText, JsonWithExponents, Tree};
     ghost use Rattle.jsonb.specs.Words.{ParsesWithExponentsTo, ParsesWithExponentsWithin};
     ghost use Rattle.jsonb.specs.Words.{result_bytes};
     ghost use Rattle.jsonb.specs.Words.{IsDocumentWithin, IsDocument, raw_bytes, item_document};
@@ -123,13 +124,14 @@ impl OwnedJsonb {
         OwnedJsonb::from_bytes(alloc, self.as_bytes())
     }
 
-    /// Parses a JSON text into the canonical document of its value; no text has two values
-    /// (`json_laws`). `InvalidJson` if the text is not accepted by `parse_value`, `InvalidJsonb` if
-    /// a payload, a key or a count of its value exceeds its limit, `OutOfMemory` if an allocation
-    /// fails. No stack is taken for the depth of the text.
+    /// Parses a JSON text into the canonical document of its value; no text has two values.
+    /// `InvalidJson` if the text is not accepted by `parse_value`, `InvalidJsonb` if a payload, a
+    /// key or a count of its value exceeds its limit, `OutOfMemory` if an allocation fails. No
+    /// stack is taken for the depth of the text.
     pub fn parse(alloc: Global, text: &str) -> Result<OwnedJsonb, Error>
         ensures value { ParsesTo text.now (result_bytes result) }
         ensures parsed { IfOk result (λ owned. IsParsed text.now (owned_bytes owned)) }
+        ensures one { (t u : Tree) → Json (chars text.now) t → Json (chars text.now) u → t ≡ u }
     {
         OwnedJsonb::parse_under(alloc, text, Exponents::Forbidden)
     }
@@ -143,6 +145,8 @@ impl OwnedJsonb {
         ensures value { ParsesWithExponentsTo text.now (result_bytes result) }
         ensures parsed { IfOk result
             (λ owned. IsParsedWithExponents text.now (owned_bytes owned)) }
+        ensures one { (t u : Tree) → JsonWithExponents (chars text.now) t
+            → JsonWithExponents (chars text.now) u → t ≡ u }
     {
         OwnedJsonb::parse_under(alloc, text, Exponents::Allowed)
     }
@@ -152,6 +156,8 @@ impl OwnedJsonb {
         ensures value { ParsesUnder exponents text.now (result_bytes result) }
         ensures parsed { IfOk result
             (λ owned. IsParsedUnder exponents text.now (owned_bytes owned)) }
+        ensures one { (t u : Tree) → JsonText exponents (chars text.now) t
+            → JsonText exponents (chars text.now) u → t ≡ u }
     {
         Ok(OwnedJsonb::new(encode_text(alloc, text, exponents)?))
     }

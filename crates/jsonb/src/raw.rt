@@ -3,9 +3,8 @@
 use crate::document::Document;
 use crate::item::{JsonbItem, item_of_entry};
 use crate::item_type::{JsonbItemType, kind_of};
+use crate::lookup::{FoundValue, MAX_READS, Reads, count_pairs, find_value};
 use crate::owned::OwnedJsonb;
-use crate::reads::Reads;
-use crate::reads::lookup::{FoundValue, MAX_READS, count_pairs, find_value};
 use crate::text::{finish_text, write_pretty, write_view};
 use jsonb_codec::layer::append_canonical;
 use jsonb_codec::value_of;

@@ -8,7 +8,7 @@ ghost use Rattle.jsonb.specs.Words.{quoted_text, extension_text, depth, Doc, doc
 ghost use Rattle.jsonb.specs.Words.{part_tree, rest_trees, rest_pairs, node_tree, array_of};
 ghost use Rattle.jsonb.specs.Words.{object_of, IsContainer, HoldsNoScalar, layout_of, lossy_text};
 ghost use Rattle.jsonb.specs.Words.{display_text, pretty_display_text, pair_text};
-ghost use Rattle.jsonb.specs.Words.{HasIndentRoom};
+ghost use Rattle.jsonb.specs.Words.{HasIndentRoom, length_64};
 
 use crate::document::{Contents, Document, Node};
 use crate::nodes::{Items, Members};
@@ -48,8 +48,8 @@ pub enum Layout {
 }
 
 impl Layout {
-    // The layout of a container's content.
-    fn inside(self) -> Layout
+    /// The layout of a container's content.
+    pub fn inside(self) -> Layout
         requires { HasIndentRoom (layout_of self) 1 }
         ensures { layout_of result ≡ inside (layout_of self) }
     {
@@ -72,6 +72,28 @@ impl Layout {
                 f.write_str("\n")?;
                 f.write_repeated("  ", depth)
             }
+        }
+    }
+
+    /// The length of what precedes an item or a closing bracket, or `usize::MAX` if it is longer.
+    #[inline(always)]
+    pub fn start_len(self) -> usize
+        ensures { result ≡ length_64 (line_start (layout_of self)) }
+    {
+        match self {
+            Layout::InOneLine => 0,
+            Layout::OnLines(depth) => depth.saturating_add(depth).saturating_add(1),
+        }
+    }
+
+    /// The length of the separator between a key and its value.
+    #[inline(always)]
+    pub fn colon_len(self) -> usize
+        ensures { result ≡ length_64 (colon_text (layout_of self)) }
+    {
+        match self {
+            Layout::InOneLine => 1,
+            Layout::OnLines(_) => 2,
         }
     }
 
@@ -123,15 +145,20 @@ fn write_lossy<W: fmt::Write>(bytes: &[u8], f: &mut fmt::Formatter<W>) -> fmt::R
     Ok(())
 }
 
-/// The text of a document in this layout. `OutOfMemory` is the only error.
-pub fn document_text(alloc: Global, document: Document, layout: Layout) -> Result<String, Error>
+/// The text of a document in this layout. `capacity` is the length for which memory is asked first.
+/// `OutOfMemory` is the only error.
+pub fn document_text(
+    alloc: Global,
+    document: Document,
+    layout: Layout,
+    capacity: usize,
+) -> Result<String, Error>
     requires room { (n : ℕ) → n < 2 ^ 64 → HasIndentRoom (layout_of layout) n }
     ensures text { IfOk result (λ text. string_bytes text
         ≡ laid_out (layout_of layout) (document_tree document.entry)) }
     ensures memory { IfErr result (λ e. e ≡ Error.OutOfMemory) }
 {
-    // The text is usually about as long as the bytes.
-    let text = String::with_capacity(alloc, document.as_bytes().len())?;
+    let text = String::with_capacity(alloc, capacity)?;
     let mut f = fmt::Formatter::new(text);
     let answer = write_document(document, layout, &mut f);
     finish_text(answer, f)

@@ -1,5 +1,6 @@
 -- Where the bytes of a key go.
 use Rattle.std.specs.Prelude.{◌≡◌, ℕ, ◌+◌, ◌-◌, ◌^◌, List, ◌++◌, length, min}
+pub use Rattle.jsonb_value.specs.Text.{length_64}
 use Rattle.jsonb_comparable.specs.declared.sink.KeyLength.{KeyLength}
 
 -- Room for bytes is room for a beginning of them, and then for the rest; and bytes of which one
@@ -9,10 +10,6 @@ pub record SinkLaws {S : Type 0} (room : S → List ℕ → Type 0)
   pub room_first : (s : S) (a b : List ℕ) → room s (a ++ b) → room s a
   pub room_rest : (s t : S) (a b : List ℕ) → room s (a ++ b) → appends s t a → room t b
   pub joins : (s t u : S) (a b : List ℕ) → appends s t a → appends t u b → appends s u (a ++ b)
-
--- A length in 64 bits: a greater one is the greatest that they have.
-abbrev pub length_64 : List ℕ → ℕ
-length_64 bytes = min (length bytes) (2 ^ 64 - 1)
 
 -- The bytes are counted, up to the greatest length.
 abbrev pub CountsBytes : KeyLength → KeyLength → List ℕ → Type 0

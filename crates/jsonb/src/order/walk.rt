@@ -4,11 +4,12 @@
 ghost use Rattle.std.specs.Prelude.{◌≡◌, unwrap_or};
 ghost use Rattle.jsonb.specs.Words.{tree_cmp, document_tree, kind_of_tree, rank_order, rest_trees};
 ghost use Rattle.jsonb.specs.Words.{rest_pairs, node_tree, HoldsNoScalar, IsContainer, array_of};
-ghost use Rattle.jsonb.specs.Words.{object_of};
+ghost use Rattle.jsonb.specs.Words.{object_of, part_tree};
 
 use crate::document::{Contents, Document, Node};
 use crate::nodes::{Items, Members};
 use jsonb_codec::constants::{CONTAINER_TAG, NUMBER_TAG, STRING_TAG};
+use jsonb_codec::parts::Part;
 use std::cmp::Ordering;
 
 // Up to this length the lengths of all keys are added up about as fast as two keys are compared.
@@ -47,6 +48,31 @@ pub fn cmp_nodes(left: Node<'_>, right: Node<'_>) -> Ordering
         (Node::Container(left), Node::Container(right)) => cmp_containers(left, right),
         (left, right) => cmp_kinds(left, right),
     }
+}
+
+// Compares two parts. All but two arrays or objects are read in a function of its own, whose stack
+// is released before the walk goes deeper.
+#[inline(always)]
+#[cycle(documents)]
+fn cmp_parts(left: Part<'_>, right: Part<'_>) -> Ordering
+    ensures { result ≡ tree_cmp (part_tree left.entry) (part_tree right.entry) }
+{
+    if left.type_code != CONTAINER_TAG || right.type_code != CONTAINER_TAG {
+        return cmp_read_parts(left, right);
+    }
+    match (Node::of_part(left), Node::of_part(right)) {
+        (Node::Container(left), Node::Container(right)) => cmp_containers(left, right),
+        _ => cmp_read_parts(left, right),
+    }
+}
+
+// Compares the values of two parts.
+#[inline(never)]
+#[cycle(documents)]
+fn cmp_read_parts(left: Part<'_>, right: Part<'_>) -> Ordering
+    ensures { result ≡ tree_cmp (part_tree left.entry) (part_tree right.entry) }
+{
+    cmp_nodes(Node::of_part(left), Node::of_part(right))
 }
 
 // Compares two values of different kinds, or null with null.
@@ -102,16 +128,16 @@ fn cmp_items(mut left: Items<'_>, mut right: Items<'_>) -> Ordering
     ensures { result
         ≡ tree_cmp (array_of (rest_trees left.entry)) (array_of (rest_trees right.entry)) }
 {
-    while let Some(left_item) = left.next() {
-        let Some(right_item) = right.next() else {
+    while let Some(left_item) = left.next_part() {
+        let Some(right_item) = right.next_part() else {
             return Ordering::Greater;
         };
-        let order = cmp_nodes(left_item, right_item);
+        let order = cmp_parts(left_item, right_item);
         if order.is_ne() {
             return order;
         }
     }
-    match right.next() {
+    match right.next_part() {
         Some(_) => Ordering::Less,
         None => Ordering::Equal,
     }
@@ -125,20 +151,20 @@ fn cmp_members(mut left: Members<'_>, mut right: Members<'_>) -> Ordering
     ensures { result
         ≡ tree_cmp (object_of (rest_pairs left.entry)) (object_of (rest_pairs right.entry)) }
 {
-    while let Some((left_key, left_value)) = left.next() {
-        let Some((right_key, right_value)) = right.next() else {
+    while let Some((left_key, left_value)) = left.next_parts() {
+        let Some((right_key, right_value)) = right.next_parts() else {
             return Ordering::Greater;
         };
         let keys = left_key.cmp(right_key);
         if keys.is_ne() {
             return keys;
         }
-        let values = cmp_nodes(left_value, right_value);
+        let values = cmp_parts(left_value, right_value);
         if values.is_ne() {
             return values;
         }
     }
-    match right.next() {
+    match right.next_parts() {
         Some(_) => Ordering::Less,
         None => Ordering::Equal,
     }

@@ -4,21 +4,27 @@ use Rattle.jsonb_value.specs.Value.{trees_of}
 use Rattle.jsonb_value.specs.TreeOrder.{trees_cmp, pairs_cmp}
 use Rattle.jsonb_codec.specs.Depth.{size, sizes, pair_sizes}
 use Rattle.jsonb.specs.Document.{document_tree}
-use Rattle.jsonb.specs.EntryTrees.{rest_trees, rest_pairs}
+use Rattle.jsonb.specs.EntryTrees.{part_tree, rest_trees, rest_pairs}
 use Rattle.jsonb.specs.Node.{node_tree, pairs_of}
 use Rattle.jsonb.proofs.order.walk.+documents.Given as goal
 
 abbrev pub decreases-cmp_nodes : goal.decreases-cmp_nodes
-decreases-cmp_nodes l = 3 * size (node_tree l.left) + 1
+decreases-cmp_nodes l = 5 * size (node_tree l.left) + 1
+
+abbrev pub decreases-cmp_parts : goal.decreases-cmp_parts
+decreases-cmp_parts l = 5 * size (part_tree l.left) + 3
+
+abbrev pub decreases-cmp_read_parts : goal.decreases-cmp_read_parts
+decreases-cmp_read_parts l = 5 * size (part_tree l.left) + 2
 
 abbrev pub decreases-cmp_containers : goal.decreases-cmp_containers
-decreases-cmp_containers l = 3 * size (document_tree l.left)
+decreases-cmp_containers l = 5 * size (document_tree l.left)
 
 abbrev pub decreases-cmp_items : goal.decreases-cmp_items
-decreases-cmp_items l = 3 * sizes (trees_of (rest_trees l.left)) + 2
+decreases-cmp_items l = 5 * sizes (trees_of (rest_trees l.left)) + 4
 
 abbrev pub decreases-cmp_members : goal.decreases-cmp_members
-decreases-cmp_members l = 3 * pair_sizes (pairs_of (rest_pairs l.left)) + 2
+decreases-cmp_members l = 5 * pair_sizes (pairs_of (rest_pairs l.left)) + 4
 
 abbrev pub invariant-cmp_items-loop-left_item : goal.invariant-cmp_items-loop-left_item
 invariant-cmp_items-loop-left_item l = record {

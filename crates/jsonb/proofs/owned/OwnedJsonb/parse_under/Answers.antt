@@ -20,6 +20,13 @@ returns-in_err-encode_text-clause-value c =
     rw is (refused c.args.exponents c.args.text.now _ (λ e. known.invalid (ap Err e))
     (λ e. known.past (ap Err e)) known.only)
 
+pub returns-in_err-encode_text-clause-one : goal.returns-in_err-encode_text-clause-one
+returns-in_err-encode_text-clause-one c =
+    same_meaning c.args.exponents (chars c.args.text.now)
+
+pub returns-clause-one : goal.returns-clause-one
+returns-clause-one c = same_meaning c.args.exponents (chars c.args.text.now)
+
 pub returns-clause-value : goal.returns-clause-value
 returns-clause-value c =
     let (t, (json, (is, (fits, same)))) = c.in_ok-encode_text.ensures.ok in

@@ -1,7 +1,7 @@
 use Rattle.std.proofs.Common.{◌≡◌, ◌+◌, length}
 use Rattle.std.specs.Fn.{FnReturnsAtPair}
 use Rattle.jsonb.specs.Parts.{part_start, PassedBefore}
-use Rattle.jsonb.proofs.reads.lookup.matching_key.Given as goal
+use Rattle.jsonb.proofs.lookup.matching_key.Given as goal
 
 abbrev pub invariant-loop-pair : goal.invariant-loop-pair
 invariant-loop-pair g l = record {

@@ -3,7 +3,7 @@ use Rattle.jsonb_codec.specs.JEntry.{jentry_in}
 use Rattle.jsonb.specs.Parts.{key_of_size}
 use Rattle.jsonb.proofs.PartLaws.{key_cut, key_of_other_length, word_cut}
 use Rattle.jsonb.proofs.CutKeyLaws.{key_past}
-use Rattle.jsonb.proofs.reads.lookup.read_cut_keys.Goals as goal
+use Rattle.jsonb.proofs.lookup.read_cut_keys.Goals as goal
 use borrow.Author.Count.{below_more}
 
 pub returns-then-bytes-pair-clause-unread : goal.returns-then-bytes-pair-clause-unread

@@ -1,6 +1,6 @@
 use Rattle.std.proofs.Common.{◌≡◌, ◌+◌}
 use Rattle.jsonb.specs.Parts.{part_start}
-use Rattle.jsonb.proofs.reads.lookup.skip_parts.Given as goal
+use Rattle.jsonb.proofs.lookup.skip_parts.Given as goal
 
 abbrev pub invariant-loop-number : goal.invariant-loop-number
 invariant-loop-number l = record {

@@ -2,7 +2,7 @@ use Rattle.std.proofs.Common.{rules, ◌≡◌, ◌+◌, ◌-◌, Err, subst}
 use Rattle.jsonb.specs.Parts.{IsPlaceOf, value_unread}
 use Rattle.jsonb.proofs.PartLaws.{part_past, placed_part, value_known, value_placed}
 use Rattle.jsonb.proofs.CutKeyLaws.{first_unread}
-use Rattle.jsonb.proofs.reads.lookup.find_value.Goals as goal
+use Rattle.jsonb.proofs.lookup.find_value.Goals as goal
 
 pub returns-in_err-read_cut_keys-clause-found : goal.returns-in_err-read_cut_keys-clause-found
 returns-in_err-read_cut_keys-clause-found g c =

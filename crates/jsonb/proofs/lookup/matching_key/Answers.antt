@@ -2,9 +2,9 @@ use Rattle.std.proofs.Common.{rules, ◌≡◌, Err, length}
 use Rattle.std.specs.Fn.{FnReturnsAtPair}
 use Rattle.jsonb.specs.Parts.{IsPassedAt, key_unread}
 use Rattle.jsonb.proofs.PartLaws.{key_of_other_length, key_known, part_past, part_read}
-use Rattle.jsonb.proofs.reads.lookup.matching_key.Goals as goal
-use Rattle.jsonb.proofs.reads.lookup.matching_key.Goals.{then-size-name+in_ok-key+else-eq_func}
-use Rattle.jsonb.proofs.reads.lookup.matching_key.Goals.{else-size-name}
+use Rattle.jsonb.proofs.lookup.matching_key.Goals as goal
+use Rattle.jsonb.proofs.lookup.matching_key.Goals.{then-size-name+in_ok-key+else-eq_func}
+use Rattle.jsonb.proofs.lookup.matching_key.Goals.{else-size-name}
 use borrow.Author.Count.{below_more}
 
 pub returns-in_err-key-clause-found : goal.returns-in_err-key-clause-found

@@ -1,5 +1,7 @@
 //! Looking up the value of a key in the bytes, with a counted number of word reads.
 
+mod reads;
+
 ghost use Rattle.std.specs.Prelude.{◌≡◌, ◌+◌, ◌-◌, ◌*◌, ◌<◌, ◌≤◌, ◌^◌, length, Ok, IfOk};
 ghost use Rattle.std.specs.Prelude.{IfErr, IfSome, IsOk, OnOk};
 ghost use Rattle.jsonb.specs.Words.{FnReturnsAtPair, OBJECT_CONTAINER_TAG, FindsEntry, FindsKey};
@@ -9,11 +11,11 @@ ghost use Rattle.jsonb.specs.Words.{count_in_header};
 
 use crate::entries::Entry;
 use crate::item::JsonbItem;
-use crate::reads::Reads;
 use jsonb_codec::JEntry;
 use jsonb_codec::constants::OBJECT_CONTAINER_TAG;
 use jsonb_codec::layer::decode_header;
 use jsonb_value::Error;
+pub use reads::Reads;
 
 /// A value that a look-up found, and its entry, with the place of its payload.
 #[derive(Drop)]

@@ -1,6 +1,6 @@
 use Rattle.std.proofs.Common.{◌≡◌, ◌+◌}
 use Rattle.jsonb.specs.CutKeys.{NoneOfSize}
-use Rattle.jsonb.proofs.reads.lookup.read_cut_keys.Given as goal
+use Rattle.jsonb.proofs.lookup.read_cut_keys.Given as goal
 
 abbrev pub invariant-loop-pair : goal.invariant-loop-pair
 invariant-loop-pair l = record {

@@ -1,6 +1,5 @@
-//! Counting the words that are read from a document.
-
-pub mod lookup;
+//! Counting the words that are read from a document. The count is a private field of this module,
+//! which has no children: so no other code, and not the look-up, raises a tally without a read.
 
 ghost use Rattle.std.specs.Prelude.{◌≡◌, ℕ, ◌+◌, ◌<◌, ◌≤◌, ◌^◌, length, Ok, OnOk, OnErr};
 ghost use Rattle.jsonb.specs.Words.{word_at};
@@ -10,8 +9,8 @@ use jsonb_codec::layer::read_word;
 use jsonb_value::Error;
 use std::marker::Model;
 
-/// A tally of the words that were read. Only reading a word raises it, or adding another tally,
-/// which is consumed: so no word is counted twice.
+/// A tally of the words that were read. `word` raises it by the word that it reads, and `add` by
+/// another tally, which is consumed: so no word is counted twice.
 #[derive(Drop)]
 pub struct Reads {
     count: u64,
@@ -64,9 +63,9 @@ impl Reads {
         Ok(word)
     }
 
-    // The same word, where it is known to be there. The look-up alone reads so, below.
+    // The same word, where it is known to be there. Only the look-up can read so.
     #[inline(always)]
-    fn word_within(&mut self, bytes: &[u8], index: usize) -> u32
+    pub(super) fn word_within(&mut self, bytes: &[u8], index: usize) -> u32
         requires room { self.old < u64.MAX }
         requires there { index + 4 ≤ length bytes.now }
         ensures word { word_at bytes.now index ≡ Ok result }
@@ -76,7 +75,7 @@ impl Reads {
         BigEndian::read_u32(&bytes[index..])
     }
 
-    // Every call that raises the tally does it by this.
+    // Every call of this module that raises the tally does it by this.
     #[inline(always)]
     fn raise(&mut self, words: u64)
         requires { self.old + words ≤ u64.MAX }
