@@ -7,6 +7,7 @@ use Rattle.std.specs.Global.{Vec}
 use Rattle.std.proofs.lemmas.List.{append-nil}
 use Rattle.std.proofs.lemmas.Slice.Eq.{bytes_eq-Decides}
 use Rattle.jsonb_value.specs.declared.parser.number.Exponents.TheVariants.{Allowed}
+use Rattle.jsonb_value.specs.Depth.{depth}
 use Rattle.jsonb_value.specs.Json.Syntax.{JsonWithExponents}
 use Rattle.jsonb_value.specs.Tree as trees
 use Rattle.jsonb_value.specs.Tree.{Tree}
@@ -233,9 +234,14 @@ scalar_found w u (Some node) json e =
       ap scalar_tree same ∙ sym e,
     )
 
-pub scalar_refused : (w : List ℕ) → ((t : Tree) → JsonWithExponents (chars w) t → ⊥)
+scalar_shallow : (t : Tree) → scalar_tree t ≡ Some t → depth t ≡ 0
+scalar_shallow (trees.array ts) is = absurd (cc)
+scalar_shallow (trees.object ps) is = absurd (cc)
+scalar_shallow t is = refl
+
+pub scalar_refused : (w : List ℕ) → ((t : Tree) → JsonWithExponents (chars w) t → depth t ≡ 0 → ⊥)
     → (t : Tree) → IsLiteralWord w t → ⊥
-scalar_refused w none t is = none t is.0
+scalar_refused w none t is = none t is.0 (scalar_shallow t is.1)
 
 -- Steps before an end.
 then_end : (IsOne : List ℕ → SelectorView → Type 0) (bytes end : List ℕ)

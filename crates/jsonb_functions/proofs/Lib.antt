@@ -1,5 +1,6 @@
 pub mod StepLaws
 pub mod WalkLaws
+pub mod WeightLaws
 pub mod EditLaws
 pub mod ChosenLaws
 pub mod PickLaws
@@ -8,6 +9,7 @@ pub mod KeyTextLaws
 pub mod MemoryLaws
 pub mod IndexLaws
 pub mod KeyOrder
+pub mod KeyTestLaws
 pub mod FoundLaws
 pub mod HashLaws
 pub mod JoinLaws

@@ -1,16 +1,13 @@
 -- How many steps a walk that may give up takes.
-use Rattle.std.proofs.Common.{◌≡◌, ℕ, suc, ◌+◌, ◌*◌, ◌≤◌, ◌<◌, List, [], ◌∷◌, length}
-use Rattle.std.proofs.Common.{ap, ◌∙◌, arith}
+use Rattle.std.proofs.Common.{◌≡◌, ℕ, suc, ◌+◌, ◌*◌, ◌≤◌, ◌<◌, List, ap, ◌∙◌, arith}
 use Rattle.std.specs.Prelude.{Bool, Option, Some, None, IfSome, IfNone}
 use Rattle.std.proofs.Math.Nat.{add-mul, mul-add, mul-le-mul_right, mul-suc, suc-mul}
 use Rattle.std.proofs.lemmas.Nat.{mul-le}
 use Rattle.jsonb_value.specs.Tree.{Tree, null, boolean, number, text, extension, array, object}
 use Rattle.jsonb_value.specs.Value.{trees_of}
-use Rattle.jsonb_codec.specs.Depth.{size, sizes, pair_sizes}
-use Rattle.jsonb_codec.specs.Doc.{Doc}
-use Rattle.jsonb_codec.proofs.DepthLaws.{Doc-size}
-use Rattle.jsonb.specs.Node.{pairs_of, array_of}
+use Rattle.jsonb.specs.Node.{array_of}
 use Rattle.jsonb_functions.specs.Steps.{FoundIn}
+use Rattle.jsonb_functions.specs.Weight.{weight, weights}
 
 -- The same after some steps were taken, and of more steps.
 pub found_after : (r : Option Bool) (f g : Bool) (k m n first mid last : ℕ) → f ≡ g
@@ -39,17 +36,24 @@ pub found_none : (r : Option Bool) (found : Bool) (cost before after : ℕ)
 found_none None found cost before after h = h
 found_none (Some b) found cost before after h = tt
 
-pub size_positive : (t : Tree) → 1 ≤ size t
-size_positive null = omega arith
-size_positive (boolean b) = omega arith
-size_positive (number x) = omega arith
-size_positive (text s) = omega arith
-size_positive (extension e) = omega arith
-size_positive (array ts) = omega arith
-size_positive (object ps) = omega arith
+pub weight_positive : (t : Tree) → 1 ≤ weight t
+weight_positive null = omega arith
+weight_positive (boolean b) = omega arith
+weight_positive (number x) = omega arith
+weight_positive (text s) = omega arith
+weight_positive (extension e) = omega arith
+weight_positive (array ts) = omega arith
+weight_positive (object ps) = omega arith
 
-pub one_step : (t u : Tree) → 1 ≤ size t * size u
-one_step t u = mul-le 1 1 (size t) (size u) (size_positive t) (size_positive u)
+pub one_step : (t u : Tree) → 1 ≤ weight t * weight u
+one_step t u = mul-le 1 1 (weight t) (weight u) (weight_positive t) (weight_positive u)
+
+-- A value that is compared weighs no more than the product.
+pub one_of_both : (t u : Tree) → weight t ≤ weight t * weight u
+one_of_both t u = omega (
+  arith,
+  mul-le (weight t) 1 (weight t) (weight u) (omega arith) (weight_positive u),
+)
 
 -- One step, and the product of what is in both.
 pub product_more : (a b m n : ℕ) → m ≡ suc a → n ≡ suc b → 1 + a * b ≤ m * n
@@ -66,9 +70,10 @@ product_parts a b m n e f =
 
 -- The items of an array in place of the array.
 pub items_fit : (t : Tree) (ts : List Tree) (n : ℕ) → t ≡ array_of ts
-    → sizes (trees_of ts) * n ≤ size t * n
+    → weights (trees_of ts) * n ≤ weight t * n
 items_fit t ts n e =
-    let fewer : sizes (trees_of ts) ≤ size t = omega (arith, ap size e) in mul-le-mul_right n fewer
+    let fewer : weights (trees_of ts) ≤ weight t = omega (arith, ap weight e) in
+    mul-le-mul_right n fewer
 
 -- A walk over items that are each looked for takes a product.
 pub rows_on : (a b u rest left whole first now after : ℕ) → a ≡ b → left ≡ u + rest
@@ -99,36 +104,25 @@ columns_end a u rest left whole first now e spent short =
     let parts : left * a ≡ u * a + rest * a = rw e (add-mul u rest a) in
     omega (arith, parts, spent, short)
 
--- So does one over members that are looked up among others, which are passed once.
-pub members_on : (p v u rest left whole first now after : ℕ) → left ≡ suc (u + rest) → v ≤ p
-    → first + p * left ≤ now + (p + p * whole) → now ≤ after + v * u
-    → first + p * rest ≤ after + (p + p * whole)
-members_on p v u rest left whole first now after e few spent took =
-    let sum : left ≡ (1 + u) + rest = omega (arith, e) in
-    let parts : p * left ≡ p * (1 + u) + p * rest = rw sum (mul-add p (1 + u) rest) in
-    let first_part : p * (1 + u) ≡ p * 1 + p * u = mul-add p 1 u in
+-- So does one over members that are looked up among others, which are passed once. Of the steps
+-- some are taken for the members passed, and then some to compare the values.
+pub members_on : (p v u k rest left whole first now mid after old new : ℕ)
+    → left ≡ suc (k + (u + rest)) → v ≤ p → first + old + p * left ≤ now + (p + p * whole)
+    → now + v + new ≤ mid + old → mid ≤ after + v * u
+    → first + new + p * rest ≤ after + (p + p * whole)
+members_on p v u k rest left whole first now mid after old new e few spent passed took =
+    let sum : left ≡ (suc k + u) + rest = omega (arith, e) in
+    let parts : p * left ≡ p * (suc k + u) + p * rest = rw sum (mul-add p (suc k + u) rest) in
+    let first_part : p * (suc k + u) ≡ p * suc k + p * u = mul-add p (suc k) u in
     let most : v * u ≤ p * u = mul-le-mul_right u few in
-    omega (arith, parts, first_part, most, spent, took)
+    omega (arith, parts, first_part, most, spent, passed, took)
 
-pub members_end : (p v u rest left whole first now : ℕ) → left ≡ suc (u + rest) → v ≤ p
-    → first + p * left ≤ now + (p + p * whole) → now < v * u
-    → first < p + p * whole
-members_end p v u rest left whole first now e few spent short =
-    let sum : left ≡ (1 + u) + rest = omega (arith, e) in
-    let parts : p * left ≡ p * (1 + u) + p * rest = rw sum (mul-add p (1 + u) rest) in
-    let first_part : p * (1 + u) ≡ p * 1 + p * u = mul-add p 1 u in
+pub members_end : (p v u k rest left whole first now mid old new : ℕ)
+    → left ≡ suc (k + (u + rest)) → v ≤ p → first + old + p * left ≤ now + (p + p * whole)
+    → now + v + new ≤ mid + old → mid < v * u → first < p + p * whole
+members_end p v u k rest left whole first now mid old new e few spent passed short =
+    let sum : left ≡ (suc k + u) + rest = omega (arith, e) in
+    let parts : p * left ≡ p * (suc k + u) + p * rest = rw sum (mul-add p (suc k + u) rest) in
+    let first_part : p * (suc k + u) ≡ p * suc k + p * u = mul-add p (suc k) u in
     let most : v * u ≤ p * u = mul-le-mul_right u few in
-    omega (arith, parts, first_part, most, spent, short)
-
--- An object has at least one value for each member.
-pub members_counted : (ps : List (List ℕ × Tree)) → length ps ≤ pair_sizes (pairs_of ps)
-members_counted [] = omega arith
-members_counted ((k, t) ∷ ps) = omega (arith, members_counted ps)
-
--- A document has more bytes than values and keys.
-pub sizes_below : (b d : List ℕ) (t u : Tree) → Doc b t → Doc d u
-    → size t * size u ≤ length b * length d
-sizes_below b d t u h i =
-    let first = Doc-size b t h in
-    let second = Doc-size d u i in
-    mul-le (size t) (size u) (length b) (length d) (omega (arith, first)) (omega (arith, second))
+    omega (arith, parts, first_part, most, spent, passed, short)

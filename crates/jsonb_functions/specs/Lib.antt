@@ -12,6 +12,7 @@ pub mod ItemCounts
 pub mod Joined
 pub mod JoinSource
 pub mod Keys
+pub mod KeyTests
 pub mod MadeWithMemory
 pub mod Patched
 pub mod PatchSource
@@ -25,6 +26,7 @@ pub mod StoredPath
 pub mod Stripped
 pub mod StripSource
 pub mod TopKeys
+pub mod Weight
 pub mod Words
 pub mod NameList
 pub mod NamedSteps

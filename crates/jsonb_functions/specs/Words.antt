@@ -2,6 +2,7 @@
 pub use Rattle.std.specs.Cmp.Lexicographic.{slice_cmp}
 pub use Rattle.std.specs.Iterator.{YieldsFirstBy}
 pub use Rattle.std.specs.Ordering.{nat_cmp}
+pub use Rattle.jsonb_value.specs.Order.{extension_data}
 pub use Rattle.jsonb_value.specs.Tree.{Ascend, Pairs, Tree, Trees, count, no_pairs, no_trees}
 pub use Rattle.jsonb_value.specs.Tree.{array, object, pair, pair_count, text}
 pub use Rattle.jsonb_value.specs.Value.{tree_of, trees_of}
@@ -9,7 +10,6 @@ pub use Rattle.jsonb_value.specs.WellFormed.{IsTree}
 pub use Rattle.jsonb_codec.specs.Canon.{Fits, canon, shape_of}
 pub use Rattle.jsonb_codec.specs.Code.{code_of}
 pub use Rattle.jsonb_codec.specs.Contents.{AreChildren, AreMembers, PartMeans}
-pub use Rattle.jsonb_codec.specs.Depth.{pair_sizes, size, sizes}
 pub use Rattle.jsonb_codec.specs.Doc.{Doc}
 pub use Rattle.jsonb_codec.specs.Made.{MadeIfFit}
 pub use Rattle.jsonb_codec.specs.PartSource.{items_size, part_meaning}
@@ -18,15 +18,17 @@ pub use Rattle.jsonb_codec.specs.Shape.{Shape, leaf}
 pub use Rattle.jsonb_codec.specs.Source.{LevelIs, level_size}
 pub use Rattle.jsonb.specs.Document.{document_tree}
 pub use Rattle.jsonb.specs.EntryTrees.{part_tree, rest_pairs, rest_trees}
+pub use Rattle.jsonb.specs.ItemValues.{extension_of_item}
 pub use Rattle.jsonb.specs.Node.{HoldsNoScalar, IsContainer, member_tree, node_tree, object_of}
 pub use Rattle.jsonb.specs.Node.{pairs_of, tree_list, value_of_key}
 pub use Rattle.jsonb.specs.Owned.{owned_bytes}
-pub use Rattle.jsonb_functions.specs.ArraySets.{difference, distinct, distinct_items, intersection}
+pub use Rattle.jsonb_functions.specs.ArraySets.{are_equal, difference, distinct, distinct_items}
+pub use Rattle.jsonb_functions.specs.ArraySets.{intersection}
 pub use Rattle.jsonb_functions.specs.ArraySets.{matched_array, matched_items, overlaps, some_shared}
 pub use Rattle.jsonb_functions.specs.ChosenSource.{FirstKept, kept_pairs, listed_trees}
 pub use Rattle.jsonb_functions.specs.Contains.{contained, contains_whole, has_top_key}
 pub use Rattle.jsonb_functions.specs.Contains.{items_contained, items_or_none, members_contained}
-pub use Rattle.jsonb_functions.specs.Contains.{some_tree}
+pub use Rattle.jsonb_functions.specs.Contains.{is_there, some_tree}
 pub use Rattle.jsonb_functions.specs.EditSource.{edit_operation, edited_along, here_of, made_size}
 pub use Rattle.jsonb_functions.specs.EditSource.{made_tree, operation_of, plan_size, what_size}
 pub use Rattle.jsonb_functions.specs.Edited.{before_if, can_wrap, count_done, edited, edited_whole}
@@ -68,3 +70,4 @@ pub use Rattle.jsonb_functions.specs.StripSource.{FirstStripped}
 pub use Rattle.jsonb_functions.specs.Stripped.{members_stripped, stripped}
 pub use Rattle.jsonb_functions.specs.TopKeys.{hash_of_key, item_hashes, member_hashes, text_hashes}
 pub use Rattle.jsonb_functions.specs.TopKeys.{top_hashes}
+pub use Rattle.jsonb_functions.specs.Weight.{maybe_weight, pair_weights, weight, weights}

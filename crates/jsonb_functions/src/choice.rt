@@ -46,14 +46,23 @@ pub fn sorted<'a>(alloc: Global, names: &[&'a str]) -> Result<Vec<&'a str>, Erro
 }
 
 /// Whether a member with this key is kept.
-#[tactic(auto, using(crate::proofs::PickLaws::search_finds))]
 #[inline(always)]
 pub fn is_kept(choice: Choice<'_>, key: &str) -> bool
     ensures { result ≡ keeps choice.entry.which (is_named choice.entry.names.now key.now) }
 {
-    let is_named = choice.names.binary_search(&key).is_ok();
+    let is_named = is_named(choice.names, key);
     match choice.which {
         Kept::Named => is_named,
         Kept::Others => !is_named,
     }
+}
+
+/// Whether a key is one of these names, which are in the order of their bytes.
+#[tactic(auto, using(crate::proofs::PickLaws::search_finds))]
+#[inline(always)]
+pub fn is_named(names: &[&str], key: &str) -> bool
+    requires { AreSorted names.now }
+    ensures { result ≡ is_named names.now key.now }
+{
+    names.binary_search(&key).is_ok()
 }

@@ -1,16 +1,18 @@
 //! Containment: whether all of one document is in another.
 
-ghost use Rattle.std.specs.Prelude.{◌≡◌, ◌<◌, ◌≤◌, ◌+◌, ◌*◌, ℕ, List, IfSome, IfNone, MatchOption};
-ghost use Rattle.std.specs.Prelude.{option_map};
-ghost use Rattle.jsonb_functions.specs.Words.{Ascend, FoundIn, contained, contains_whole};
-ghost use Rattle.jsonb_functions.specs.Words.{document_tree, has_top_key, items_contained};
-ghost use Rattle.jsonb_functions.specs.Words.{items_or_none, members_contained, nat_cmp, node_tree};
-ghost use Rattle.jsonb_functions.specs.Words.{object_of, pair_sizes, pairs_of, rest_pairs};
-ghost use Rattle.jsonb_functions.specs.Words.{rest_trees, size, sizes, slice_cmp, some_tree, text};
-ghost use Rattle.jsonb_functions.specs.Words.{trees_of, value_of_key};
+ghost use Rattle.std.specs.Prelude.{◌≡◌, ◌≢◌, ◌<◌, ◌≤◌, ◌+◌, ◌*◌, ℕ, List, false, length};
+ghost use Rattle.std.specs.Prelude.{IfSome, IfNone, MatchOption, option_map};
+ghost use Rattle.jsonb_functions.specs.Words.{Ascend, FoundIn, are_equal, contained};
+ghost use Rattle.jsonb_functions.specs.Words.{contains_whole, document_tree, extension_data};
+ghost use Rattle.jsonb_functions.specs.Words.{extension_of_item, has_top_key, items_contained};
+ghost use Rattle.jsonb_functions.specs.Words.{items_or_none, maybe_weight, members_contained};
+ghost use Rattle.jsonb_functions.specs.Words.{nat_cmp, node_tree, object_of, pair_weights};
+ghost use Rattle.jsonb_functions.specs.Words.{pairs_of, rest_pairs, rest_trees, slice_cmp};
+ghost use Rattle.jsonb_functions.specs.Words.{some_tree, text, trees_of, value_of_key, weight};
+ghost use Rattle.jsonb_functions.specs.Words.{weights};
 
 use crate::walk::{next_item, next_member};
-use jsonb::{Document, Items, Members, Node};
+use jsonb::{Document, ExtensionItem, ExtensionValue, Items, Members, Node};
 use std::cmp::Ordering;
 
 /// Whether the left document contains the right one. An object contains another if it has each of
@@ -31,24 +33,28 @@ pub fn contains(left: Document<'_>, right: Document<'_>) -> bool
 }
 
 /// Whether the left document contains the right one, as `contains` says, unless that takes more
-/// than so many steps. A step is a pair of values that are compared, or a member of an object that
-/// is searched. `None` if the steps do not suffice, which is so only if they are fewer than the
-/// product of both documents' sizes; the size is the number of values and keys.
+/// than so many steps. There is a step for each pair of values that are compared, and for each
+/// member that is passed in search of a key, up to the first whose key is not below it; and one for
+/// each byte of the keys of these members, and of two texts, or two binary or opaque values, that
+/// are compared and equally long. So `{"a":1}` in `{"a":1}` takes 4: for the objects, the member,
+/// its key and the numbers. `None` if the steps do not suffice, which is so only if they are fewer
+/// than the product of both documents' weights; the weight is the number of values and keys, and of
+/// the bytes of texts, keys, and binary and opaque values.
 #[tactic(auto, using(crate::proofs::StepLaws::found_some, crate::proofs::StepLaws::found_none))]
 pub fn contains_within(left: Document<'_>, right: Document<'_>, steps: usize) -> Option<bool>
     ensures some { IfSome result (λ is_contained. is_contained
         ≡ contains_whole (document_tree left.entry) (document_tree right.entry)) }
     ensures none { IfNone result
-        (steps < size (document_tree left.entry) * size (document_tree right.entry)) }
+        (steps < weight (document_tree left.entry) * weight (document_tree right.entry)) }
 {
     let mut steps = steps as u128;
     contains_counted(left, right, &mut steps)
 }
 
-// More steps than it takes: a document has more bytes than values and keys.
-#[tactic(auto, using(crate::proofs::StepLaws::sizes_below))]
+// More steps than it takes: a document has at least as many bytes as it has weight.
+#[tactic(auto, using(crate::proofs::WeightLaws::weights_below))]
 fn most_steps(left: Document<'_>, right: Document<'_>) -> u128
-    ensures { size (document_tree left.entry) * size (document_tree right.entry) ≤ result }
+    ensures { weight (document_tree left.entry) * weight (document_tree right.entry) ≤ result }
 {
     left.as_bytes().len() as u128 * right.as_bytes().len() as u128
 }
@@ -57,16 +63,17 @@ fn most_steps(left: Document<'_>, right: Document<'_>) -> u128
 fn contains_counted(left: Document<'_>, right: Document<'_>, steps: &mut u128) -> Option<bool>
     ensures { FoundIn result
         (contains_whole (document_tree left.entry) (document_tree right.entry))
-        (size (document_tree left.entry) * size (document_tree right.entry)) steps.old steps.new }
+        (weight (document_tree left.entry) * weight (document_tree right.entry))
+        steps.old steps.new }
 {
+    let wanted = right.value();
     if let Some(items) = left.items() {
-        let wanted = right.value();
         return match wanted {
             Node::Container(_) => contains_documents(left, right, steps),
             _ => has_item(items, wanted, steps),
         };
     }
-    contains_documents(left, right, steps)
+    contains_node(left.value(), wanted, steps)
 }
 
 /// Whether a key is there: a key of an object, a text that is an item of an array, or the text
@@ -109,21 +116,71 @@ fn take(steps: &mut u128, count: usize) -> Option<()>
 #[cycle(contains)]
 fn contains_node(left: Node<'_>, right: Node<'_>, steps: &mut u128) -> Option<bool>
     ensures { FoundIn result (contained (node_tree right.entry) (node_tree left.entry))
-        (size (node_tree left.entry) * size (node_tree right.entry)) steps.old steps.new }
+        (weight (node_tree left.entry) * weight (node_tree right.entry)) steps.old steps.new }
 {
     match (left, right) {
         (Node::Container(left), Node::Container(right)) => contains_documents(left, right, steps),
-        (left, right) => {
-            take(steps, 1)?;
-            Some(left == right)
+        _ => are_equal(left, right, steps),
+    }
+}
+
+// Whether two values are equal.
+fn are_equal(left: Node<'_>, right: Node<'_>, steps: &mut u128) -> Option<bool>
+    ensures { FoundIn result (are_equal (node_tree left.entry) (node_tree right.entry))
+        (weight (node_tree left.entry)) steps.old steps.new }
+{
+    take(steps, 1)?;
+    let Some(length) = compared_len(left, right) else {
+        return Some(false);
+    };
+    take(steps, length)?;
+    Some(left == right)
+}
+
+// How many bytes are compared of two texts, or of two binary or opaque values. `None` if one of
+// them is longer, so that they differ.
+fn compared_len(left: Node<'_>, right: Node<'_>) -> Option<usize>
+    ensures { MatchOption result (are_equal (node_tree left.entry) (node_tree right.entry) ≡ false)
+        (λ length. length < weight (node_tree left.entry)) }
+{
+    match (left, right) {
+        (Node::String(left), Node::String(right)) => common_len(left.as_bytes(), right.as_bytes()),
+        (Node::Extension(left), Node::Extension(right)) => {
+            common_len(data_of(left), data_of(right))
         }
+        _ => Some(0),
+    }
+}
+
+// The length of both slices, if it is the same.
+#[inline(always)]
+fn common_len(left: &[u8], right: &[u8]) -> Option<usize>
+    ensures { MatchOption result (length left.now ≢ length right.now)
+        (λ n. n ≡ length left.now) }
+{
+    if left.len() == right.len() {
+        Some(left.len())
+    } else {
+        None
+    }
+}
+
+// The bytes of a binary or opaque value; none of any other extension value.
+fn data_of<'a>(item: ExtensionItem<'a>) -> &'a [u8]
+    ensures { result.now ≡ extension_data (extension_of_item item.entry) }
+{
+    match item.as_extension_value() {
+        ExtensionValue::Binary(bytes) => bytes,
+        ExtensionValue::Opaque(opaque) => opaque.bytes(),
+        _ => &[],
     }
 }
 
 #[cycle(contains)]
 fn contains_documents(left: Document<'_>, right: Document<'_>, steps: &mut u128) -> Option<bool>
     ensures { FoundIn result (contained (document_tree right.entry) (document_tree left.entry))
-        (size (document_tree left.entry) * size (document_tree right.entry)) steps.old steps.new }
+        (weight (document_tree left.entry) * weight (document_tree right.entry))
+        steps.old steps.new }
 {
     take(steps, 1)?;
     if let (Some(_), Some(wanted)) = (left.items(), right.items()) {
@@ -141,8 +198,8 @@ fn contains_items(array: Document<'_>, mut wanted: Items<'_>, steps: &mut u128) 
     ensures { FoundIn result
         (items_contained (trees_of (rest_trees wanted.entry))
         (items_or_none (document_tree array.entry)))
-        (sizes (items_or_none (document_tree array.entry))
-        * sizes (trees_of (rest_trees wanted.entry)))
+        (weights (items_or_none (document_tree array.entry))
+        * weights (trees_of (rest_trees wanted.entry)))
         steps.old steps.new }
 {
     while let Some(item) = next_item(&mut wanted) {
@@ -162,7 +219,7 @@ fn contains_items(array: Document<'_>, mut wanted: Items<'_>, steps: &mut u128) 
 fn has_item(mut items: Items<'_>, wanted: Node<'_>, steps: &mut u128) -> Option<bool>
     ensures { FoundIn result
         (some_tree (λ t. contained (node_tree wanted.entry) t) (trees_of (rest_trees items.entry)))
-        (sizes (trees_of (rest_trees items.entry)) * size (node_tree wanted.entry))
+        (weights (trees_of (rest_trees items.entry)) * weight (node_tree wanted.entry))
         steps.old steps.new }
 {
     while let Some(item) = next_item(&mut items) {
@@ -187,13 +244,12 @@ fn contains_members(
     ensures { FoundIn result
         (members_contained (pairs_of (rest_pairs wanted.entry))
         (object_of (rest_pairs members.entry)))
-        (pair_sizes (pairs_of (rest_pairs members.entry))
-        + pair_sizes (pairs_of (rest_pairs members.entry))
-        * pair_sizes (pairs_of (rest_pairs wanted.entry))) steps.old steps.new }
+        (pair_weights (pairs_of (rest_pairs members.entry))
+        + pair_weights (pairs_of (rest_pairs members.entry))
+        * pair_weights (pairs_of (rest_pairs wanted.entry))) steps.old steps.new }
 {
-    take(steps, members.len())?;
     while let Some((name, value)) = next_member(&mut wanted) {
-        let Some(found) = value_at(&mut members, name) else {
+        let Some(found) = value_at(&mut members, name, steps)? else {
             return Some(false);
         };
         let is_contained = contains_node(found, value, steps)?;
@@ -205,26 +261,34 @@ fn contains_members(
 }
 
 // The value of a key among members in the order of their keys. Takes the members up to it; for all
-// later keys what is left has the same values.
-fn value_at<'a>(members: &mut Members<'a>, name: &str) -> Option<Node<'a>>
+// later keys what is left has the same values. `None` if the members weigh more than there are
+// steps.
+fn value_at<'a>(members: &mut Members<'a>, name: &str, steps: &mut u128) -> Option<Option<Node<'a>>>
     requires { Ascend (pairs_of (rest_pairs members.old)) }
-    ensures value { option_map node_tree result
-        ≡ value_of_key name.now (object_of (rest_pairs members.old)) }
-    ensures later { IfSome result (λ node. (k : List ℕ)
+    ensures value { IfSome result (λ found. option_map node_tree found
+        ≡ value_of_key name.now (object_of (rest_pairs members.old))) }
+    ensures later { IfSome result (λ found. IfSome found (λ node. (k : List ℕ)
         → slice_cmp nat_cmp name.now k ≡ Ordering.Less
         → value_of_key k (object_of (rest_pairs members.old))
-        ≡ value_of_key k (object_of (rest_pairs members.new))) }
-    ensures ascend { IfSome result (λ node. Ascend (pairs_of (rest_pairs members.new))) }
-    ensures size { IfSome result (λ node. size (node_tree node)
-        + pair_sizes (pairs_of (rest_pairs members.new))
-        < pair_sizes (pairs_of (rest_pairs members.old))) }
+        ≡ value_of_key k (object_of (rest_pairs members.new)))) }
+    ensures ascend { IfSome result (λ found. IfSome found (λ node.
+        Ascend (pairs_of (rest_pairs members.new)))) }
+    ensures weight { IfSome result (λ found. IfSome found (λ node. weight (node_tree node)
+        + pair_weights (pairs_of (rest_pairs members.new))
+        < pair_weights (pairs_of (rest_pairs members.old)))) }
+    ensures cost { IfSome result (λ found. steps.old + maybe_weight (option_map node_tree found)
+        + pair_weights (pairs_of (rest_pairs members.new))
+        ≤ steps.new + pair_weights (pairs_of (rest_pairs members.old))) }
+    ensures none { IfNone result
+        (steps.old < pair_weights (pairs_of (rest_pairs members.old))) }
 {
     while let Some((key, value)) = next_member(members) {
+        take(steps, 1 + key.len())?;
         match key.cmp(name) {
             Ordering::Less => (),
-            Ordering::Equal => return Some(value),
-            Ordering::Greater => return None,
+            Ordering::Equal => return Some(Some(value)),
+            Ordering::Greater => return Some(None),
         }
     }
-    None
+    Some(None)
 }

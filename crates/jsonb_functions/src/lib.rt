@@ -1,5 +1,5 @@
 //! Functions over documents: what is in them, edited and joined copies, and keys for an index. They
-//! work on documents that were checked, and none of them builds a value.
+//! walk documents that were checked in place, and make no value of one.
 #![tactic(auto)]
 
 mod array_sets;
@@ -12,6 +12,7 @@ mod filter;
 mod found;
 mod index;
 mod join;
+mod key_tests;
 mod keys;
 pub mod laws;
 mod marks;
@@ -37,6 +38,7 @@ pub use filter::{Comparison, Condition, holds};
 pub use found::get_path;
 pub use index::append_index_keys;
 pub use join::concat;
+pub use key_tests::{exists_all, exists_any};
 pub use keys::object_keys;
 pub use name_list::read_name_list;
 pub use names::steps_of_names;

@@ -12,9 +12,9 @@ use std::alloc::Global;
 
 /// The names in a list that is written as PostgreSQL writes an array of texts: `{a,0,"b c"}`. A
 /// name is between quotes, where `\` takes the next character as it is, or it is plain: not empty,
-/// not `NULL` in any case, and without braces, commas, quotes, backslashes and white space. `{}`
-/// has no names. `None` for any other text, such as one with a list in a list or an unquoted
-/// `NULL`. `OutOfMemory`, the only error, if an allocation fails.
+/// not `NULL` in any case, and without braces, commas, quotes, backslashes and the six white space
+/// characters of ASCII. `{}` has no names. `None` for any other text, such as one with a list in a
+/// list or an unquoted `NULL`. `OutOfMemory`, the only error, if an allocation fails.
 pub fn read_name_list(alloc: Global, text: &str) -> Result<Option<Vec<String>>, Error>
     ensures ok { IfOk result (λ read. (names : List (List ℕ)) → NameList text.now names
         ↔ (option_map names_of read ≡ Some names)) }

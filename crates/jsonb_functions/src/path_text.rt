@@ -16,14 +16,16 @@ use crate::digits::read_number;
 use crate::filter::{Comparison, Condition};
 use crate::path::Step;
 use crate::selection::{Bound, Selector};
-use jsonb::{Error, Node, NumberItem, Value, parse_value_with_exponents};
+use jsonb::layer::parse_scalar;
+use jsonb::{Error, Exponents, Node, NumberItem, Value};
 use std::alloc::Global;
 
 /// The path that a text gives: `$`, and then its steps. `.name` is the value of a key, and so is
-/// `."any name"`, if there are points, brackets or question marks in it; `[7]` is an item, `[#-1]`
-/// the last one and `[#]` none, past the last one; `[*]` is each item, `[0 to #-2]` the items from
-/// one to another, and `.*` each member's value. The keys are the text's bytes, without escapes. An
-/// index past 64 bits is the greatest of 64 bits.
+/// `."any name"`, if there are points, brackets or question marks in it; `[7]` is an item, also as
+/// `[007]`, `[#-1]` the last one, and `[#]`, or `[#-0]`, none, past the last one; `[*]` is each
+/// item, `[0 to #-2]` the items from one to another, and `.*` each member's value. The keys are the
+/// text's bytes, without escapes: `.*a` is the key `*a`. An index past 64 bits is the greatest of
+/// 64 bits.
 ///
 /// `?(@.price < 3)` keeps a value if what is at the end of the path that begins with `@` compares
 /// so with a literal, by the order of documents. The path has no wildcards, ranges and filters, and
@@ -448,7 +450,7 @@ fn read_scalar<'a>(alloc: Global, word: &str) -> Result<Option<Node<'a>>, Error>
         (λ node. IsLiteralWord word.now (node_tree node))) }
     ensures memory { IfErr result (λ e. e ≡ Error.OutOfMemory) }
 {
-    match parse_value_with_exponents(alloc, word) {
+    match parse_scalar(alloc, word, Exponents::Allowed) {
         Ok(value) => Ok(scalar_node(value)),
         Err(Error::InvalidJson) => Ok(None),
         Err(error) => Err(error),

@@ -11,9 +11,9 @@ use jsonb::{Document, Error, Node, Number};
 use std::alloc::Global;
 
 /// The path that a document gives: an array of strings, which are keys, and whole numbers of 64
-/// bits, which are indexes; of those less than 0, -1 is the last item. The keys are the document's
-/// bytes. `None` if the document is anything else; `OutOfMemory`, the only error, if an allocation
-/// fails.
+/// bits, which are indexes; of those less than 0, -1 is the last item. A number that is stored as a
+/// decimal is no index, also one without digits after its point. The keys are the document's bytes.
+/// `None` if the document is anything else; `OutOfMemory`, the only error, if an allocation fails.
 pub fn read_path<'a>(alloc: Global, document: Document<'a>) -> Result<Option<Vec<Step<'a>>>, Error>
     ensures ok { IfOk result (λ path. option_map (λ steps. map step_view steps.items) path
         ≡ path_in (document_tree document.entry)) }

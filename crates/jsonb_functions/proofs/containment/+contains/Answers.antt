@@ -1,31 +1,34 @@
 use Rattle.std.proofs.Common.{arith, ap, sym, ◌∙◌, refl, rules, ◌+◌, ◌*◌}
-use Rattle.jsonb_codec.specs.Depth.{size, pair_sizes}
 use Rattle.jsonb.specs.Document.{document_tree}
 use Rattle.jsonb.specs.EntryTrees.{rest_trees, rest_pairs}
 use Rattle.jsonb.specs.Node.{node_tree, pairs_of, object_of}
 use Rattle.jsonb_functions.specs.Contains.{contained}
+use Rattle.jsonb_functions.specs.Weight.{weight, pair_weights}
 use Rattle.jsonb_functions.proofs.WalkLaws.{array_items, object_members, arrays_contained}
-use Rattle.jsonb_functions.proofs.WalkLaws.{members_within, items_sizes, members_sizes}
-use Rattle.jsonb_functions.proofs.WalkLaws.{first_item, items_within, array_size, some_first}
+use Rattle.jsonb_functions.proofs.WalkLaws.{members_within, first_item, some_first}
 use Rattle.jsonb_functions.proofs.WalkLaws.{some_later, some_none, all_none, no_item}
+use Rattle.jsonb_functions.proofs.WalkLaws.{scalars_equal}
 use Rattle.jsonb_functions.proofs.WalkLaws.{member_lacking, member_differs, members_none}
 use Rattle.jsonb_functions.proofs.KeyOrder.{document_ascends, first_member, ascend_on}
-use Rattle.jsonb_functions.proofs.StepLaws.{found_after, gave_up, one_step, product_more}
+use Rattle.jsonb_functions.proofs.StepLaws.{found_after, found_within, gave_up, one_of_both}
+use Rattle.jsonb_functions.proofs.StepLaws.{one_step, product_more}
 use Rattle.jsonb_functions.proofs.StepLaws.{product_parts}
 use Rattle.jsonb_functions.proofs.StepLaws.{rows_on, rows_end, columns_on, columns_end}
-use Rattle.jsonb_functions.proofs.StepLaws.{members_on, members_end, members_counted}
+use Rattle.jsonb_functions.proofs.StepLaws.{members_on, members_end}
+use Rattle.jsonb_functions.proofs.WeightLaws.{array_weight, items_weights, items_within}
+use Rattle.jsonb_functions.proofs.WeightLaws.{members_weights}
 use Rattle.jsonb_functions.proofs.containment.+contains.Goals as goal
 
 pub contains_documents-contains_items-requires : goal.contains_documents-contains_items-requires
 contains_documents-contains_items-requires t c =
     let whole = array_items (document_tree c.args.right) (rest_trees c.in-Some-Some.wanted)
     c.in-Some-Some.ensures' in
-    (omega (arith, ap size whole), tt)
+    (omega (arith, ap weight whole), tt)
 
 pub contains_documents-returns-in_err-take : goal.contains_documents-returns-in_err-take
 contains_documents-returns-in_err-take t c =
     let most = one_step (document_tree c.args.left) (document_tree c.args.right) in
-    gave_up _ _ (size (document_tree c.args.left) * size (document_tree c.args.right))
+    gave_up _ _ (weight (document_tree c.args.left) * weight (document_tree c.args.right))
     c.args.steps.now _ (search rules) (omega (arith, c.in_err-take.ensures, most))
 
 pub contains_documents-returns-in-Some-Some : goal.contains_documents-returns-in-Some-Some
@@ -35,7 +38,7 @@ contains_documents-returns-in-Some-Some t c =
     let right = array_items (document_tree c.args.right) (rest_trees c.in-Some-Some.wanted)
     c.in-Some-Some.ensures' in
     found_after _ _ _ 1 _ _ _ _ _ (sym (arrays_contained _ _ _ _ left right)) c.in_ok-take.ensures
-    (product_more _ _ _ _ (array_size _ _ left) (ap size right))
+    (product_more _ _ _ _ (array_weight _ _ left) (ap weight right))
     c.contains_items.ensures
 
 pub contains_documents-returns-in_default-2 : goal.contains_documents-returns-in_default-2
@@ -54,8 +57,8 @@ contains_items-has_item-requires t c =
     c.in-Some-items.ensures in (
       omega (
         arith,
-        ap size whole,
-        items_sizes (rest_trees c.loop-item.wanted) (node_tree c.in-Some.item)
+        ap weight whole,
+        items_weights (rest_trees c.loop-item.wanted) (node_tree c.in-Some.item)
             (rest_trees c.next_item.new.items) c.in-Some.ensures.steps,
         c.loop-item.invariant.less,
       ),
@@ -67,8 +70,8 @@ contains_items-returns-in_err-is_there t c =
     let whole = array_items (document_tree c.args.array) (rest_trees c.in-Some-items.items)
     c.in-Some-items.ensures in
     gave_up _ _ _ _ _ (search rules)
-    (rows_end _ _ (size (node_tree c.in-Some.item)) _ _ _ _ _ (items_within _ _ whole)
-    (items_sizes _ _ _ c.in-Some.ensures.steps) c.loop-item.invariant.spent
+    (rows_end _ _ (weight (node_tree c.in-Some.item)) _ _ _ _ _ (items_within _ _ whole)
+    (items_weights _ _ _ c.in-Some.ensures.steps) c.loop-item.invariant.spent
     c.in_err-is_there.ensures)
 
 pub contains_items-returns-then-not-is_there : goal.contains_items-returns-then-not-is_there
@@ -79,8 +82,8 @@ contains_items-returns-then-not-is_there t c =
     (node_tree c.in-Some.item) (document_tree c.args.array) (rest_trees c.in-Some-items.items)
     c.in-Some.ensures.steps whole in
     let found = c.in_ok-is_there.ensures in
-    let on = rows_on _ _ (size (node_tree c.in-Some.item)) _ _ _ _ _ _ (items_within _ _ whole)
-    (items_sizes _ _ _ c.in-Some.ensures.steps) c.loop-item.invariant.spent found.1 in (
+    let on = rows_on _ _ (weight (node_tree c.in-Some.item)) _ _ _ _ _ _ (items_within _ _ whole)
+    (items_weights _ _ _ c.in-Some.ensures.steps) c.loop-item.invariant.spent found.1 in (
       rw (c.loop-item.invariant.decides, step, ← found.0, c.if-not-is_there.true) refl,
       omega (arith, on),
     )
@@ -108,11 +111,11 @@ contains_items-loop-item-preserved t c =
     let found = c.in_ok-is_there.ensures in
     record {
       decides = rw (c.loop-item.invariant.decides, step, ← found.0, c.if-not-is_there.false) refl;
-      spent = rows_on _ _ (size (node_tree c.in-Some.item)) _ _ _ _ _ _ (items_within _ _ whole)
-          (items_sizes _ _ _ c.in-Some.ensures.steps) c.loop-item.invariant.spent found.1;
+      spent = rows_on _ _ (weight (node_tree c.in-Some.item)) _ _ _ _ _ _ (items_within _ _ whole)
+          (items_weights _ _ _ c.in-Some.ensures.steps) c.loop-item.invariant.spent found.1;
       less = omega (
         arith,
-        items_sizes (rest_trees c.loop-item.wanted) (node_tree c.in-Some.item)
+        items_weights (rest_trees c.loop-item.wanted) (node_tree c.in-Some.item)
             (rest_trees c.next_item.new.items) c.in-Some.ensures.steps,
         c.loop-item.invariant.less,
       );
@@ -121,15 +124,15 @@ contains_items-loop-item-preserved t c =
 pub has_item-returns-in_err-is_contained : goal.has_item-returns-in_err-is_contained
 has_item-returns-in_err-is_contained t c =
     gave_up _ _ _ _ _ (search rules)
-    (columns_end (size (node_tree c.args.wanted)) (size (node_tree c.in-Some.item)) _ _ _ _ _
-    (items_sizes _ _ _ c.in-Some.ensures.steps) c.loop-item.invariant.spent
+    (columns_end (weight (node_tree c.args.wanted)) (weight (node_tree c.in-Some.item)) _ _ _ _ _
+    (items_weights _ _ _ c.in-Some.ensures.steps) c.loop-item.invariant.spent
     c.in_err-is_contained.ensures)
 
 pub has_item-returns-then-is_contained : goal.has_item-returns-then-is_contained
 has_item-returns-then-is_contained t c =
     let found = c.in_ok-is_contained.ensures in
-    let on = columns_on (size (node_tree c.args.wanted)) (size (node_tree c.in-Some.item)) _ _ _ _ _
-    _ (items_sizes _ _ _ c.in-Some.ensures.steps) c.loop-item.invariant.spent found.1 in (
+    let on = columns_on (weight (node_tree c.args.wanted)) (weight (node_tree c.in-Some.item)) _ _ _
+    _ _ _ (items_weights _ _ _ c.in-Some.ensures.steps) c.loop-item.invariant.spent found.1 in (
       some_first (λ x. contained (node_tree c.args.wanted) x) _ _ _ _ _
           c.loop-item.invariant.decides c.in-Some.ensures.steps found.0 c.if-is_contained.true,
       omega (arith, on),
@@ -148,11 +151,11 @@ has_item-loop-item-preserved t c =
     record {
       decides = some_later (λ x. contained (node_tree c.args.wanted) x) _ _ _ _ _
           c.loop-item.invariant.decides c.in-Some.ensures.steps found.0 c.if-is_contained.false;
-      spent = columns_on (size (node_tree c.args.wanted)) (size (node_tree c.in-Some.item)) _ _ _ _
-          _ _ (items_sizes _ _ _ c.in-Some.ensures.steps) c.loop-item.invariant.spent found.1;
+      spent = columns_on (weight (node_tree c.args.wanted)) (weight (node_tree c.in-Some.item)) _ _
+          _ _ _ _ (items_weights _ _ _ c.in-Some.ensures.steps) c.loop-item.invariant.spent found.1;
       less = omega (
         arith,
-        items_sizes (rest_trees c.loop-item.items) (node_tree c.in-Some.item)
+        items_weights (rest_trees c.loop-item.items) (node_tree c.in-Some.item)
             (rest_trees c.next_item.new.items) c.in-Some.ensures.steps,
         c.loop-item.invariant.less,
       );
@@ -165,7 +168,7 @@ contains_documents-contains_members-requires t c =
     (rest_pairs c.in-Some-Some-2.members) c.in-Some-Some-2.ensures in
     let right = object_members (document_tree c.args.right)
     (rest_pairs c.in-Some-Some-2.wanted) c.in-Some-Some-2.ensures' in (
-      omega (arith, ap size left, ap size right),
+      omega (arith, ap weight left, ap weight right),
       (
         document_ascends c.args.left (pairs_of (rest_pairs c.in-Some-Some-2.members)) left,
         document_ascends c.args.right (pairs_of (rest_pairs c.in-Some-Some-2.wanted)) right,
@@ -179,63 +182,59 @@ contains_documents-returns-in-Some-Some-2 t c =
     let right = object_members (document_tree c.args.right)
     (rest_pairs c.in-Some-Some-2.wanted) c.in-Some-Some-2.ensures' in
     found_after _ _ _ 1 _ _ _ _ _ (members_within _ _ _ _ left right) c.in_ok-take.ensures
-    (product_parts _ _ _ _ (ap size left) (ap size right)) c.contains_members.ensures
-
-pub contains_members-returns-in_err-take : goal.contains_members-returns-in_err-take
-contains_members-returns-in_err-take t c =
-    gave_up _ _ (pair_sizes (pairs_of (rest_pairs c.args.members))
-    + pair_sizes (pairs_of (rest_pairs c.args.members))
-    * pair_sizes (pairs_of (rest_pairs c.args.wanted))) c.args.steps.now _ (search rules)
-    (omega (
-      arith,
-      c.in_err-take.ensures,
-      c.len.ensures,
-      members_counted (rest_pairs c.args.members),
-    ))
+    (product_parts _ _ _ _ (ap weight left) (ap weight right)) c.contains_members.ensures
 
 pub contains_members-loop-name-init : goal.contains_members-loop-name-init
 contains_members-loop-name-init t c = record {
   decides = refl;
-  spent = omega (
-    arith,
-    c.in_ok-take.ensures,
-    c.len.ensures,
-    members_counted (rest_pairs c.args.members),
-  );
+  spent = omega arith;
   members = c.requires.members;
   wanted = c.requires.wanted;
   less = omega arith;
   fewer = omega arith;
 }
 
-pub contains_members-returns-in_default-value_at : goal.contains_members-returns-in_default-value_at
-contains_members-returns-in_default-value_at t c = (
+pub contains_members-returns-in_err-found : goal.contains_members-returns-in_err-found
+contains_members-returns-in_err-found t c =
+    gave_up _ _ (pair_weights (pairs_of (rest_pairs c.args.members))
+    + pair_weights (pairs_of (rest_pairs c.args.members))
+    * pair_weights (pairs_of (rest_pairs c.args.wanted))) c.args.steps.now _ (search rules)
+    (omega (arith, c.in_err-found.ensures.none, c.loop-name.invariant.spent))
+
+pub contains_members-returns-in_default-2 : goal.contains_members-returns-in_default-2
+contains_members-returns-in_default-2 t c = (
   member_lacking _ _ _ _ _ _ c.loop-name.invariant.decides c.in-Some.ensures.steps
-      c.in_default-value_at.ensures.value,
-  omega (arith, c.loop-name.invariant.spent),
+      (rw c.in_default-2.is at c.in_ok-found.ensures.value),
+  omega (
+    arith,
+    rw c.in_default-2.is at c.in_ok-found.ensures.cost,
+    c.loop-name.invariant.spent,
+  ),
 )
 
 pub contains_members-returns-in_err-is_contained : goal.contains_members-returns-in_err-is_contained
 contains_members-returns-in_err-is_contained t c =
-    let found = c.in-Some-value_at in
+    let lighter = rw c.in-Some-2.is at c.in_ok-found.ensures.weight in
     gave_up _ _ _ _ _ (search rules)
-    (members_end _ (size (node_tree found.found)) (size (node_tree c.in-Some.value)) _ _ _ _ _
-    (members_sizes _ _ _ _ c.in-Some.ensures.steps)
-    (omega (arith, found.ensures.size, c.loop-name.invariant.fewer))
-    c.loop-name.invariant.spent c.in_err-is_contained.ensures)
+    (members_end (pair_weights (pairs_of (rest_pairs c.args.members)))
+    (weight (node_tree c.in-Some-2.found)) (weight (node_tree c.in-Some.value)) _ _ _ _ _ _ _ _ _
+    (members_weights _ _ _ _ c.in-Some.ensures.steps)
+    (omega (arith, lighter, c.loop-name.invariant.fewer))
+    c.loop-name.invariant.spent (rw c.in-Some-2.is at c.in_ok-found.ensures.cost)
+    c.in_err-is_contained.ensures)
 
 pub contains_members-returns-then-not-is_contained :
     goal.contains_members-returns-then-not-is_contained
 contains_members-returns-then-not-is_contained t c =
-    let found = c.in-Some-value_at in
     let counted = c.in_ok-is_contained.ensures in
-    let on = members_on (pair_sizes (pairs_of (rest_pairs c.args.members)))
-    (size (node_tree found.found)) (size (node_tree c.in-Some.value)) _ _ _ _ _ _
-    (members_sizes _ _ _ _ c.in-Some.ensures.steps)
-    (omega (arith, found.ensures.size, c.loop-name.invariant.fewer))
-    c.loop-name.invariant.spent counted.1 in (
+    let lighter = rw c.in-Some-2.is at c.in_ok-found.ensures.weight in
+    let on = members_on (pair_weights (pairs_of (rest_pairs c.args.members)))
+    (weight (node_tree c.in-Some-2.found)) (weight (node_tree c.in-Some.value)) _ _ _ _ _ _ _ _ _ _
+    (members_weights _ _ _ _ c.in-Some.ensures.steps)
+    (omega (arith, lighter, c.loop-name.invariant.fewer))
+    c.loop-name.invariant.spent (rw c.in-Some-2.is at c.in_ok-found.ensures.cost) counted.1 in (
       member_differs _ _ _ _ _ _ _ _ c.loop-name.invariant.decides c.in-Some.ensures.steps
-          found.ensures.value counted.0 c.if-not-is_contained.true,
+          (rw c.in-Some-2.is at c.in_ok-found.ensures.value) counted.0 c.if-not-is_contained.true,
       omega (arith, on),
     )
 
@@ -251,27 +250,33 @@ contains_members-loop-name-preserved t c =
     let others = rest_pairs c.next_member.new.members in
     let name = c.in-Some.name.now in
     let first = node_tree c.in-Some.value in
-    let found = c.in-Some-value_at in
+    let found = node_tree c.in-Some-2.found in
+    let lighter = rw c.in-Some-2.is at c.in_ok-found.ensures.weight in
     let counted = c.in_ok-is_contained.ensures in
     record {
       decides = c.loop-name.invariant.decides
           ∙ first_member wanted others name first (object_of (rest_pairs c.loop-name.members))
-          (object_of (rest_pairs c.value_at.new.members)) (node_tree found.found)
-          c.in-Some.ensures.steps found.ensures.value
+          (object_of (rest_pairs c.value_at.new.members)) found
+          c.in-Some.ensures.steps (rw c.in-Some-2.is at c.in_ok-found.ensures.value)
           (sym (counted.0) ∙ c.if-not-is_contained.false) c.loop-name.invariant.wanted
-          found.ensures.later;
-      spent = members_on (pair_sizes (pairs_of (rest_pairs c.args.members)))
-          (size (node_tree found.found)) (size first) _ _ _ _ _ _
-          (members_sizes wanted name first others c.in-Some.ensures.steps)
-          (omega (arith, found.ensures.size, c.loop-name.invariant.fewer))
-          c.loop-name.invariant.spent counted.1;
-      members = found.ensures.ascend;
+          (rw c.in-Some-2.is at c.in_ok-found.ensures.later);
+      spent = members_on (pair_weights (pairs_of (rest_pairs c.args.members)))
+          (weight found) (weight first) _ _ _ _ _ _ _ _ _ _
+          (members_weights wanted name first others c.in-Some.ensures.steps)
+          (omega (arith, lighter, c.loop-name.invariant.fewer))
+          c.loop-name.invariant.spent (rw c.in-Some-2.is at c.in_ok-found.ensures.cost) counted.1;
+      members = rw c.in-Some-2.is at c.in_ok-found.ensures.ascend;
       wanted = ascend_on wanted others name first c.in-Some.ensures.steps
           c.loop-name.invariant.wanted;
       less = omega (
         arith,
-        members_sizes wanted name first others c.in-Some.ensures.steps,
+        members_weights wanted name first others c.in-Some.ensures.steps,
         c.loop-name.invariant.less,
       );
-      fewer = omega (arith, found.ensures.size, c.loop-name.invariant.fewer);
+      fewer = omega (arith, lighter, c.loop-name.invariant.fewer);
     }
+
+pub contains_node-returns-in_default : goal.contains_node-returns-in_default
+contains_node-returns-in_default t c =
+    found_within _ _ _ _ _ _ _ (scalars_equal c.args.left c.args.right (search rules))
+    (one_of_both (node_tree c.args.left) (node_tree c.args.right)) c.are_equal.ensures

@@ -1,33 +1,34 @@
 -- Each call goes to smaller values, and what is left of a walk decides as the whole does.
 use Rattle.std.proofs.Common.{◌≡◌, ◌+◌, ◌*◌, ◌≤◌, length}
 use Rattle.jsonb_value.specs.Value.{trees_of}
-use Rattle.jsonb_codec.specs.Depth.{size, sizes, pair_sizes}
 use Rattle.jsonb.specs.Document.{document_tree}
 use Rattle.jsonb.specs.EntryTrees.{rest_trees, rest_pairs}
 use Rattle.jsonb_value.specs.Tree.{Ascend}
 use Rattle.jsonb.specs.Node.{node_tree, pairs_of, object_of}
 use Rattle.jsonb_functions.specs.Contains.{contained, items_contained, some_tree, members_contained}
 use Rattle.jsonb_functions.specs.Contains.{items_or_none}
+use Rattle.jsonb_functions.specs.Weight.{weight, weights, pair_weights}
 use Rattle.jsonb_functions.proofs.containment.+contains.Given as goal
 
 abbrev pub decreases-contains_node : goal.decreases-contains_node
-decreases-contains_node l = 4 * (size (node_tree l.left) + size (node_tree l.right)) + 2
+decreases-contains_node l = 4 * (weight (node_tree l.left) + weight (node_tree l.right)) + 2
 
 abbrev pub decreases-contains_documents : goal.decreases-contains_documents
 decreases-contains_documents l =
-    4 * (size (document_tree l.left) + size (document_tree l.right)) + 1
+    4 * (weight (document_tree l.left) + weight (document_tree l.right)) + 1
 
 abbrev pub decreases-contains_items : goal.decreases-contains_items
 decreases-contains_items l =
-    4 * (size (document_tree l.array) + sizes (trees_of (rest_trees l.wanted))) + 3
+    4 * (weight (document_tree l.array) + weights (trees_of (rest_trees l.wanted))) + 3
 
 abbrev pub decreases-has_item : goal.decreases-has_item
-decreases-has_item l = 4 * (sizes (trees_of (rest_trees l.items)) + size (node_tree l.wanted)) + 3
+decreases-has_item l =
+    4 * (weights (trees_of (rest_trees l.items)) + weight (node_tree l.wanted)) + 3
 
 abbrev pub decreases-contains_members : goal.decreases-contains_members
 decreases-contains_members l =
-    4 * (pair_sizes (pairs_of (rest_pairs l.members)) + pair_sizes (pairs_of (rest_pairs l.wanted)))
-    + 3
+    4 * (pair_weights (pairs_of (rest_pairs l.members))
+    + pair_weights (pairs_of (rest_pairs l.wanted))) + 3
 
 abbrev pub invariant-contains_items-loop-item : goal.invariant-contains_items-loop-item
 invariant-contains_items-loop-item l = record {
@@ -35,11 +36,12 @@ invariant-contains_items-loop-item l = record {
       (items_or_none (document_tree l.fn.array))
       ≡ items_contained (trees_of (rest_trees l.wanted)) (items_or_none (document_tree l.fn.array));
   spent : l.fn.steps
-      + sizes (items_or_none (document_tree l.fn.array)) * sizes (trees_of (rest_trees l.wanted))
+      + weights (items_or_none (document_tree l.fn.array))
+      * weights (trees_of (rest_trees l.wanted))
       ≤ l.steps
-      + sizes (items_or_none (document_tree l.fn.array))
-      * sizes (trees_of (rest_trees l.fn.wanted));
-  less : sizes (trees_of (rest_trees l.wanted)) ≤ sizes (trees_of (rest_trees l.fn.wanted));
+      + weights (items_or_none (document_tree l.fn.array))
+      * weights (trees_of (rest_trees l.fn.wanted));
+  less : weights (trees_of (rest_trees l.wanted)) ≤ weights (trees_of (rest_trees l.fn.wanted));
 }
 
 abbrev pub decreases-contains_items-loop-item : goal.decreases-contains_items-loop-item
@@ -49,9 +51,9 @@ abbrev pub invariant-has_item-loop-item : goal.invariant-has_item-loop-item
 invariant-has_item-loop-item l = record {
   decides : some_tree (λ t. contained (node_tree l.fn.wanted) t) (trees_of (rest_trees l.fn.items))
       ≡ some_tree (λ t. contained (node_tree l.fn.wanted) t) (trees_of (rest_trees l.items));
-  spent : l.fn.steps + sizes (trees_of (rest_trees l.items)) * size (node_tree l.fn.wanted)
-      ≤ l.steps + sizes (trees_of (rest_trees l.fn.items)) * size (node_tree l.fn.wanted);
-  less : sizes (trees_of (rest_trees l.items)) ≤ sizes (trees_of (rest_trees l.fn.items));
+  spent : l.fn.steps + weights (trees_of (rest_trees l.items)) * weight (node_tree l.fn.wanted)
+      ≤ l.steps + weights (trees_of (rest_trees l.fn.items)) * weight (node_tree l.fn.wanted);
+  less : weights (trees_of (rest_trees l.items)) ≤ weights (trees_of (rest_trees l.fn.items));
 }
 
 abbrev pub decreases-has_item-loop-item : goal.decreases-has_item-loop-item
@@ -63,17 +65,18 @@ invariant-contains_members-loop-name l = record {
       (object_of (rest_pairs l.fn.members))
       ≡ members_contained (pairs_of (rest_pairs l.wanted)) (object_of (rest_pairs l.members));
   spent : l.fn.steps
-      + pair_sizes (pairs_of (rest_pairs l.fn.members))
-      * pair_sizes (pairs_of (rest_pairs l.wanted))
-      ≤ l.steps + (pair_sizes (pairs_of (rest_pairs l.fn.members))
-      + pair_sizes (pairs_of (rest_pairs l.fn.members))
-      * pair_sizes (pairs_of (rest_pairs l.fn.wanted)));
+      + pair_weights (pairs_of (rest_pairs l.members))
+      + pair_weights (pairs_of (rest_pairs l.fn.members))
+      * pair_weights (pairs_of (rest_pairs l.wanted))
+      ≤ l.steps + (pair_weights (pairs_of (rest_pairs l.fn.members))
+      + pair_weights (pairs_of (rest_pairs l.fn.members))
+      * pair_weights (pairs_of (rest_pairs l.fn.wanted)));
   members : Ascend (pairs_of (rest_pairs l.members));
   wanted : Ascend (pairs_of (rest_pairs l.wanted));
-  less : pair_sizes (pairs_of (rest_pairs l.wanted))
-      ≤ pair_sizes (pairs_of (rest_pairs l.fn.wanted));
-  fewer : pair_sizes (pairs_of (rest_pairs l.members))
-      ≤ pair_sizes (pairs_of (rest_pairs l.fn.members));
+  less : pair_weights (pairs_of (rest_pairs l.wanted))
+      ≤ pair_weights (pairs_of (rest_pairs l.fn.wanted));
+  fewer : pair_weights (pairs_of (rest_pairs l.members))
+      ≤ pair_weights (pairs_of (rest_pairs l.fn.members));
 }
 
 abbrev pub decreases-contains_members-loop-name : goal.decreases-contains_members-loop-name
