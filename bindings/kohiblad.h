@@ -13,13 +13,21 @@
  * Each call that walks a document takes a depth, and looks no deeper: to it a document that nests
  * deeper is not a document. Give the depth for which the thread has stack (see STACK). Bytes that
  * were checked before, by kohiblad_check, need no limit again: SIZE_MAX is none, since bytes do not
- * nest deeper than they are many.
+ * nest deeper than they are many. The depth counts for each document that goes in: a path and names
+ * are arrays, so with the depth 0 each of them is refused.
  *
  * RESULTS that are bytes are written as snprintf writes: `out` has room for `room` bytes, and
  * `*length` is set to the number of bytes that the result has, also if they do not fit. Then the
  * status is KOHIBLAD_NO_ROOM and `out` is untouched, and the call can be repeated with more room;
  * `room` 0 gives the length alone. With every other status but KOHIBLAD_OK, `out` is untouched and
  * `*length` is 0. Texts are UTF-8, without a zero byte at the end.
+ *
+ * ORDER: if a call has several reasons to refuse, KOHIBLAD_OVERLAP comes first. Then come texts,
+ * keys and names that are not UTF-8, in calls with a depth bytes that are not documents within it,
+ * what is of another kind, what is past a limit of the format, and last KOHIBLAD_NO_ROOM. The calls
+ * that differ say so: kohiblad_parse, kohiblad_text_fault, kohiblad_build_object and kohiblad_sort.
+ * KOHIBLAD_OUT_OF_MEMORY comes after the tests for UTF-8 and documents, and in place of any status
+ * that would be found later.
  *
  * OWNERSHIP: everything belongs to the caller. No call keeps a pointer, and none hands memory out.
  * What a call writes must lie apart from its input, and from all else that it writes. If it does
@@ -35,14 +43,24 @@
  *
  * STACK: calls with a depth recurse as deep as the document nests, up to that depth.
  * KOHIBLAD_LEVEL_STACK bytes for each level, and KOHIBLAD_CALL_STACK beside them, are enough: 64
- * levels need 72 KB, and 1,000 levels 1,008 KB. kohiblad_edit takes KOHIBLAD_EDIT_LEVEL_STACK bytes
- * for each level of its result, which may nest as deep as the path is long and the value nests
- * together, also where these are within the depth; the result of kohiblad_concat may nest one level
- * deeper than that. parse and text_fault do not recurse, but the depth given to kohiblad_parse is
- * also how deep its document nests. The calls without a depth do not recurse.
+ * levels need 72 KB, and 1,000 levels 1,008 KB. Most calls need fewer bytes for each level (these
+ * were measured and rounded up, so that 1,000 levels need 258 KB in kohiblad_check):
+ *
+ *     256 bytes: check, is_canonical, build_array, build_object, exists, object_keys, top_keys,
+ *                get_path, path_in
+ *     320 bytes: print, pretty, key, key_cut, member_key, select
+ *     448 bytes: canonical, strip_nulls, index_keys
+ *     768 bytes: compare, sort, pick, array_distinct, array_intersection, array_except,
+ *                array_overlap
+ *
+ * kohiblad_edit takes KOHIBLAD_EDIT_LEVEL_STACK bytes for each level of its result, which may nest
+ * as deep as the path is long and the value nests together, also where these are within the depth;
+ * the result of kohiblad_concat may nest one level deeper than that. parse and text_fault do not
+ * recurse, but the depth given to kohiblad_parse is also how deep its document nests. The calls
+ * without a depth do not recurse.
  *
  * NULL is allowed for bytes, texts, offsets, out and order whose length is 0, and for `key` of
- * kohiblad_next. A `length` and a cursor are never null.
+ * kohiblad_next. A `length`, a `count`, a cursor and `value` of kohiblad_next are never null.
  *
  * OTHER LANGUAGES: the functions below are inline. They replace null and refuse overlaps, and then
  * call the library's export of the same name. A caller that loads the library by itself calls the
@@ -206,6 +224,61 @@ static inline uint32_t kohiblad_version(void) KOHIBLAD_INLINE("kohiblad_version"
 static inline uint32_t kohiblad_status_name(uint32_t status, uint8_t *out, size_t room,
     size_t *length) KOHIBLAD_INLINE("kohiblad_status_name");
 
+/* The name of a status, as kohiblad_status_name copies it, or `Unknown` for other numbers: a text
+ * that stays, with a zero byte at its end. */
+static inline const char *kohiblad_status_text(uint32_t status) {
+    switch (status) {
+    case KOHIBLAD_OK: return "Ok";
+    case KOHIBLAD_INVALID_EOF: return "InvalidEOF";
+    case KOHIBLAD_INVALID_JSONB: return "InvalidJsonb";
+    case KOHIBLAD_INVALID_JSONB_HEADER: return "InvalidJsonbHeader";
+    case KOHIBLAD_INVALID_JSONB_JENTRY: return "InvalidJsonbJEntry";
+    case KOHIBLAD_INVALID_JSONB_NUMBER: return "InvalidJsonbNumber";
+    case KOHIBLAD_INVALID_JSONB_EXTENSION: return "InvalidJsonbExtension";
+    case KOHIBLAD_INVALID_UTF8: return "InvalidUtf8";
+    case KOHIBLAD_OBJECT_DUPLICATE_KEY: return "ObjectDuplicateKey";
+    case KOHIBLAD_INVALID_JSON: return "InvalidJson";
+    case KOHIBLAD_OUT_OF_MEMORY: return "OutOfMemory";
+    case KOHIBLAD_NO_ROOM: return "NoRoom";
+    case KOHIBLAD_NONE: return "None";
+    case KOHIBLAD_TOO_DEEP: return "TooDeep";
+    case KOHIBLAD_OTHER_KIND: return "OtherKind";
+    case KOHIBLAD_PAST_RANGE: return "PastRange";
+    case KOHIBLAD_OVERLAP: return "Overlap";
+    case KOHIBLAD_BAD_NUMBER: return "BadNumber";
+    case KOHIBLAD_TOO_MANY_STEPS: return "TooManySteps";
+    default: return "Unknown";
+    }
+}
+
+/* Why there is no result, in a few words, to be put after what was tried: the reason of a status,
+ * also of that of a fault in a text. */
+static inline const char *kohiblad_status_reason(uint32_t status) {
+    switch (status) {
+    case KOHIBLAD_OK: return "the result is there";
+    case KOHIBLAD_INVALID_EOF: return "the bytes are cut, or rows are outside them";
+    case KOHIBLAD_INVALID_JSONB:
+        return "no document within the depth, or past a limit of the format";
+    case KOHIBLAD_INVALID_JSONB_HEADER: return "the header is of no kind";
+    case KOHIBLAD_INVALID_JSONB_JENTRY: return "entries have no such type";
+    case KOHIBLAD_INVALID_JSONB_NUMBER: return "the payload is not that of a number";
+    case KOHIBLAD_INVALID_JSONB_EXTENSION: return "there is no such extension value";
+    case KOHIBLAD_INVALID_UTF8: return "the text is not UTF-8";
+    case KOHIBLAD_OBJECT_DUPLICATE_KEY: return "a key comes twice";
+    case KOHIBLAD_INVALID_JSON: return "the text is no JSON";
+    case KOHIBLAD_OUT_OF_MEMORY: return "an allocation failed";
+    case KOHIBLAD_NO_ROOM: return "the result is longer than the room for it";
+    case KOHIBLAD_NONE: return "there is no such item, member, key or child";
+    case KOHIBLAD_TOO_DEEP: return "the text nests deeper than the depth";
+    case KOHIBLAD_OTHER_KIND: return "it is of another kind than the call takes";
+    case KOHIBLAD_PAST_RANGE: return "the number is no whole one of 64 bits";
+    case KOHIBLAD_OVERLAP: return "what a call writes overlaps something else";
+    case KOHIBLAD_BAD_NUMBER: return "the text has an unfinished or too large number";
+    case KOHIBLAD_TOO_MANY_STEPS: return "the call took more steps than it may";
+    default: return "the status is unknown";
+    }
+}
+
 /* Whether the bytes are a document of at most this depth. */
 static inline bool kohiblad_check(const uint8_t *bytes, size_t size, size_t depth)
     KOHIBLAD_INLINE("kohiblad_check");
@@ -223,18 +296,18 @@ static inline int32_t kohiblad_compare(const uint8_t *left, size_t left_size, co
 static inline struct kohiblad_value_kind kohiblad_kind(const uint8_t *bytes, size_t size)
     KOHIBLAD_INLINE("kohiblad_kind");
 
-/* Copies the value of a key to `out`, as a document of its own. NONE if the object has no such key,
- * or the bytes are not an object; INVALID_UTF8 if the name is not UTF-8; for bytes that are not a
- * document, the error of looking up the key in them; NO_ROOM if `out` is shorter than the document.
- * Bytes that are not a document can also give some value. */
+/* Copies the value of a key to `out`, as a document of its own. INVALID_UTF8 if the name is not
+ * UTF-8; NONE if the object has no such key, or the bytes are not an object; for bytes that are not
+ * a document, the error of looking up the key in them; NO_ROOM if `out` is shorter than the
+ * document. Bytes that are not a document can also give some value. */
 static inline uint32_t kohiblad_get_key(const uint8_t *bytes, size_t size, const uint8_t *name,
     size_t name_size, uint8_t *out, size_t room, size_t *length)
     KOHIBLAD_INLINE("kohiblad_get_key");
 
-/* The place of the value of a key. NONE if the object has no such key, or the bytes are not an
- * object; INVALID_UTF8 if the name is not UTF-8; for bytes that are not a document, the error of
- * looking up the key in them. If the status is not OK, type, offset and length are 0. Bytes that
- * are not a document can also give some place. */
+/* The place of the value of a key. INVALID_UTF8 if the name is not UTF-8; NONE if the object has no
+ * such key, or the bytes are not an object; for bytes that are not a document, the error of looking
+ * up the key in them. If the status is not OK, type, offset and length are 0. Bytes that are not a
+ * document can also give some place. */
 static inline struct kohiblad_place kohiblad_find_key(const uint8_t *bytes, size_t size,
     const uint8_t *name, size_t name_size) KOHIBLAD_INLINE("kohiblad_find_key");
 
@@ -247,9 +320,11 @@ static inline struct kohiblad_place kohiblad_find_index(const uint8_t *bytes, si
     size_t number) KOHIBLAD_INLINE("kohiblad_find_index");
 
 /* Puts the cursor before the first child of an array or object. NONE if the bytes are neither;
- * INVALID_EOF if the header or an entry word that is read is cut off; INVALID_JSONB if the header
- * is of no kind. If the status is not OK, the cursor is unchanged. A walk over all children costs
- * as much as kohiblad_find_index for the last one. */
+ * INVALID_EOF if the header is cut off, or of an object the entry word of a key; INVALID_JSONB if
+ * the header is of no kind. If the status is not OK, the cursor is unchanged. No other word is
+ * read: the header of five items alone gives OK and an offset past the bytes, at which
+ * kohiblad_next returns INVALID_EOF. A walk over all children costs as much as kohiblad_find_index
+ * for the last one. */
 static inline uint32_t kohiblad_begin(const uint8_t *bytes, size_t size,
     struct kohiblad_cursor *cursor) KOHIBLAD_INLINE("kohiblad_begin");
 
@@ -258,7 +333,7 @@ static inline uint32_t kohiblad_begin(const uint8_t *bytes, size_t size,
  * kohiblad_find_index returns. NONE if there are no more children, or the bytes are neither an
  * array nor an object; INVALID_EOF if the header or an entry word that is read is cut off;
  * INVALID_JSONB if the header is of no kind, or the key or value runs past the end. Both places
- * have the status that is returned, except that the key of an array's item has NONE; a place whose
+ * have the status that is returned, but with OK the key of an array's item has NONE; a place whose
  * status is not OK has zeros. If the status that is returned is not OK, the cursor is unchanged.
  * Any cursor may be given: a place with OK is inside the bytes. Child i of an array is part i; of
  * an object of n pairs the key is part i and the value part n + i. */
@@ -302,8 +377,8 @@ static inline uint32_t kohiblad_get_member(const uint8_t *bytes, size_t size, si
 /* The number in the document of a number, as a whole number of 128 bits in two halves and a scale,
  * the count of its digits after the point. INVALID_EOF if one of the first two words is cut off;
  * INVALID_JSONB if these are of no kind, or the bytes begin like a number but are not a document;
- * OTHER_KIND if they begin like a value of another kind. If the status is not OK, the fields are 0.
- * */
+ * OTHER_KIND if they begin like a value of another kind. If the status is not OK, the fields are
+ * 0. */
 static inline struct kohiblad_decimal kohiblad_as_decimal(const uint8_t *bytes, size_t size)
     KOHIBLAD_INLINE("kohiblad_as_decimal");
 
@@ -386,8 +461,9 @@ static inline uint32_t kohiblad_print(const uint8_t *bytes, size_t size, size_t 
 /* Copies the pretty text of the bytes to `out`: that of a document with each item or pair on its
  * own line, indented by two spaces for each enclosing container, and `null` for all other bytes. A
  * document that nests deeper than `depth` levels counts as bytes that are not a document, so its
- * text is `null`. OUT_OF_MEMORY if an allocation fails; NO_ROOM if `out` is shorter than the text.
- * */
+ * text is `null`. NO_ROOM if `out` is shorter than the text, which is counted first, in one walk
+ * over the bytes and without memory; the length is `SIZE_MAX` if the text is longer. OUT_OF_MEMORY
+ * if an allocation fails, which is asked for only if there is room, and once, for the text. */
 static inline uint32_t kohiblad_pretty(const uint8_t *bytes, size_t size, size_t depth,
     uint8_t *out, size_t room, size_t *length) KOHIBLAD_INLINE("kohiblad_pretty");
 
@@ -407,8 +483,9 @@ static inline uint32_t kohiblad_parse(const uint8_t *text, size_t size, size_t d
  * exponent. OK, with the length of the text, if it is JSON; TOO_DEEP if more than `depth` brackets
  * outside strings are open at once, tested before anything else; INVALID_UTF8 if the text is not
  * UTF-8; BAD_NUMBER if its longest beginning that begins some JSON text ends in an unfinished or
- * too large number; INVALID_JSON if it is not JSON for another reason; OUT_OF_MEMORY if an
- * allocation fails. Of BAD_NUMBER and INVALID_JSON the offset is the length in bytes of that
+ * too large number, as `1.`; INVALID_JSON if it is not JSON for another reason, as `01` and `1.5.`,
+ * in which by the grammar of RFC 8259 the number ends before the last character; OUT_OF_MEMORY if
+ * an allocation fails. Of BAD_NUMBER and INVALID_JSON the offset is the length in bytes of that
  * beginning. It is 3 of [1,], and 2 of [1, which only ends too early. With every other status but
  * OK it is 0. */
 static inline struct kohiblad_fault kohiblad_text_fault(const uint8_t *text, size_t size,
@@ -432,9 +509,9 @@ static inline uint32_t kohiblad_build_array(const uint8_t *bytes, size_t size,
 /* Builds the object of the pairs in the rows: a key, then its document, and so on. It is copied to
  * `out`. INVALID_EOF if an offset is below the previous one or beyond the bytes, or the number of
  * rows is odd; then, before the keys are looked at, INVALID_JSONB if a document is not one of at
- * most this depth. INVALID_UTF8 if a key is not UTF-8; OBJECT_DUPLICATE_KEY if a key occurs twice;
- * INVALID_JSONB also if a limit of the format is exceeded; OUT_OF_MEMORY if an allocation fails;
- * NO_ROOM if `out` is shorter than the object. */
+ * most this depth; then, before keys are compared, INVALID_UTF8 if one is not UTF-8.
+ * OBJECT_DUPLICATE_KEY if a key occurs twice; INVALID_JSONB also if a limit of the format is
+ * exceeded; OUT_OF_MEMORY if an allocation fails; NO_ROOM if `out` is shorter than the object. */
 static inline uint32_t kohiblad_build_object(const uint8_t *bytes, size_t size,
     const size_t *offsets, size_t count, size_t depth, uint8_t *out, size_t room, size_t *length)
     KOHIBLAD_INLINE("kohiblad_build_object");
@@ -451,9 +528,9 @@ static inline bool kohiblad_is_canonical(const uint8_t *bytes, size_t size, size
 static inline uint32_t kohiblad_canonical(const uint8_t *bytes, size_t size, size_t depth,
     uint8_t *out, size_t room, size_t *length) KOHIBLAD_INLINE("kohiblad_canonical");
 
-/* The number of the layout of keys. It changes only with the major version of the library: keys
- * that are to be compared must be of libraries with the same number. So it changes with the soname
- * alone. */
+/* The number of the layout of comparable keys, and of what is hashed for index keys and top keys.
+ * It changes only with the major version of the library: keys that are to be compared must be of
+ * libraries with the same number. So it changes with the soname alone. */
 static inline uint32_t kohiblad_key_layout(void) KOHIBLAD_INLINE("kohiblad_key_layout");
 
 /* Copies the comparable key of any bytes to `out`. Keys compare by their bytes, a prefix before
@@ -490,20 +567,23 @@ static inline uint32_t kohiblad_member_key(const uint8_t *bytes, size_t size,
  * kohiblad_compare compares the rows at this depth; equal rows keep their order. A document that
  * nests deeper than `depth` levels counts as bytes that are not a document, and sorts by its bytes
  * after all documents. Each row is checked once, and deeper levels are not examined. INVALID_EOF if
- * an offset is below the previous one or beyond the bytes; NO_ROOM if `order` has fewer numbers
- * than there are rows; OUT_OF_MEMORY if an allocation fails. If the status is not OK, `order` is
- * unchanged. */
+ * an offset is below the previous one or beyond the bytes; then, before memory is requested,
+ * NO_ROOM if `order` has fewer numbers than there are rows; OUT_OF_MEMORY if an allocation fails.
+ * If the status is not OK, `order` is unchanged. */
 static inline uint32_t kohiblad_sort(const uint8_t *bytes, size_t size, const size_t *offsets,
     size_t count, size_t depth, size_t *order, size_t room) KOHIBLAD_INLINE("kohiblad_sort");
 
 /* Whether the document `left` contains `right`, as 0 or 1. An object contains the objects whose
  * keys it has, with values that contain those; an array contains the arrays for each of whose items
  * it has one that contains it; a scalar contains what equals it; and at the top an array also
- * contains a scalar that is one of its items. TOO_MANY_STEPS if that takes more than `steps` steps,
- * one for each pair of values that are compared and each member that is passed over: it does not if
- * they are at least the product of the numbers of values and keys in both. INVALID_JSONB if `left`
- * or `right` is not a document of at most this depth. If the status is not OK, the value is 0.
- * SIZE_MAX is no limit. */
+ * contains a scalar that is one of its items. TOO_MANY_STEPS if that takes more than `steps` steps.
+ * There is one for each pair of values that are compared, and for each member that is passed in
+ * search of a key, up to the first whose key is not below it; and one for each byte of the keys of
+ * these members, and of two texts, or two binary or opaque values, that are compared and equally
+ * long: 4 for {"a":1} in {"a":1}. `steps` suffice that are at least the product of the weights of
+ * both, the numbers of their values and keys and of the bytes of texts, keys, and binary and opaque
+ * values. INVALID_JSONB if `left` or `right` is not a document of at most this depth. If the status
+ * is not OK, the value is 0. SIZE_MAX is no limit. */
 static inline struct kohiblad_truth kohiblad_contains(const uint8_t *left, size_t left_size,
     const uint8_t *right, size_t right_size, size_t depth, size_t steps)
     KOHIBLAD_INLINE("kohiblad_contains");
@@ -513,6 +593,24 @@ static inline struct kohiblad_truth kohiblad_contains(const uint8_t *left, size_
  * a document of at most this depth; the value is then 0. */
 static inline struct kohiblad_truth kohiblad_exists(const uint8_t *bytes, size_t size,
     const uint8_t *key, size_t key_size, size_t depth) KOHIBLAD_INLINE("kohiblad_exists");
+
+/* Whether some of these keys is in a document, in the sense of kohiblad_exists, as 0 or 1; of no
+ * keys none is. `names` is the document of an array of texts; it does not matter how often or in
+ * which order they are listed. INVALID_JSONB if the bytes or the names are not a document of at
+ * most this depth; OTHER_KIND if the names are not an array of texts; OUT_OF_MEMORY if an
+ * allocation fails. If the status is not OK, the value is 0. */
+static inline struct kohiblad_truth kohiblad_exists_any(const uint8_t *bytes, size_t size,
+    const uint8_t *names, size_t names_size, size_t depth)
+    KOHIBLAD_INLINE("kohiblad_exists_any");
+
+/* Whether all of these keys are in a document, in the sense of kohiblad_exists, as 0 or 1; of no
+ * keys all are. `names` is the document of an array of texts; it does not matter how often or in
+ * which order they are listed. INVALID_JSONB if the bytes or the names are not a document of at
+ * most this depth; OTHER_KIND if the names are not an array of texts; OUT_OF_MEMORY if an
+ * allocation fails. If the status is not OK, the value is 0. */
+static inline struct kohiblad_truth kohiblad_exists_all(const uint8_t *bytes, size_t size,
+    const uint8_t *names, size_t names_size, size_t depth)
+    KOHIBLAD_INLINE("kohiblad_exists_all");
 
 /* Copies the canonical document of two documents put together to `out`: of two objects the object
  * of all members, with the value of `right` for a key of both; of all others the array of the items
@@ -594,90 +692,96 @@ static inline struct kohiblad_truth kohiblad_array_overlap(const uint8_t *left,
 
 /* Copies the canonical document of a document that is edited at the end of a path to `out`. `path`
  * is the document of an array: a text is the key of a member, and a whole number the index of an
- * item, counted from 0, or from -1 at the end. With KOHIBLAD_PUT the value is put there, in place
- * of what is there; with KOHIBLAD_INSERT it is inserted before an item, or as a member whose key is
- * not there; with KOHIBLAD_REMOVE what is there is removed, and no value is read. Past the last
- * item a value comes after it, and before the first one in front of it. If a step before the last
- * leads nowhere nothing is edited, and neither is the whole document but by putting a value. With
- * KOHIBLAD_CREATE the value is put there, and what the path lacks is made: an object for each
- * missing key, an array for the index 0; an item is added right after the last one only.
- * INVALID_JSONB if the bytes, the path or the value are not a document of at most this depth, or
- * the result exceeds a limit of the format; OTHER_KIND if there is no such edit, or the path is not
- * an array of texts and whole numbers of 64 bits; OUT_OF_MEMORY if an allocation fails; NO_ROOM if
- * `out` is shorter than the document. `edit` is one of enum kohiblad_edit_kind. Where nothing is
- * edited, the result is the canonical form of the document. */
+ * item, counted from 0, or from -1 at the end; one that is stored as a decimal is none. With
+ * KOHIBLAD_PUT the value is put there, in place of what is there; with KOHIBLAD_INSERT it is
+ * inserted before an item, or as a member whose key is not there; with KOHIBLAD_REMOVE what is
+ * there is removed, and no value is read. Past the last item a value comes after it, and before the
+ * first one in front of it. If a step before the last leads nowhere nothing is edited, and neither
+ * is the whole document but by putting a value. With KOHIBLAD_CREATE the value is put there, and
+ * what the path lacks is made: an object for each missing key, an array for the index 0 or 2^64 -
+ * 1; an item is added right after the last one only, at its index or at 2^64 - 1. INVALID_JSONB if
+ * the bytes, the path or the value are not a document of at most this depth, or the result exceeds
+ * a limit of the format; OTHER_KIND if there is no such edit, or the path is not an array of texts
+ * and whole numbers of 64 bits; OUT_OF_MEMORY if an allocation fails; NO_ROOM if `out` is shorter
+ * than the document. `edit` is one of enum kohiblad_edit_kind. Where nothing is edited, the result
+ * is the canonical form of the document. */
 static inline uint32_t kohiblad_edit(const uint8_t *bytes, size_t size, const uint8_t *path,
     size_t path_size, uint32_t edit, const uint8_t *value, size_t value_size, size_t depth,
     uint8_t *out, size_t room, size_t *length) KOHIBLAD_INLINE("kohiblad_edit");
 
 /* Copies the document of the path that a text gives to `out`. The text is `$`, and then the steps:
  * `.name` is the value of a key, and so is `."any name"`, if there are points, brackets or question
- * marks in it; `[7]` is an item, `[#-1]` the last one, and `[#]` none, past the last one. The keys
- * are the text's bytes, without escapes. The document is what kohiblad_edit and kohiblad_get_path
- * take: an array with a text for each key and a whole number for each item, where -1 is the last
- * one. An index past 2^64 - 1 is stored as that, and one from the end past 2^63 as -2^63.
- * INVALID_UTF8 if the text is not UTF-8; OTHER_KIND if it is not a path, or one with wildcards,
- * ranges or filters; INVALID_JSONB if a key has 2^28 bytes or more, or the path 2^29 steps or more;
- * OUT_OF_MEMORY if an allocation fails; NO_ROOM if `out` is shorter than the document. */
+ * marks in it; `[7]` is an item, also as `[007]`, `[#-1]` the last one, and `[#]`, or `[#-0]`,
+ * none, past the last one. The keys are the text's bytes, without escapes: `.a\b` has a backslash,
+ * and `.*a` is the key `*a`. The document is what kohiblad_edit and kohiblad_get_path take: an
+ * array with a text for each key and a whole number for each item, where -1 is the last one. An
+ * index past 2^64 - 1 is stored as that, and one from the end past 2^63 as -2^63. INVALID_UTF8 if
+ * the text is not UTF-8; OTHER_KIND if it is not a path, or one with wildcards, ranges or filters;
+ * INVALID_JSONB if a key has 2^28 bytes or more, or the path 2^29 steps or more; OUT_OF_MEMORY if
+ * an allocation fails; NO_ROOM if `out` is shorter than the document. */
 static inline uint32_t kohiblad_path_of_text(const uint8_t *text, size_t size, uint8_t *out,
     size_t room, size_t *length) KOHIBLAD_INLINE("kohiblad_path_of_text");
 
 /* Copies the document of the path that a text gives in a document to `out`. The text is a path as
  * kohiblad_path_of_text reads it, or names: a JSON pointer (RFC 6901) such as `/a/0`, or a list
- * such as PostgreSQL's `{a,0,"b c"}`. A name is a key, but in an array of the document `0`, and
- * other digits that do not begin with `0`, are an index, `-1` is the last item, and `-` is past it.
- * kohiblad_edit and kohiblad_get_path take the result. INVALID_UTF8 if the text is not UTF-8;
- * INVALID_JSONB if the bytes are not a document of at most this depth, or as for
- * kohiblad_path_of_text; OTHER_KIND if the text is none of these, or a path with wildcards or
- * ranges; OUT_OF_MEMORY if an allocation fails; NO_ROOM if `out` is shorter than the path's
- * document. */
+ * such as PostgreSQL's `{a,0,"b c"}`, in which a name with one of the six white space characters of
+ * ASCII is written between quotes. A name is a key, but in an array of the document `0`, and other
+ * digits that do not begin with `0`, are an index, `-1` is the last item, and `-` is past it, as is
+ * every number past 2^64 - 2. kohiblad_edit and kohiblad_get_path take the result. INVALID_UTF8 if
+ * the text is not UTF-8; INVALID_JSONB if the bytes are not a document of at most this depth, or as
+ * for kohiblad_path_of_text; OTHER_KIND if the text is none of these, or a path with wildcards,
+ * ranges or filters; OUT_OF_MEMORY if an allocation fails; NO_ROOM if `out` is shorter than the
+ * path's document. */
 static inline uint32_t kohiblad_path_in(const uint8_t *bytes, size_t size, const uint8_t *text,
     size_t text_size, size_t depth, uint8_t *out, size_t room, size_t *length)
     KOHIBLAD_INLINE("kohiblad_path_in");
 
 /* The place of the value at the end of a path. `path` is the document of an array: a text is the
  * key of a member, and a whole number the index of an item, counted from 0, or from -1 at the end.
- * At the end of an empty path is the whole value: all bytes of an array or object, and the payload
- * of a scalar. NONE if the path leads nowhere; INVALID_JSONB if the bytes or the path are not a
- * document of at most this depth; OTHER_KIND if the path is not an array of texts and whole numbers
- * of 64 bits; OUT_OF_MEMORY if an allocation fails. If the status is not OK, type, offset and
- * length are 0. */
+ * A number that is stored as a decimal is no index, also one without digits after its point. At the
+ * end of an empty path is the whole value: all bytes of an array or object, and the payload of a
+ * scalar. NONE if the path leads nowhere; INVALID_JSONB if the bytes or the path are not a document
+ * of at most this depth; OTHER_KIND if the path is not an array of texts and whole numbers of 64
+ * bits; OUT_OF_MEMORY if an allocation fails. If the status is not OK, type, offset and length are
+ * 0. */
 static inline struct kohiblad_place kohiblad_get_path(const uint8_t *bytes, size_t size,
     const uint8_t *path, size_t path_size, size_t depth) KOHIBLAD_INLINE("kohiblad_get_path");
 
 /* Copies the places of the values that a path selects to `out`, in the order in which they are
  * stored, and how many they are to `*count`. The path is a text as kohiblad_path_of_text reads it,
- * in which `[*]` is each item of an array, `[0 to #-2]` the items from one to another, `.*` each
- * member's value of an object, and `?(@.price < 3)` keeps a value if what is at the end of the path
- * that begins with `@` compares so with a literal, by the order of documents. That path has no
- * wildcards, ranges and filters, and a key with a space in it is written between quotes. The
- * comparison is `==`, `!=` or `<>`, `<`, `<=`, `>` or `>=`, with one space before and after it, and
- * the literal `null`, `true`, `false`, a JSON number, which is read exactly, or a string without
- * quotes and escapes in it. INVALID_UTF8 if the text is not UTF-8; INVALID_JSONB if the bytes are
- * not a document of at most this depth; OTHER_KIND if the text is not a path; OUT_OF_MEMORY if an
- * allocation fails; NO_ROOM if `out` is too short. If the status is not OK, `out` is unchanged, and
- * `*count` is 0, or for NO_ROOM the number of places. */
+ * in which `[*]` is each item of an array, `[0 to #-2]` the items from one to another, as far as
+ * they are there (`[0 to #]` selects all, `[# to 1]` none), `.*` each member's value of an object,
+ * and `?(@.price < 3)` keeps a value if what is at the end of the path that begins with `@`
+ * compares so with a literal, by the order of documents. That path has no wildcards, ranges and
+ * filters, and a key with a space in it is written between quotes. The comparison is `==`, `!=` or
+ * `<>`, `<`, `<=`, `>` or `>=`, with one space before and after it, and the literal `null`, `true`,
+ * `false`, a JSON number, which is read exactly, or a string without quotes and escapes in it, in
+ * which a backslash is a backslash. INVALID_UTF8 if the text is not UTF-8; INVALID_JSONB if the
+ * bytes are not a document of at most this depth; OTHER_KIND if the text is not a path;
+ * OUT_OF_MEMORY if an allocation fails; NO_ROOM if `out` is too short. If the status is not OK,
+ * `out` is unchanged, and `*count` is 0, or for NO_ROOM the number of places. */
 static inline uint32_t kohiblad_select(const uint8_t *bytes, size_t size, const uint8_t *path,
     size_t path_size, size_t depth, struct kohiblad_place *out, size_t room, size_t *count)
     KOHIBLAD_INLINE("kohiblad_select");
 
 /* Copies the index keys of a document to `out`, and how many they are to `*count`: one for each
- * scalar, a 64-bit hash of the keys of the objects around it and of the scalar itself. A document
- * that contains another has each of its index keys, so an index over them misses no document; two
- * scalars may have the same key. There are at most as many as a quarter of `size`. INVALID_JSONB if
- * the bytes are not a document of at most this depth; OUT_OF_MEMORY if an allocation fails; NO_ROOM
- * if `out` is too short. If the status is not OK, `out` is unchanged, and `*count` is 0, or for
- * NO_ROOM the number of keys. */
+ * scalar, the FNV-1a hash of 64 bits of the keys of the objects around it, from the outermost, each
+ * escaped and ended as in a comparable key, then a byte 0, and then the scalar's comparable key. A
+ * document that contains another has each of its index keys, so an index over them misses no
+ * document; two scalars may have the same key. There are at most as many as a quarter of `size`.
+ * INVALID_JSONB if the bytes are not a document of at most this depth; OUT_OF_MEMORY if an
+ * allocation fails; NO_ROOM if `out` is too short. If the status is not OK, `out` is unchanged, and
+ * `*count` is 0, or for NO_ROOM the number of keys. */
 static inline uint32_t kohiblad_index_keys(const uint8_t *bytes, size_t size, size_t depth,
     uint64_t *out, size_t room, size_t *count) KOHIBLAD_INLINE("kohiblad_index_keys");
 
-/* Copies the top keys of a document to `out`, and how many they are to `*count`: a 64-bit hash of
- * each key of an object, of each text among an array's items, or of the text itself. They are apart
- * from the index keys, so one index holds both. If a key exists in a document, the one top key of
- * the key's own document is one of the document's. There are at most as many as a quarter of
- * `size`. INVALID_JSONB if the bytes are not a document of at most this depth; OUT_OF_MEMORY if an
- * allocation fails; NO_ROOM if `out` is too short. If the status is not OK, `out` is unchanged, and
- * `*count` is 0, or for NO_ROOM the number of keys. */
+/* Copies the top keys of a document to `out`, and how many they are to `*count`: the FNV-1a hash of
+ * 64 bits of two bytes 0 and then each key of an object, each text among an array's items, or the
+ * text itself. They are apart from the index keys, so one index holds both. If a key exists in a
+ * document, the one top key of the key's own document is one of the document's. There are at most
+ * as many as a quarter of `size`. INVALID_JSONB if the bytes are not a document of at most this
+ * depth; OUT_OF_MEMORY if an allocation fails; NO_ROOM if `out` is too short. If the status is not
+ * OK, `out` is unchanged, and `*count` is 0, or for NO_ROOM the number of keys. */
 static inline uint32_t kohiblad_top_keys(const uint8_t *bytes, size_t size, size_t depth,
     uint64_t *out, size_t room, size_t *count) KOHIBLAD_INLINE("kohiblad_top_keys");
 
@@ -765,6 +869,12 @@ struct kohiblad_truth kohiblad_export_contains(const uint8_t *left, size_t left_
     KOHIBLAD_EXPORT("kohiblad_contains");
 struct kohiblad_truth kohiblad_export_exists(const uint8_t *bytes, size_t size,
     const uint8_t *key, size_t key_size, size_t depth) KOHIBLAD_EXPORT("kohiblad_exists");
+struct kohiblad_truth kohiblad_export_exists_any(const uint8_t *bytes, size_t size,
+    const uint8_t *names, size_t names_size, size_t depth)
+    KOHIBLAD_EXPORT("kohiblad_exists_any");
+struct kohiblad_truth kohiblad_export_exists_all(const uint8_t *bytes, size_t size,
+    const uint8_t *names, size_t names_size, size_t depth)
+    KOHIBLAD_EXPORT("kohiblad_exists_all");
 uint32_t kohiblad_export_concat(const uint8_t *left, size_t left_size, const uint8_t *right,
     size_t right_size, size_t depth, uint8_t *out, size_t room, size_t *length)
     KOHIBLAD_EXPORT("kohiblad_concat");
@@ -928,8 +1038,7 @@ static inline uint32_t kohiblad_get_member(const uint8_t *bytes, size_t size, si
         || !kohiblad_is_room(out, room, length)
         || !kohiblad_is_apart(out, room, length, bytes, size)
         || !kohiblad_is_apart(key, key_room, key_length, out, room)
-        || !kohiblad_is_apart(key, key_room, key_length, length, sizeof *length)
-        || kohiblad_meet(out, room, key_length, sizeof *key_length))
+        || !kohiblad_is_apart(key, key_room, key_length, length, sizeof *length))
         return KOHIBLAD_OVERLAP;
     return kohiblad_export_get_member(kohiblad_in(bytes), size, index, kohiblad_out(key), key_room,
         key_length, kohiblad_out(out), room, length);
@@ -1087,6 +1196,16 @@ static inline struct kohiblad_truth kohiblad_contains(const uint8_t *left, size_
 static inline struct kohiblad_truth kohiblad_exists(const uint8_t *bytes, size_t size,
     const uint8_t *key, size_t key_size, size_t depth) {
     return kohiblad_export_exists(kohiblad_in(bytes), size, kohiblad_in(key), key_size, depth);
+}
+static inline struct kohiblad_truth kohiblad_exists_any(const uint8_t *bytes, size_t size,
+    const uint8_t *names, size_t names_size, size_t depth) {
+    return kohiblad_export_exists_any(kohiblad_in(bytes), size, kohiblad_in(names), names_size,
+        depth);
+}
+static inline struct kohiblad_truth kohiblad_exists_all(const uint8_t *bytes, size_t size,
+    const uint8_t *names, size_t names_size, size_t depth) {
+    return kohiblad_export_exists_all(kohiblad_in(bytes), size, kohiblad_in(names), names_size,
+        depth);
 }
 static inline uint32_t kohiblad_concat(const uint8_t *left, size_t left_size,
     const uint8_t *right, size_t right_size, size_t depth, uint8_t *out, size_t room,

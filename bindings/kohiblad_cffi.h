@@ -1,4 +1,4 @@
-/* The exports, for cffi's cdef: tools/c_header makes this file of kohiblad.h. */
+/* The exports, for cffi's cdef: tools/pages makes this file of kohiblad.h. */
 
 #define KOHIBLAD_VERSION 7000
 
@@ -179,6 +179,10 @@ struct kohiblad_truth kohiblad_contains(const uint8_t *left, size_t left_size, c
     size_t right_size, size_t depth, size_t steps);
 struct kohiblad_truth kohiblad_exists(const uint8_t *bytes, size_t size, const uint8_t *key,
     size_t key_size, size_t depth);
+struct kohiblad_truth kohiblad_exists_any(const uint8_t *bytes, size_t size, const uint8_t *names,
+    size_t names_size, size_t depth);
+struct kohiblad_truth kohiblad_exists_all(const uint8_t *bytes, size_t size, const uint8_t *names,
+    size_t names_size, size_t depth);
 uint32_t kohiblad_concat(const uint8_t *left, size_t left_size, const uint8_t *right,
     size_t right_size, size_t depth, uint8_t *out, size_t room, size_t *length);
 uint32_t kohiblad_merge_patch(const uint8_t *target, size_t target_size, const uint8_t *patch,

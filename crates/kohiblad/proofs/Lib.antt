@@ -3,6 +3,8 @@ pub mod ChildWalkLaws
 pub mod CutLaws
 pub mod ExponentRules
 pub mod FoundPlaces
+pub mod KeyTestLaws
+pub mod LongTexts
 pub mod Lookups
 pub mod MadeDocuments
 pub mod MemberKeyLaws

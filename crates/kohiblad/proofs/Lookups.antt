@@ -12,7 +12,7 @@ use Rattle.jsonb_codec.specs.WordBytes.{header_at}
 use Rattle.jsonb_codec.specs.declared.jentry.JEntry.{JEntry}
 use Rattle.jsonb_codec.proofs.RoomLaws.{word_at-inside}
 use Rattle.jsonb.specs.declared.entries.Entry.{Entry as PlacedEntry}
-use Rattle.jsonb.specs.declared.reads.lookup.FoundValue.{FoundValue}
+use Rattle.jsonb.specs.declared.lookup.FoundValue.{FoundValue}
 use Rattle.jsonb.specs.Entries.{payloads_end}
 use Rattle.jsonb.specs.ItemView.{ItemView}
 use Rattle.jsonb.specs.Lookup as lookup

@@ -7,12 +7,12 @@ use Rattle.jsonb_value.specs.declared.error.Error.TheVariants.{OutOfMemory}
 use Rattle.jsonb_value.specs.Meaning.{Meaning, document, other_bytes}
 use Rattle.jsonb_value.specs.Tree.{Tree}
 use Rattle.jsonb_codec.specs.Canon.{canon, Fits}
-use Rattle.jsonb_codec.specs.Depth.{size}
 use Rattle.jsonb_functions.specs.Contains.{contains_whole, has_top_key}
 use Rattle.jsonb_functions.specs.Edited.{Operation, create, edited_whole, insert, put, remove}
 use Rattle.jsonb_functions.specs.EditSource.{edit_operation}
 use Rattle.kohiblad.specs.Scalars.{no_truth, truth_of}
 use Rattle.jsonb_functions.specs.StoredPath.{StepView, path_in, step_view}
+use Rattle.jsonb_functions.specs.Weight.{weight}
 use Rattle.jsonb_functions.specs.declared.edit.Edit.{Edit}
 use Rattle.jsonb_functions.specs.declared.path.Step.{Step}
 use Rattle.kohiblad.specs.Status.{code, other_kind, too_many_steps, IsHandedOver, IsOneAnswered}
@@ -20,12 +20,12 @@ use Rattle.kohiblad.specs.Status.{IsRefused}
 use Rattle.kohiblad.specs.declared.scalar.KohibladTruth.{KohibladTruth}
 
 -- Whether the first document contains the second, unless that takes more than so many steps, which
--- it does only if there are fewer than the product of the sizes of both trees; bytes that are not a
--- document are refused.
+-- it does only if there are fewer than the product of the weights of both trees; bytes that are not
+-- a document are refused.
 abbrev pub IsContainedAnswer : ℕ → Meaning → Meaning → KohibladTruth → Type 0
 IsContainedAnswer steps (document t) (document u) answer =
     (answer ≡ truth_of (contains_whole t u))
-    ⊎ ((answer ≡ no_truth too_many_steps) × (steps < size t * size u))
+    ⊎ ((answer ≡ no_truth too_many_steps) × (steps < weight t * weight u))
 IsContainedAnswer steps m n answer = answer ≡ no_truth (code InvalidJsonb)
 
 -- Whether the document has the key; bytes that are not a document are refused.

@@ -1,5 +1,5 @@
 -- The results of the calls on parts of keys, as C receives them.
-use Rattle.std.specs.Prelude.{◌≡◌, ◌⊎◌, ◌<◌, ◌-◌, ◌^◌, ℕ, List, [], ◌∷◌, length, flat_map}
+use Rattle.std.specs.Prelude.{◌≡◌, ◌⊎◌, ℕ, List, [], ◌∷◌, flat_map}
 use Rattle.std.specs.Prelude.{Option, None, Some, map}
 use Rattle.std.specs.declared.cmp.Ordering.{Ordering}
 use Rattle.std.specs.declared.cmp.Ordering.TheVariants.{Less, Equal, Greater}
@@ -12,7 +12,7 @@ use Rattle.jsonb_comparable.specs.Sink.{length_64}
 use Rattle.jsonb_comparable.specs.TreeKey.{tree_key}
 use Rattle.kohiblad.specs.KeySink.{cut_into}
 use Rattle.kohiblad.specs.Names.{names_in}
-use Rattle.kohiblad.specs.Status.{code, no_room, other_kind, IsCopied, IsRefused}
+use Rattle.kohiblad.specs.Status.{code, other_kind, IsLongHandedOver, IsRefused}
 
 -- The first bytes of the key are at the start of the buffer, as many as there is room, and the
 -- length of the whole key is stored.
@@ -39,18 +39,6 @@ part_cmp None None = Equal
 part_cmp None (Some u) = Less
 part_cmp (Some t) None = Greater
 part_cmp (Some t) (Some u) = tree_cmp t u
-
--- The buffer is shorter than the key, or the key is longer than any memory.
-abbrev pub IsTooLong : List ℕ → List ℕ → Type 0
-IsTooLong key before = (length before < length key) ⊎ (length_64 key ≡ 2 ^ 64 - 1)
-
--- The whole key was copied, or it is too long and the buffer unchanged; in any case its length is
--- stored, in 64 bits.
-abbrev pub IsLongHandedOver : List ℕ → List ℕ → List ℕ → ℕ → ℕ → Type 0
-IsLongHandedOver key before after size status =
-    (size ≡ length_64 key)
-    × (((status ≡ 0) × IsCopied key before after)
-    ⊎ ((status ≡ no_room) × (IsTooLong key before × (after ≡ before))))
 
 -- The keys of the members with these names are copied, if there are names.
 abbrev pub IsKeyOfNames : Tree → Option (List (List ℕ)) → List ℕ → List ℕ → ℕ → ℕ → Type 0

@@ -20,4 +20,5 @@ pub mod Picked
 pub mod WithMemory
 pub mod KeySink
 pub mod KeyParts
+pub mod KeyTests
 pub mod Words

@@ -1,5 +1,5 @@
 -- The results of printing, parsing and bringing to canonical form, as C receives them.
-use Rattle.std.specs.Prelude.{◌<◌, ◌≤◌, ◌⊎◌, ℕ, zero, suc, List}
+use Rattle.std.specs.Prelude.{◌<◌, ◌≤◌, ◌⊎◌, ℕ, zero, suc, List, length}
 use Rattle.std.specs.Str.{IsUtf8}
 use Rattle.jsonb_value.specs.declared.error.Error.TheVariants as errors
 use Rattle.jsonb_value.specs.TextDepth.{text_depth}
@@ -8,12 +8,19 @@ use Rattle.jsonb.specs.Canonical.{RewritesTo}
 use Rattle.jsonb_value.specs.declared.parser.number.Exponents.{Exponents}
 use Rattle.jsonb_value.specs.declared.parser.number.Exponents.TheVariants.{Forbidden, Allowed}
 use Rattle.jsonb.specs.Parsing.{ParsesUnder}
-use Rattle.kohiblad.specs.Status.{code, too_deep, IsHandedOver, IsOneAnswered, IsRefused}
+use Rattle.kohiblad.specs.Status.{code, too_deep, IsHandedOver, IsLongHandedOver, IsOneAnswered}
+use Rattle.kohiblad.specs.Status.{IsRefused}
 
 -- The text is handed over, or there is not enough memory.
 abbrev pub IsWrittenOut : List ℕ → List ℕ → List ℕ → ℕ → ℕ → Type 0
 IsWrittenOut text before after size status = IsHandedOver text before after size status
     ⊎ IsRefused (code errors.OutOfMemory) before after size status
+
+-- The text is handed over, or there is not enough memory, which is asked for only if the text fits.
+abbrev pub IsLongWrittenOut : List ℕ → List ℕ → List ℕ → ℕ → ℕ → Type 0
+IsLongWrittenOut text before after size status = IsLongHandedOver text before after size status
+    ⊎ ((length text ≤ length before)
+    × IsRefused (code errors.OutOfMemory) before after size status)
 
 -- The bytes are brought to canonical form, as the library does it.
 abbrev pub IsRewritten : List ℕ → List ℕ → List ℕ → ℕ → ℕ → Type 0

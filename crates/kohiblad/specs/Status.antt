@@ -1,11 +1,12 @@
 -- Statuses, and bytes copied into the caller's buffer, as C receives them.
 use Rattle.std.specs.Prelude.{◌≡◌, ◌==◌, ◌<◌, ◌≤◌, ◌⊎◌, if◌then◌else◌, ℕ, ℤ, pos, negsuc, List}
-use Rattle.std.specs.Prelude.{length, ◌++◌, drop, codes, Result, Ok, Err}
+use Rattle.std.specs.Prelude.{length, ◌++◌, ◌-◌, ◌^◌, drop, codes, Result, Ok, Err}
 use Rattle.std.specs.declared.cmp.Ordering.{Ordering}
 use Rattle.std.specs.declared.cmp.Ordering.TheVariants.{Less, Equal, Greater}
 use Rattle.jsonb_value.specs.declared.error.Error.{Error}
 use Rattle.jsonb_value.specs.declared.error.Error.TheVariants as errors
 use Rattle.jsonb_value.specs.ErrorName.{name_of}
+use Rattle.jsonb_comparable.specs.Sink.{length_64}
 
 -- An order as the integer -1, 0 or 1.
 abbrev pub sign : Ordering → ℤ
@@ -94,6 +95,18 @@ IsHandedOver answer before after size status =
     (size ≡ length answer)
     × (((status ≡ 0) × IsCopied answer before after)
     ⊎ ((status ≡ no_room) × ((length before < length answer) × (after ≡ before))))
+
+-- The buffer is shorter than the result, or the result is longer than any memory.
+abbrev pub IsTooLong : List ℕ → List ℕ → Type 0
+IsTooLong answer before = (length before < length answer) ⊎ (length_64 answer ≡ 2 ^ 64 - 1)
+
+-- The whole result was copied, or it is too long and the buffer unchanged; in any case its length
+-- is stored, in 64 bits.
+abbrev pub IsLongHandedOver : List ℕ → List ℕ → List ℕ → ℕ → ℕ → Type 0
+IsLongHandedOver answer before after size status =
+    (size ≡ length_64 answer)
+    × (((status ≡ 0) × IsCopied answer before after)
+    ⊎ ((status ≡ no_room) × (IsTooLong answer before × (after ≡ before))))
 
 -- Only this status is returned: the buffer is unchanged, and the length is 0.
 abbrev pub IsRefused : {A : Type 0} → ℕ → List A → List A → ℕ → ℕ → Type 0

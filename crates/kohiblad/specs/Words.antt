@@ -43,7 +43,8 @@ pub use Rattle.kohiblad.specs.Functions.{AreKeysWritten, IsContainedAnswer, IsEd
 pub use Rattle.kohiblad.specs.Functions.{MakesOfOne, MakesOfTwo}
 pub use Rattle.kohiblad.specs.Functions.{exists_answer, operation_in, operation_asked}
 pub use Rattle.kohiblad.specs.KindAnswer.{kind_answer}
-pub use Rattle.kohiblad.specs.Output.{IsReadWithin, IsRewrittenWithin, IsWrittenOut, rule_of}
+pub use Rattle.kohiblad.specs.Output.{IsLongWrittenOut, IsReadWithin, IsRewrittenWithin}
+pub use Rattle.kohiblad.specs.Output.{IsWrittenOut, rule_of}
 pub use Rattle.kohiblad.specs.Parts.{IsPartDocument, is_entry_type, is_too_long, part_document}
 pub use Rattle.kohiblad.specs.Places.{AreBothInside, AreMemberPlaces, IsInside, IsItemPlace}
 pub use Rattle.kohiblad.specs.Places.{IsMemberHandedOver, IsPartPlace, IsPlaceFound}
@@ -59,5 +60,5 @@ pub use Rattle.kohiblad.specs.Scalars.{no_extension, no_integer, no_place, no_tr
 pub use Rattle.kohiblad.specs.Scalars.{text_place, truth_of, why_none}
 pub use Rattle.kohiblad.specs.SortOrder.{AreRowsOrdered, IsOrderOf}
 pub use Rattle.kohiblad.specs.Status.{IsAnswered, IsHandedOver, IsRefused, code, sign, status_name}
-pub use Rattle.kohiblad.specs.Status.{IsOneAnswered, too_deep}
+pub use Rattle.kohiblad.specs.Status.{IsLongHandedOver, IsOneAnswered, too_deep}
 pub use Rattle.kohiblad.specs.TextFaults.{IsTextFault, no_fault, reason_status}

@@ -46,12 +46,12 @@ fn array_of(alloc: Global, rows: Rows, depth: usize) -> Result<OwnedJsonb, Error
 /// `out` and its length in bytes to `length`. Row k begins at `offsets[k]` and ends at `offsets[k +
 /// 1]`. `InvalidEOF` if an offset is below the previous one or beyond the bytes, or the number of
 /// rows is odd; then, before the keys are looked at, `InvalidJsonb` if a document is not one of at
-/// most this depth. `InvalidUtf8` if a key is not UTF-8; `ObjectDuplicateKey` if a key occurs
-/// twice; `InvalidJsonb` also if a limit of the format is exceeded; `OutOfMemory` if an allocation
-/// fails; `NO_ROOM` if `out` is shorter than the object. If the status is not `OK`, `out` is
-/// unchanged, and `length` is 0, or for `NO_ROOM` the length of the object. A scalar has depth 0,
-/// an array or object one more than its deepest child, and at least 1. Deeper levels are not
-/// examined.
+/// most this depth; then, before keys are compared, `InvalidUtf8` if one is not UTF-8.
+/// `ObjectDuplicateKey` if a key occurs twice; `InvalidJsonb` also if a limit of the format is
+/// exceeded; `OutOfMemory` if an allocation fails; `NO_ROOM` if `out` is shorter than the object.
+/// If the status is not `OK`, `out` is unchanged, and `length` is 0, or for `NO_ROOM` the length of
+/// the object. A scalar has depth 0, an array or object one more than its deepest child, and at
+/// least 1. Deeper levels are not examined.
 #[unsafe(no_mangle)]
 pub extern "C" fn kohiblad_build_object(
     alloc: Global,

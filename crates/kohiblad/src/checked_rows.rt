@@ -8,6 +8,7 @@ ghost use Rattle.kohiblad.specs.Words.{document_pair, keys_of, row_pairs, values
 
 use crate::rows::Rows;
 use jsonb::{Document, Error, is_document_within};
+use simdutf8::basic;
 use std::marker::Model;
 use std::str;
 
@@ -139,7 +140,7 @@ fn are_texts(rows: Rows) -> bool
 {
     let mut left = rows;
     while let Some((key, _)) = left.next_pair() {
-        if str::from_utf8(key).is_err() {
+        if basic::from_utf8(key).is_err() {
             return false;
         }
     }

@@ -38,8 +38,10 @@ struct ChildLayout {
 }
 
 /// Puts the cursor before the first child of an array or object. `NONE` if the bytes are neither;
-/// `InvalidEOF` if the header or an entry word that is read is cut off; `InvalidJsonb` if the
-/// header is of no kind. If the status is not `OK`, the cursor is unchanged.
+/// `InvalidEOF` if the header is cut off, or of an object the entry word of a key; `InvalidJsonb`
+/// if the header is of no kind. If the status is not `OK`, the cursor is unchanged. No other word
+/// is read: the header of five items alone gives `OK` and an offset past the bytes, at which
+/// `kohiblad_next` returns `InvalidEOF`.
 #[unsafe(no_mangle)]
 pub extern "C" fn kohiblad_begin(bytes: &[u8], cursor: &mut KohibladCursor) -> u32
     ensures { IsBegun (cursor_at bytes.now 0) cursor.old cursor.new result }
@@ -59,8 +61,8 @@ pub extern "C" fn kohiblad_begin(bytes: &[u8], cursor: &mut KohibladCursor) -> u
 /// positions that `kohiblad_find_index` returns. `NONE` if there are no more children, or the bytes
 /// are neither an array nor an object; `InvalidEOF` if the header or an entry word that is read is
 /// cut off; `InvalidJsonb` if the header is of no kind, or the key or value runs past the end. Both
-/// positions have the status that is returned, except that the key of an array's item has `NONE`; a
-/// position whose status is not `OK` has zeros. If the status that is returned is not `OK`, the
+/// positions have the status that is returned, but with `OK` the key of an array's item has `NONE`;
+/// a position whose status is not `OK` has zeros. If the status that is returned is not `OK`, the
 /// cursor is unchanged. Any cursor may be given: a position with `OK` is inside the bytes.
 #[unsafe(no_mangle)]
 pub extern "C" fn kohiblad_next(

@@ -15,18 +15,21 @@ use jsonb_functions::{
     Edit, append_index_keys, append_top_keys, concat, contains_within, edit_document, exists,
     merge_patch, read_path, strip_nulls,
 };
+use simdutf8::basic;
 use std::alloc::Global;
-use std::str;
 
 /// Whether the document `left` contains `right`, as 0 or 1. An object contains the objects whose
 /// keys it has, with values that contain those; an array contains the arrays for each of whose
 /// items it has one that contains it; a scalar contains what equals it; and at the top an array
 /// also contains a scalar that is one of its items. `TOO_MANY_STEPS` if that takes more than
-/// `steps` steps, one for each pair of values that are compared and each member that is passed
-/// over: it does not if they are at least the product of the numbers of values and keys in both.
-/// `InvalidJsonb` if `left` or `right` is not a document of at most this depth. If the status is
-/// not `OK`, the value is 0. A scalar has depth 0, an array or object one more than its deepest
-/// child, and at least 1. Deeper levels are not examined.
+/// `steps` steps. There is one for each pair of values that are compared, and for each member that
+/// is passed in search of a key, up to the first whose key is not below it; and one for each byte
+/// of the keys of these members, and of two texts, or two binary or opaque values, that are
+/// compared and equally long: 4 for {"a":1} in {"a":1}. `steps` suffice that are at least the
+/// product of the weights of both, the numbers of their values and keys and of the bytes of texts,
+/// keys, and binary and opaque values. `InvalidJsonb` if `left` or `right` is not a document of at
+/// most this depth. If the status is not `OK`, the value is 0. A scalar has depth 0, an array or
+/// object one more than its deepest child, and at least 1. Deeper levels are not examined.
 #[unsafe(no_mangle)]
 pub extern "C" fn kohiblad_contains(
     left: &[u8],
@@ -60,7 +63,7 @@ pub extern "C" fn kohiblad_exists(bytes: &[u8], key: &[u8], depth: usize) -> Koh
     ensures answer { IsUtf8 key.now
         → result ≡ exists_answer (meaning_within depth bytes.now) key.now }
 {
-    let Ok(key) = str::from_utf8(key) else {
+    let Ok(key) = basic::from_utf8(key) else {
         return no_truth(code(Error::InvalidUtf8));
     };
     match SortKey::within(bytes, depth) {
@@ -182,13 +185,14 @@ fn without_nulls(alloc: Global, bytes: SortKey<'_>) -> Result<OwnedJsonb, Error>
 }
 
 /// Copies the index keys of a document to `out`, and how many they are to `count`: one for each
-/// scalar, a 64-bit hash of the keys of the objects around it and of the scalar itself. A document
-/// that contains another has each of its index keys, so an index over them misses no document; two
-/// scalars may have the same key. There are at most as many as a quarter of `size`. `InvalidJsonb`
-/// if the bytes are not a document of at most this depth; `OutOfMemory` if an allocation fails;
-/// `NO_ROOM` if `out` is too short. If the status is not `OK`, `out` is unchanged, and `count` is
-/// 0, or for `NO_ROOM` the number of keys. A scalar has depth 0, an array or object one more than
-/// its deepest child, and at least 1. Deeper levels are not examined.
+/// scalar, the FNV-1a hash of 64 bits of the keys of the objects around it, from the outermost,
+/// each escaped and ended as in a comparable key, then a byte 0, and then the scalar's comparable
+/// key. A document that contains another has each of its index keys, so an index over them misses
+/// no document; two scalars may have the same key. There are at most as many as a quarter of
+/// `size`. `InvalidJsonb` if the bytes are not a document of at most this depth; `OutOfMemory` if
+/// an allocation fails; `NO_ROOM` if `out` is too short. If the status is not `OK`, `out` is
+/// unchanged, and `count` is 0, or for `NO_ROOM` the number of keys. A scalar has depth 0, an array
+/// or object one more than its deepest child, and at least 1. Deeper levels are not examined.
 #[unsafe(no_mangle)]
 pub extern "C" fn kohiblad_index_keys(
     alloc: Global,
@@ -220,14 +224,15 @@ fn index_keys(alloc: Global, document: Document<'_>) -> Result<Vec<u64>, Error>
     Ok(keys)
 }
 
-/// Copies the top keys of a document to `out`, and how many they are to `count`: a 64-bit hash of
-/// each key of an object, of each text among an array's items, or of the text itself. They are
-/// apart from the index keys, so one index holds both. If a key exists in a document, the one top
-/// key of the key's own document is one of the document's. There are at most as many as a quarter
-/// of `size`. `InvalidJsonb` if the bytes are not a document of at most this depth; `OutOfMemory`
-/// if an allocation fails; `NO_ROOM` if `out` is too short. If the status is not `OK`, `out` is
-/// unchanged, and `count` is 0, or for `NO_ROOM` the number of keys. A scalar has depth 0, an array
-/// or object one more than its deepest child, and at least 1. Deeper levels are not examined.
+/// Copies the top keys of a document to `out`, and how many they are to `count`: the FNV-1a hash of
+/// 64 bits of two bytes 0 and then each key of an object, each text among an array's items, or the
+/// text itself. They are apart from the index keys, so one index holds both. If a key exists in a
+/// document, the one top key of the key's own document is one of the document's. There are at most
+/// as many as a quarter of `size`. `InvalidJsonb` if the bytes are not a document of at most this
+/// depth; `OutOfMemory` if an allocation fails; `NO_ROOM` if `out` is too short. If the status is
+/// not `OK`, `out` is unchanged, and `count` is 0, or for `NO_ROOM` the number of keys. A scalar
+/// has depth 0, an array or object one more than its deepest child, and at least 1. Deeper levels
+/// are not examined.
 #[unsafe(no_mangle)]
 pub extern "C" fn kohiblad_top_keys(
     alloc: Global,
@@ -260,19 +265,20 @@ fn top_keys(alloc: Global, document: Document<'_>) -> Result<Vec<u64>, Error>
 
 /// Copies the canonical document of a document that is edited at the end of a path to `out`, and
 /// its length in bytes to `length`. `path` is the document of an array: a text is the key of a
-/// member, and a whole number the index of an item, counted from 0, or from -1 at the end. With
-/// `edit` 0 the value is put there, in place of what is there; with 1 it is inserted before an
-/// item, or as a member whose key is not there; with 2 what is there is removed, and no value is
-/// read. Past the last item a value comes after it, and before the first one in front of it. If a
-/// step before the last leads nowhere nothing is edited, and neither is the whole document but by
-/// putting a value. With 3 the value is put there, and what the path lacks is made: an object for
-/// each missing key, an array for the index 0; an item is added right after the last one only.
-/// `InvalidJsonb` if the bytes, the path or the value are not a document of at most this depth, or
-/// the result exceeds a limit of the format; `OTHER_KIND` if there is no such edit, or the path is
-/// not an array of texts and whole numbers of 64 bits; `OutOfMemory` if an allocation fails;
-/// `NO_ROOM` if `out` is shorter than the document. If the status is not `OK`, `out` is unchanged,
-/// and `length` is 0, or for `NO_ROOM` the length of the document. A scalar has depth 0, an array
-/// or object one more than its deepest child, and at least 1. Deeper levels are not examined.
+/// member, and a whole number the index of an item, counted from 0, or from -1 at the end; one that
+/// is stored as a decimal is none. With `edit` 0 the value is put there, in place of what is there;
+/// with 1 it is inserted before an item, or as a member whose key is not there; with 2 what is
+/// there is removed, and no value is read. Past the last item a value comes after it, and before
+/// the first one in front of it. If a step before the last leads nowhere nothing is edited, and
+/// neither is the whole document but by putting a value. With 3 the value is put there, and what
+/// the path lacks is made: an object for each missing key, an array for the index 0 or 2^64 - 1; an
+/// item is added right after the last one only, at its index or at 2^64 - 1. `InvalidJsonb` if the
+/// bytes, the path or the value are not a document of at most this depth, or the result exceeds a
+/// limit of the format; `OTHER_KIND` if there is no such edit, or the path is not an array of texts
+/// and whole numbers of 64 bits; `OutOfMemory` if an allocation fails; `NO_ROOM` if `out` is
+/// shorter than the document. If the status is not `OK`, `out` is unchanged, and `length` is 0, or
+/// for `NO_ROOM` the length of the document. A scalar has depth 0, an array or object one more than
+/// its deepest child, and at least 1. Deeper levels are not examined.
 #[unsafe(no_mangle)]
 pub extern "C" fn kohiblad_edit(
     alloc: Global,

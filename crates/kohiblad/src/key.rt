@@ -8,8 +8,9 @@ use jsonb::SortKey;
 use jsonb_comparable::{ComparableKey, KEY_LAYOUT};
 use std::alloc::Global;
 
-/// The number of the layout of keys. It changes only with the major version of the library: keys
-/// that are to be compared must be of libraries with the same number.
+/// The number of the layout of comparable keys, and of what is hashed for index keys and top keys.
+/// It changes only with the major version of the library: keys that are to be compared must be of
+/// libraries with the same number.
 #[unsafe(no_mangle)]
 pub extern "C" fn kohiblad_key_layout() -> u32
     ensures { result ≡ 1 }

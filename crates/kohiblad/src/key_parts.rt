@@ -8,9 +8,10 @@ ghost use Rattle.jsonb.specs.Node.{node_tree, value_of_key};
 ghost use Rattle.jsonb_comparable.specs.Sink.{length_64};
 ghost use Rattle.jsonb_comparable.specs.TreeKey.{tree_key};
 ghost use Rattle.kohiblad.specs.KeyParts.{IsCutKey, IsKeyOfMembers, IsMembersKey, keys_of_members};
-ghost use Rattle.kohiblad.specs.KeyParts.{IsLongHandedOver, members_named, part_cmp, part_key};
+ghost use Rattle.kohiblad.specs.KeyParts.{members_named, part_cmp, part_key};
 ghost use Rattle.kohiblad.specs.KeySink.{cut_into};
-ghost use Rattle.kohiblad.specs.Words.{Tree, document_tree, key_meaning, meaning_key};
+ghost use Rattle.kohiblad.specs.Words.{IsLongHandedOver, Tree, document_tree, key_meaning};
+ghost use Rattle.kohiblad.specs.Words.{meaning_key};
 ghost use Rattle.kohiblad.specs.Words.{meaning_within};
 
 use crate::answer::{NO_ROOM, OK, OTHER_KIND, code, refuse};

@@ -14,6 +14,7 @@ mod functions;
 mod key;
 mod key_parts;
 mod key_sink;
+mod key_tests;
 mod laws;
 mod named_paths;
 mod names;

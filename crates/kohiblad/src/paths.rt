@@ -18,14 +18,15 @@ use crate::path_places::{append_selected, place_at_end, whole_place};
 use crate::places::{KohibladPlace, no_place, place_answer};
 use jsonb::{Document, Error, SortKey, is_document_within};
 use jsonb_functions::{Selector, Step, document_of_path, read_path, read_path_text, steps_of_path};
+use simdutf8::basic;
 use std::alloc::Global;
-use std::str;
 
 /// Copies the document of the path that a text gives to `out`, and its length in bytes to `length`.
 /// The text is `$`, and then the steps: `.name` is the value of a key, and so is `."any name"`, if
-/// there are points, brackets or question marks in it; `[7]` is an item, `[#-1]` the last one, and
-/// `[#]` none, past the last one. The keys are the text's bytes, without escapes. The document is
-/// what `kohiblad_edit` and `kohiblad_get_path` take: an array with a text for each key and a whole
+/// there are points, brackets or question marks in it; `[7]` is an item, also as `[007]`, `[#-1]`
+/// the last one, and `[#]`, or `[#-0]`, none, past the last one. The keys are the text's bytes,
+/// without escapes: `.a\b` has a backslash, and `.*a` is the key `*a`. The document is what
+/// `kohiblad_edit` and `kohiblad_get_path` take: an array with a text for each key and a whole
 /// number for each item, where -1 is the last one. An index past 2^64 - 1 is stored as that, and
 /// one from the end past 2^63 as -2^63. `InvalidUtf8` if the text is not UTF-8; `OTHER_KIND` if it
 /// is not a path, or one with wildcards, ranges or filters; `InvalidJsonb` if a key has 2^28 bytes
@@ -41,7 +42,7 @@ pub extern "C" fn kohiblad_path_of_text(
 ) -> u32
     ensures { IsPathWritten text.now out.old out.new length.new result }
 {
-    match str::from_utf8(text) {
+    match basic::from_utf8(text) {
         Ok(text) => write_path(alloc, text, out, length),
         Err(_) => refuse(code(Error::InvalidUtf8), out, length),
     }
@@ -72,10 +73,11 @@ fn steps_of_text<'a>(alloc: Global, text: &'a str) -> Result<Option<Vec<Step<'a>
 
 /// The position of the value at the end of a path. `path` is the document of an array: a text is
 /// the key of a member, and a whole number the index of an item, counted from 0, or from -1 at the
-/// end. At the end of an empty path is the whole value: all bytes of an array or object, and the
-/// payload of a scalar. `NONE` if the path leads nowhere; `InvalidJsonb` if the bytes or the path
-/// are not a document of at most this depth; `OTHER_KIND` if the path is not an array of texts and
-/// whole numbers of 64 bits; `OutOfMemory` if an allocation fails. If the status is not `OK`, type,
+/// end. A number that is stored as a decimal is no index, also one without digits after its point.
+/// At the end of an empty path is the whole value: all bytes of an array or object, and the payload
+/// of a scalar. `NONE` if the path leads nowhere; `InvalidJsonb` if the bytes or the path are not a
+/// document of at most this depth; `OTHER_KIND` if the path is not an array of texts and whole
+/// numbers of 64 bits; `OutOfMemory` if an allocation fails. If the status is not `OK`, type,
 /// offset and length are 0. A scalar has depth 0, an array or object one more than its deepest
 /// child, and at least 1. Deeper levels are not examined.
 #[unsafe(no_mangle)]
@@ -116,18 +118,19 @@ fn path_place(alloc: Global, bytes: &[u8], path: Document<'_>) -> KohibladPlace
 
 /// Copies the positions of the values that a path selects to `out`, in the order in which they are
 /// stored, and how many they are to `count`. The path is a text as `kohiblad_path_of_text` reads
-/// it, in which `[*]` is each item of an array, `[0 to #-2]` the items from one to another, `.*`
-/// each member's value of an object, and `?(@.price < 3)` keeps a value if what is at the end of
-/// the path that begins with `@` compares so with a literal, by the order of documents. That path
-/// has no wildcards, ranges and filters, and a key with a space in it is written between quotes.
-/// The comparison is `==`, `!=` or `<>`, `<`, `<=`, `>` or `>=`, with one space before and after
-/// it, and the literal `null`, `true`, `false`, a JSON number, which is read exactly, or a string
-/// without quotes and escapes in it. `InvalidUtf8` if the text is not UTF-8; `InvalidJsonb` if the
-/// bytes are not a document of at most this depth; `OTHER_KIND` if the text is not a path;
-/// `OutOfMemory` if an allocation fails; `NO_ROOM` if `out` is too short. If the status is not
-/// `OK`, `out` is unchanged, and `count` is 0, or for `NO_ROOM` the number of positions. A scalar
-/// has depth 0, an array or object one more than its deepest child, and at least 1. Deeper levels
-/// are not examined.
+/// it, in which `[*]` is each item of an array, `[0 to #-2]` the items from one to another, as far
+/// as they are there (`[0 to #]` selects all, `[# to 1]` none), `.*` each member's value of an
+/// object, and `?(@.price < 3)` keeps a value if what is at the end of the path that begins with
+/// `@` compares so with a literal, by the order of documents. That path has no wildcards, ranges
+/// and filters, and a key with a space in it is written between quotes. The comparison is `==`,
+/// `!=` or `<>`, `<`, `<=`, `>` or `>=`, with one space before and after it, and the literal
+/// `null`, `true`, `false`, a JSON number, which is read exactly, or a string without quotes and
+/// escapes in it, in which a backslash is a backslash. `InvalidUtf8` if the text is not UTF-8;
+/// `InvalidJsonb` if the bytes are not a document of at most this depth; `OTHER_KIND` if the text
+/// is not a path; `OutOfMemory` if an allocation fails; `NO_ROOM` if `out` is too short. If the
+/// status is not `OK`, `out` is unchanged, and `count` is 0, or for `NO_ROOM` the number of
+/// positions. A scalar has depth 0, an array or object one more than its deepest child, and at
+/// least 1. Deeper levels are not examined.
 #[unsafe(no_mangle)]
 pub extern "C" fn kohiblad_select(
     alloc: Global,
@@ -143,7 +146,7 @@ pub extern "C" fn kohiblad_select(
     ensures document { (t : Tree) (selectors : List PathSelector) → Doc bytes.now t
         → HoldTrees bytes.now (selected_places selectors bytes.now) (selected selectors t) }
 {
-    let Ok(path) = str::from_utf8(path) else {
+    let Ok(path) = basic::from_utf8(path) else {
         return refuse(code(Error::InvalidUtf8), out, count);
     };
     if !is_document_within(bytes, depth) {

@@ -18,7 +18,7 @@ use jsonb_codec::constants::{
     ARRAY_CONTAINER_TAG, CONTAINER_TAG, EXTENSION_TAG, FALSE_TAG, NULL_TAG, NUMBER_TAG,
     OBJECT_CONTAINER_TAG, STRING_TAG, TRUE_TAG,
 };
-use std::str;
+use simdutf8::basic;
 
 /// The type of an entry, and the offset and length of its payload in bytes, as C receives them.
 /// They are 0 if the status is not `OK`.
@@ -46,9 +46,9 @@ pub extern "C" fn kohiblad_find_index(bytes: &[u8], number: usize) -> KohibladPl
     place_answer(part_in(bytes, number))
 }
 
-/// The position of the value of a key. `NONE` if the object has no such key, or the bytes are not
-/// an object; `InvalidUtf8` if the name is not UTF-8; for bytes that are not a document, the error
-/// of looking up the key in them. If the status is not `OK`, type, offset and length are 0.
+/// The position of the value of a key. `InvalidUtf8` if the name is not UTF-8; `NONE` if the object
+/// has no such key, or the bytes are not an object; for bytes that are not a document, the error of
+/// looking up the key in them. If the status is not `OK`, type, offset and length are 0.
 #[unsafe(no_mangle)]
 pub extern "C" fn kohiblad_find_key(bytes: &[u8], name: &[u8]) -> KohibladPlace
     ensures utf8 { (IsUtf8 name.now → ⊥) → result ≡ place_answer (Err Error.InvalidUtf8) }
@@ -62,8 +62,8 @@ pub extern "C" fn kohiblad_find_key(bytes: &[u8], name: &[u8]) -> KohibladPlace
 }
 
 /// Copies the value of a key to `out`, as a document of its own, and its length in bytes to
-/// `length`. `NONE` if the object has no such key, or the bytes are not an object; `InvalidUtf8` if
-/// the name is not UTF-8; for bytes that are not a document, the error of looking up the key in
+/// `length`. `InvalidUtf8` if the name is not UTF-8; `NONE` if the object has no such key, or the
+/// bytes are not an object; for bytes that are not a document, the error of looking up the key in
 /// them; `NO_ROOM` if `out` is shorter than the document. If the status is not `OK`, `out` is
 /// unchanged, and `length` is 0, or for `NO_ROOM` the length of the document.
 #[unsafe(no_mangle)]
@@ -237,7 +237,7 @@ fn place_of_key(bytes: &[u8], name: &[u8]) -> Result<Option<Entry>, Error>
         → IsValuePlace bytes.now t name.now result }
     ensures inside { IsInside bytes.now result }
 {
-    let Ok(name) = str::from_utf8(name) else {
+    let Ok(name) = basic::from_utf8(name) else {
         return Err(Error::InvalidUtf8);
     };
     let mut reads = Reads::new();

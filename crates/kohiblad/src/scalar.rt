@@ -17,7 +17,7 @@ use jsonb::Error;
 use jsonb::layer::{DocumentBytes, document_text};
 use jsonb_codec::constants::{FALSE_TAG, NULL_TAG, STRING_TAG, TRUE_TAG};
 use jsonb_codec::parts::Part;
-use std::str;
+use simdutf8::basic;
 
 // The kinds of truth values and of texts, as `kohiblad_kind` returns them.
 const BOOLEAN: u32 = 1;
@@ -128,7 +128,7 @@ pub extern "C" fn kohiblad_of_string(bytes: &[u8], out: &mut [u8], length: &mut 
     ensures past { IsUtf8 bytes.now → (IsShort bytes.now → ⊥)
         → IsRefused (code Error.InvalidJsonb) out.old out.new length.new result }
 {
-    if str::from_utf8(bytes).is_err() {
+    if basic::from_utf8(bytes).is_err() {
         return refuse(code(Error::InvalidUtf8), out, length);
     }
     if PAYLOAD_LIMIT <= bytes.len() {

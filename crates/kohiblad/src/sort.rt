@@ -14,8 +14,9 @@ use std::alloc::Global;
 /// counts as bytes that are not a document, and sorts by its bytes after all documents. A scalar
 /// has depth 0, an array or object one more than its deepest child, and at least 1. Each row is
 /// checked once, and deeper levels are not examined. `InvalidEOF` if an offset is below the
-/// previous one or beyond the bytes; `NO_ROOM` if `order` has fewer numbers than there are rows;
-/// `OutOfMemory` if an allocation fails. If the status is not `OK`, `order` is unchanged.
+/// previous one or beyond the bytes; then, before memory is requested, `NO_ROOM` if `order` has
+/// fewer numbers than there are rows; `OutOfMemory` if an allocation fails. If the status is not
+/// `OK`, `order` is unchanged.
 #[unsafe(no_mangle)]
 pub extern "C" fn kohiblad_sort(
     alloc: Global,

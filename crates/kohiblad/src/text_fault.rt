@@ -8,8 +8,8 @@ use crate::answer::{BAD_NUMBER, OK, TOO_DEEP, code};
 use json_fault::{Fault, FaultReason, text_fault, text_fault_with_exponents};
 use jsonb::Error;
 use jsonb::layer::is_text_within;
+use simdutf8::basic;
 use std::alloc::Global;
-use std::str;
 
 /// Whether a text is JSON, and where it is not, as C receives it. The offset is 0 if the status is
 /// neither `OK`, `InvalidJson` nor `BAD_NUMBER`.
@@ -24,8 +24,10 @@ pub struct KohibladFault {
 /// with the length of the text, if it is JSON; `TOO_DEEP` if more than `depth` brackets outside
 /// strings are open at once, tested before anything else; `InvalidUtf8` if the text is not UTF-8;
 /// `BAD_NUMBER` if its longest beginning that begins some JSON text ends in an unfinished or too
-/// large number; `InvalidJson` if it is not JSON for another reason; `OutOfMemory` if an allocation
-/// fails. Of `BAD_NUMBER` and `InvalidJson` the offset is the length in bytes of that beginning.
+/// large number, as `1.`; `InvalidJson` if it is not JSON for another reason, as `01` and `1.5.`,
+/// in which by the grammar of RFC 8259 the number ends before the last character; `OutOfMemory` if
+/// an allocation fails. Of `BAD_NUMBER` and `InvalidJson` the offset is the length in bytes of that
+/// beginning.
 #[unsafe(no_mangle)]
 pub extern "C" fn kohiblad_text_fault(
     alloc: Global,
@@ -42,7 +44,7 @@ pub extern "C" fn kohiblad_text_fault(
     if !is_text_within(text, depth) {
         return no_fault(TOO_DEEP);
     }
-    match str::from_utf8(text) {
+    match basic::from_utf8(text) {
         Ok(text) => fault_of(alloc, text, exponents),
         Err(_) => no_fault(code(Error::InvalidUtf8)),
     }

@@ -1,15 +1,15 @@
 //! Printing bytes as texts, and parsing texts into documents.
 
 ghost use Rattle.kohiblad.specs.Words.{plain_text, lined_text, other_text, meaning_within};
-ghost use Rattle.kohiblad.specs.Words.{IsWrittenOut, IsReadWithin, ParsesUnder, rule_of};
-ghost use Rattle.kohiblad.specs.Words.{result_bytes};
+ghost use Rattle.kohiblad.specs.Words.{IsLongWrittenOut, IsWrittenOut, IsReadWithin, ParsesUnder};
+ghost use Rattle.kohiblad.specs.Words.{document_tree, pretty, result_bytes, rule_of};
 
-use crate::answer::{TOO_DEEP, code, hand_over, hand_over_made, refuse};
+use crate::answer::{NO_ROOM, TOO_DEEP, code, hand_over, hand_over_made, refuse};
 use bstr::ByteSlice;
 use jsonb::layer::is_text_within;
-use jsonb::{Error, OwnedJsonb, SortKey};
+use jsonb::{Document, Error, OwnedJsonb, SortKey};
+use simdutf8::basic;
 use std::alloc::Global;
-use std::str;
 
 /// Copies the text of the bytes to `out`, and its length in bytes to `length`: the compact text of
 /// a document, `null` for no bytes, and for all other bytes their own text, with U+FFFD in place of
@@ -56,8 +56,11 @@ fn write_other(alloc: Global, bytes: &[u8], out: &mut [u8], length: &mut usize) 
 /// container, and `null` for all other bytes. A document that nests deeper than `depth` levels
 /// counts as bytes that are not a document, so its text is `null`. A scalar has depth 0, an array
 /// or object one more than its deepest child, and at least 1. Deeper levels are not examined.
-/// `OutOfMemory` if an allocation fails; `NO_ROOM` if `out` is shorter than the text. If the status
-/// is not `OK`, `out` is unchanged, and `length` is 0, or for `NO_ROOM` the length of the text.
+/// `NO_ROOM` if `out` is shorter than the text, which is counted first, in one walk over the bytes
+/// and without memory; the length is `SIZE_MAX` if the text is longer. `OutOfMemory` if an
+/// allocation fails, which is asked for only if there is room, and once, for the text. If the
+/// status is not `OK`, `out` is unchanged, and `length` is 0, or for `NO_ROOM` the length of the
+/// text.
 #[unsafe(no_mangle)]
 pub extern "C" fn kohiblad_pretty(
     alloc: Global,
@@ -66,15 +69,27 @@ pub extern "C" fn kohiblad_pretty(
     out: &mut [u8],
     length: &mut usize,
 ) -> u32
-    ensures { IsWrittenOut (lined_text (meaning_within depth bytes.now)) out.old out.new length.new
-        result }
+    ensures { IsLongWrittenOut (lined_text (meaning_within depth bytes.now)) out.old out.new
+        length.new result }
 {
     match SortKey::within(bytes, depth) {
-        SortKey::Document(document) => match document.to_pretty_string(alloc) {
-            Ok(text) => hand_over(text.as_bytes(), out, length),
-            Err(error) => refuse(code(error), out, length),
-        },
+        SortKey::Document(document) => write_pretty(alloc, document, out, length),
         SortKey::Other(_) => hand_over(b"null", out, length),
+    }
+}
+
+// Copies out the pretty text of a document if it fits, which is counted before.
+fn write_pretty(alloc: Global, document: Document<'_>, out: &mut [u8], length: &mut usize) -> u32
+    ensures { IsLongWrittenOut (pretty (document_tree document.entry)) out.old out.new length.new
+        result }
+{
+    *length = document.pretty_len();
+    if out.len() < *length || *length == usize::MAX {
+        return NO_ROOM;
+    }
+    match document.to_pretty_string(alloc) {
+        Ok(text) => hand_over(text.as_bytes(), out, length),
+        Err(error) => refuse(code(error), out, length),
     }
 }
 
@@ -100,7 +115,7 @@ pub extern "C" fn kohiblad_parse(
     if !is_text_within(text, depth) {
         return refuse(TOO_DEEP, out, length);
     }
-    let Ok(text) = str::from_utf8(text) else {
+    let Ok(text) = basic::from_utf8(text) else {
         return refuse(code(Error::InvalidUtf8), out, length);
     };
     hand_over_made(parsed(alloc, text, exponents), out, length)

@@ -5,7 +5,7 @@ use Rattle.kohiblad.proofs.named_paths.kohiblad_path_in.Goals as goal
 
 pub returns-in-Ok : goal.returns-in-Ok
 returns-in-Ok c =
-    let text = c.in-Ok.ensures.cases in
+    let text = c.in-Ok.ensures in
     let call = c.write_path_within in
     inr (
       text.1,

@@ -4,7 +4,7 @@ use Rattle.kohiblad.proofs.paths.kohiblad_path_of_text.Goals as goal
 
 pub returns-in-Ok : goal.returns-in-Ok
 returns-in-Ok c =
-    let text = c.in-Ok.ensures.cases in
+    let text = c.in-Ok.ensures in
     let call = c.write_path in
     inr (
       text.1,

@@ -14,7 +14,7 @@ returns-then-not-is_document_within-clause-document c =
 
 pub returns-clause-places : goal.returns-clause-places
 returns-clause-places c =
-    let text = c.in-Ok.ensures.cases in
+    let text = c.in-Ok.ensures in
     let call = c.write_selected in
     let places = subst
     (λ (t : List ℕ). AreTextPlaces c.args.bytes.now t c.args.out.now call.new.out call.new.count

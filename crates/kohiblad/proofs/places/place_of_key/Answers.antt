@@ -7,7 +7,7 @@ pub returns-in_err-found-clause-place : goal.returns-in_err-found-clause-place
 returns-in_err-found-clause-place c = λ text.
     let call = c.find_object_value_counted in
     let found =
-    place_found _ c.args.name.now c.in-Ok.name.now c.args.bytes.now _ c.in-Ok.ensures.cases.0
+    place_found _ c.args.name.now c.in-Ok.name.now c.args.bytes.now _ c.in-Ok.ensures.0
     c.new-object.ensures (λ key b says. search rules) _ call.result call.ensures.bytes
     call.ensures.place in
     let refused : c.from_residual.result ≡ Err c.in_err-found.field-0.0 = search rules in
@@ -17,7 +17,7 @@ pub returns-in-Some-clause-place : goal.returns-in-Some-clause-place
 returns-in-Some-clause-place c = λ text.
     let call = c.find_object_value_counted in
     let found =
-    place_found _ c.args.name.now c.in-Ok.name.now c.args.bytes.now _ c.in-Ok.ensures.cases.0
+    place_found _ c.args.name.now c.in-Ok.name.now c.args.bytes.now _ c.in-Ok.ensures.0
     c.new-object.ensures (λ key b says. search rules) _ call.result call.ensures.bytes
     call.ensures.place in
     rw (c.in_ok-found.was, c.in-Some.is) at found
@@ -26,7 +26,7 @@ pub returns-in-None-clause-place : goal.returns-in-None-clause-place
 returns-in-None-clause-place c = λ text.
     let call = c.find_object_value_counted in
     let found =
-    place_found _ c.args.name.now c.in-Ok.name.now c.args.bytes.now _ c.in-Ok.ensures.cases.0
+    place_found _ c.args.name.now c.in-Ok.name.now c.args.bytes.now _ c.in-Ok.ensures.0
     c.new-object.ensures (λ key b says. search rules) _ call.result call.ensures.bytes
     call.ensures.place in
     rw (c.in_ok-found.was, c.in-None.is) at found

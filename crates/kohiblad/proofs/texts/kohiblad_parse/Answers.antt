@@ -4,7 +4,7 @@ use Rattle.kohiblad.proofs.texts.kohiblad_parse.Goals as goal
 
 pub returns : goal.returns
 returns c =
-    let text = c.in-Ok.ensures.cases in
+    let text = c.in-Ok.ensures in
     let read = subst
     (λ (t : List ℕ). IsRead (rule_of c.args.exponents) t c.args.out.now c.hand_over_made.new.out
     c.hand_over_made.new.size c.hand_over_made.result) text.0
