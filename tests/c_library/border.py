@@ -38,12 +38,29 @@ class Extension(ctypes.Structure):
                 ("offset", ctypes.c_uint64), ("length", ctypes.c_uint64)]
 
 
+class Fault(ctypes.Structure):
+    _fields_ = [("status", ctypes.c_uint32), ("offset", ctypes.c_uint64)]
+
+
+class Integer(ctypes.Structure):
+    _fields_ = [("status", ctypes.c_uint32), ("value", ctypes.c_int64)]
+
+
+class Truth(ctypes.Structure):
+    _fields_ = [("status", ctypes.c_uint32), ("value", ctypes.c_uint32)]
+
+
+class Cursor(ctypes.Structure):
+    _fields_ = [("index", ctypes.c_uint64), ("key", ctypes.c_uint64), ("value", ctypes.c_uint64)]
+
+
 for predicate in ("check", "is_canonical"):
     getattr(LIBRARY, "kohiblad_" + predicate).restype = ctypes.c_bool
-LIBRARY.kohiblad_kind.restype = Kind
-LIBRARY.kohiblad_as_decimal.restype = Decimal
-LIBRARY.kohiblad_as_extension.restype = Extension
-LIBRARY.kohiblad_find_key.restype = LIBRARY.kohiblad_find_index.restype = Place
+for answer, calls in ((Kind, "kind"), (Decimal, "as_decimal"), (Extension, "as_extension"),
+                      (Integer, "as_int64"), (Fault, "text_fault"), (Truth, "exists"),
+                      (Place, "find_key find_index get_path")):
+    for call in calls.split():
+        getattr(LIBRARY, "kohiblad_" + call).restype = answer
 
 
 def given(values):
@@ -188,6 +205,187 @@ def known_answers():
     assert list(order) == [2, 3, 1, 0]
 
 
+def document(text):
+    status, made = parse(text.encode(), 1000, 1)
+    assert status == 0, text
+    return made
+
+
+def text_of(asked):
+    """The text of a document that a call made, or the name of the status."""
+    status, made = asked
+    return name_of(status) if status else ask("print", made, ANY_DEPTH)[1].decode()
+
+
+def selected(text, path):
+    """The texts of the values that a path selects, or the name of the status."""
+    places, count, given_bytes = (Place * 99)(), SIZE(), document(text)
+    status = LIBRARY.kohiblad_select(*given([given_bytes, path.encode(), ANY_DEPTH]), places,
+                                     SIZE(99), ctypes.byref(count))
+    if status:
+        return name_of(status)
+    parts = [(it.type, given_bytes[it.offset:it.offset + it.length])
+             for it in places[:count.value]]
+    return [text_of(ask("copy", *part)) for part in parts]
+
+
+def path_texts():
+    """What docs/FUNCTIONS.md says of path texts and names."""
+    for path, answer in (
+            ("$[0 to #]", "123"), ("$[# to 1]", ""), ("$[0 to #-0]", "123"), ("$[2 to 1]", ""),
+            ("$[#-9 to 01]", "12"), ("$[#-0]", ""), ("$[#]", ""), ("$[01]", "2"), ("$[007]", ""),
+            ("$[#-01]", "3")):
+        assert "".join(selected("[1,2,3]", path)) == answer, path
+    for path in ("$[]", "$[-1]", "$[+1]", "$[ 1]", "$[0  to 1]", "$.", '$."a\\""', "$.*b*[",
+                 "$?(@.* == 1)", "$?(@ == 01)", "$?(@  == 1)"):
+        assert selected("[1,2,3]", path) == "OtherKind", path
+    keys = '{"*a":1,"a":2,"*":3,"":4,"a\\\\":5,"a\\"":6}'
+    for path, answer in (("$.*a", "1"), ('$."*"', "3"), ('$.""', "4"), ("$.a\\", "5"),
+                         ('$."a\\"', "5"), ('$.a"', "6"), ("$.*", "431265")):
+        assert "".join(selected(keys, path)) == answer, path
+    backslashes = r'["a\\b","a\nb","a\\nb","\\"]'
+    for path, answer in ((r'$[*]?(@ == "a\b")', r'"a\\b"'), (r'$[*]?(@ == "a\nb")', r'"a\\nb"'),
+                         (r'$[*]?(@ == "\")', r'"\\"'), (r'$[*]?(@ == "a\\b")', "")):
+        assert "".join(selected(backslashes, path)) == answer, path
+    for path, answer in (("$[#-0]", "[18446744073709551615]"), ("$[007].a", '[7,"a"]'),
+                         ("$[18446744073709551616]", "[18446744073709551615]"),
+                         ("$[#-9999999999999999999]", "[-9223372036854775808]"),
+                         ("$.*", "OtherKind"), ("$.*a", '["*a"]'), ("$[0 to #]", "OtherKind")):
+        assert text_of(ask("path_of_text", path.encode())) == answer, path
+    within = document('{"a":[1,2]}')
+    for text, answer in (
+            ("/a/-", '["a",18446744073709551615]'), ("/a/01", '["a","01"]'),
+            ("/a/18446744073709551616", '["a",18446744073709551615]'), ("{a,-1}", '["a",-1]'),
+            ("$.a[*]", "OtherKind"), ("$.a[0 to 1]", "OtherKind"), ("$.a?(@ == 1)", "OtherKind"),
+            ("{a\u00a0b}", '["a\u00a0b"]'), ("{\u2003}", '["\u2003"]'),
+            ("{a\x1cb}", r'["a\u001cb"]')):
+        assert text_of(ask("path_in", within, text.encode(), 2)) == answer, text
+    for space in "\t\n\v\f\r ":
+        assert text_of(ask("path_in", within, f"{{a{space}b}}".encode(), 2)) == "OtherKind"
+        assert ask("path_in", within, f'{{"a{space}b"}}'.encode(), 2)[0] == 0
+
+
+def edits():
+    """What docs/FUNCTIONS.md says of Create, and the header of paths that are documents."""
+    for text, path, answer in (
+            ("{}", '["a","b"]', '{"a":{"b":9}}'), ("{}", '["a",0,"b"]', '{"a":[{"b":9}]}'),
+            ("{}", '["a",18446744073709551615]', '{"a":[9]}'), ("{}", '["a",1]', "{}"),
+            ("{}", '["a",-1]', "{}"), ("[1]", '[1,"a"]', '[1,{"a":9}]'), ("[1]", "[2]", "[1]"),
+            ("[1]", "[18446744073709551615]", "[1,9]"), ("[1]", "[-1]", "[9]"),
+            ("[]", "[-1]", "[]"), ('{"a":null}', '["a","b"]', '{"a":null}')):
+        made = ask("edit", document(text), document(path), 3, document("9"), 3)
+        assert text_of(made) == answer, (text, path)
+    # A zero that is stored as a decimal is no index.
+    path = bytes.fromhex("800000012000000a70000000000000000000")
+    assert name_of(tell("get_path", document("[1]"), path, 1).status) == "OtherKind"
+    assert text_of(ask("edit", document("[1]"), path, 2, b"", 1)) == "OtherKind"
+    # The depth counts for the path, which is an array, and for names.
+    empty = document("[]")
+    for depth, status in ((0, "InvalidJsonb"), (1, "Ok")):
+        assert name_of(tell("get_path", document("1"), empty, depth).status) == status
+        assert name_of(ask("edit", document("1"), empty, 2, b"", depth)[0]) == status
+        assert name_of(ask("pick", document("1"), empty, 0, depth)[0]) == status
+
+
+def refusals():
+    """Which status comes first where several are due, as the header says."""
+    other, names, no_path = b"\xff", document("[]"), document("null")
+    no_order = ((SIZE * 1)(), SIZE(0))
+    for answer, asked in (
+            ("TooDeep", parse(b"[\xff", 0)), ("InvalidUtf8", parse(b"[\xff", 1)),
+            ("InvalidUtf8", ask("path_in", other, b"\xff", 9)),
+            ("InvalidJsonb", ask("path_in", other, b"x", 9)),
+            ("InvalidUtf8", ask("get_key", other, b"\xff")),
+            ("InvalidJsonb", ask("pick", other, no_path, 0, 9)),
+            ("OtherKind", ask("pick", names, no_path, 0, 9)),
+            ("InvalidJsonb", ask("member_key", other, no_path, 9)),
+            ("InvalidJsonb", ask("edit", other, no_path, 9, other, 9)),
+            ("InvalidJsonb", ask("edit", names, other, 9, other, 9)),
+            ("InvalidJsonb", ask("edit", names, no_path, 0, other, 9)),
+            ("OtherKind", ask("edit", names, no_path, 9, other, 9)),
+            ("OtherKind", ask("edit", names, no_path, 2, other, 9)),
+            ("InvalidEOF", ask("build_array", other, [0, 1, 0], 9)),
+            ("InvalidEOF", ask("build_object", *rows([b"\xff", other, b"a"]), 9)),
+            ("InvalidJsonb", ask("build_object", *rows([b"\xff", other]), 9)),
+            ("InvalidUtf8", ask("build_object", *rows([b"a", names, b"a", names, b"\xff", names]),
+                                9))):
+        assert name_of(asked[0]) == answer, (answer, asked)
+    for answer, status in (
+            ("TooDeep", tell("text_fault", b"[\xff", 0, 0).status),
+            ("InvalidUtf8", tell("text_fault", b"]\xff", 0, 0).status),
+            ("InvalidUtf8", tell("exists", other, b"\xff", 9).status),
+            ("InvalidUtf8", tell("find_key", other, b"\xff").status),
+            ("InvalidJsonb", tell("get_path", other, no_path, 9).status),
+            ("InvalidEOF", LIBRARY.kohiblad_sort(*given([names, [0, 5], 9]), *no_order)),
+            ("NoRoom", LIBRARY.kohiblad_sort(*given([names, [0, 4], 9]), *no_order)),
+            ("InvalidUtf8", LIBRARY.kohiblad_select(*given([other, b"\xff", 9]), (Place * 1)(),
+                                                    SIZE(0), ctypes.byref(SIZE()))),
+            ("InvalidJsonb", LIBRARY.kohiblad_select(*given([other, b"x", 9]), (Place * 1)(),
+                                                     SIZE(0), ctypes.byref(SIZE())))):
+        assert name_of(status) == answer, answer
+
+
+def faults():
+    """Where texts are not JSON, by the grammar of RFC 8259."""
+    for text, name, offset in (
+            (b"01", "InvalidJson", 1), (b"1.5.", "InvalidJson", 3), (b"-01", "InvalidJson", 2),
+            (b"1-", "InvalidJson", 1), (b".5", "InvalidJson", 0), (b"1.", "BadNumber", 2),
+            (b"1..", "BadNumber", 2), (b"-a", "BadNumber", 1), (b"[1,]", "InvalidJson", 3),
+            (b"[1", "InvalidJson", 2), (b"1" * 40, "BadNumber", 39), (b"1e5", "BadNumber", 1)):
+        fault = tell("text_fault", text, 9, 0)
+        assert (name_of(fault.status), fault.offset) == (name, offset), text
+
+
+def walks():
+    """What a walk gives where it begins, ends and is refused."""
+    def begun(text):
+        cursor, given_bytes = Cursor(7, 7, 7), bytes.fromhex(text)
+        status = LIBRARY.kohiblad_begin(*given([given_bytes]), ctypes.byref(cursor))
+        return name_of(status), cursor.index, cursor.key, cursor.value
+
+    def stepped(given_bytes, *cursor):
+        cursor, key, value = Cursor(*cursor), Place(9, 9, 9, 9), Place(9, 9, 9, 9)
+        LIBRARY.kohiblad_next(*given([given_bytes]), *map(ctypes.byref, (cursor, key, value)))
+        assert value.status == 0 or (value.type, value.offset, value.length) == (0, 0, 0)
+        assert key.status == 0 or (key.type, key.offset, key.length) == (0, 0, 0)
+        return name_of(key.status), name_of(value.status)
+
+    for text, answer in (("80000005", ("Ok", 0, 0, 24)), ("40000001", ("InvalidEOF", 7, 7, 7)),
+                         ("4000000110000001", ("Ok", 0, 12, 13)),
+                         ("20000000", ("None", 7, 7, 7)), ("00000000", ("InvalidJsonb", 7, 7, 7))):
+        assert begun(text) == answer, text
+    array, pairs = document("[1]"), document('{"a":1}')
+    assert stepped(bytes.fromhex("80000005"), 0, 0, 24) == ("InvalidEOF", "InvalidEOF")
+    assert stepped(array, 0, 0, 8) == ("None", "Ok")
+    assert stepped(array, 1, 0, 10) == ("None", "None")
+    assert stepped(array[:-1], 0, 0, 8) == ("InvalidJsonb", "InvalidJsonb")
+    assert stepped(pairs, 0, 12, 13) == ("Ok", "Ok")
+    assert stepped(pairs[:-1], 0, 12, 13) == ("InvalidJsonb", "InvalidJsonb")
+
+
+def index_keys():
+    """The bytes that docs/FUNCTIONS.md says are hashed."""
+    def hashed(text):
+        value = 0xcbf29ce484222325
+        for byte in bytes.fromhex(text):
+            value = (value ^ byte) * 0x100000001b3 % 2 ** 64
+        return value
+
+    for call, text, keys in (
+            ("index_keys", '{"id":3,"town":"Oslo"}',
+             ("6964 01 00 8206", "746f776e 01 00 a0 4f736c6f 01")),
+            ("index_keys", '{"a":[1,{"b\\u0000":null}]}',
+             ("61 01 00 8202", "61 01 62 0201 01 00 d0")),
+            ("index_keys", "[1,[1.0]]", ("00 8202", "00 8202")), ("index_keys", "{}", ()),
+            ("top_keys", '{"a":1,"b\\u0000":{"c":2}}', ("0000 61", "0000 6200")),
+            ("top_keys", '["a",1,"a"]', ("0000 61", "0000 61")), ("top_keys", '"a"', ("0000 61",)),
+            ("top_keys", "1", ())):
+        made, count = (ctypes.c_uint64 * 9)(), SIZE()
+        status = getattr(LIBRARY, "kohiblad_" + call)(*given([document(text), 9]), made, SIZE(9),
+                                                      ctypes.byref(count))
+        assert (status, made[:count.value]) == (0, list(map(hashed, keys))), text
+
+
 def probe(line, answer):
     """Whether a call of the library answers this line of jsonb_probe, and then whether alike."""
     command, *words = line.split(" ")
@@ -276,5 +474,6 @@ def agreement(folder):
         print(f"{asked} lines of {program} are answered alike")
 
 
-known_answers()
+for test in (known_answers, path_texts, edits, refusals, faults, walks, index_keys):
+    test()
 agreement(sys.argv[2])

@@ -1,5 +1,6 @@
 /* How many levels a call survives on a stack of a given size: depths CALL KILOBYTES LEVELS SHAPE.
- * Ends well where the call came back. SHAPE is a or o, for nested arrays or objects. */
+ * Ends well where the call came back, and prints how many bytes of the stack the call wrote to.
+ * SHAPE is a or o, for nested arrays or objects. */
 #define _DEFAULT_SOURCE
 #include "kohiblad.h"
 
@@ -7,12 +8,22 @@
 #include <stdio.h>
 #include <stdlib.h>
 #include <string.h>
+#include <sys/mman.h>
+
+/* What a stack is painted with, and how much below it has no access right. */
+enum { PAINT = 0xa5, GUARD = 65536 };
 
 static uint8_t *in, *out;
 static size_t in_size, room, levels;
+/* The document once more, with another innermost number; both in a row; and the array of both. */
+static uint8_t *more, *both, *pair;
+static size_t pair_size;
+/* The ends of a worker's stack. */
+static uint8_t *stack_end, *stack_top;
 static const char *name;
 static const uint8_t no_names[] = { 0x80, 0, 0, 0 };
 static const uint8_t one_name[] = { 0x80, 0, 0, 1, 0x10, 0, 0, 1, 'a' };
+static const uint8_t null[] = { 0x20, 0, 0, 0, 0, 0, 0, 0 }, object[] = { 0x40, 0, 0, 0 };
 
 static bool reads_text(void) { return !strcmp(name, "parse") || !strcmp(name, "text_fault"); }
 
@@ -39,16 +50,13 @@ static void *work(void *unused) {
         status = !kohiblad_check(in, in_size, levels);
     else if (!strcmp(name, "is_canonical"))
         status = !kohiblad_is_canonical(in, in_size, levels);
-    else if (!strcmp(name, "compare")) {
-        /* Equal bytes are not walked, so the innermost number is one more on one side. */
-        uint8_t *more = malloc(in_size);
-        if (!more) abort();
-        memcpy(more, in, in_size);
-        more[in_size - 1]++;
+    else if (!strcmp(name, "compare"))
         status = kohiblad_compare(in, in_size, more, in_size, levels) != -1;
-        free(more);
-    } else if (!strcmp(name, "sort"))
-        status = kohiblad_sort(in, in_size, (size_t[]){ 0, in_size }, 2, levels, &length, 1);
+    else if (!strcmp(name, "sort"))
+        status = kohiblad_sort(both, 2 * in_size, (size_t[]){ 0, in_size, 2 * in_size }, 3, levels,
+                               (size_t[]){ 0, 0 }, 2);
+    else if (!strcmp(name, "key"))
+        status = kohiblad_key(in, in_size, levels, out, room, &length);
     else if (!strcmp(name, "bounded")) {
         /* Each call that looks no deeper than 64 levels, or into no child. */
         struct kohiblad_cursor cursor;
@@ -71,6 +79,10 @@ static void *work(void *unused) {
         status |= kohiblad_contains(in, in_size, in, in_size, 64, 1).status
             != KOHIBLAD_INVALID_JSONB;
         status |= kohiblad_exists(in, in_size, (const uint8_t *)"a", 1, 64).status
+            != KOHIBLAD_INVALID_JSONB;
+        status |= kohiblad_exists_any(in, in_size, in, in_size, 64).status
+            != KOHIBLAD_INVALID_JSONB;
+        status |= kohiblad_exists_all(in, in_size, in, in_size, 64).status
             != KOHIBLAD_INVALID_JSONB;
         status |= kohiblad_concat(in, in_size, in, in_size, 64, out, room, &length)
             != KOHIBLAD_INVALID_JSONB;
@@ -113,29 +125,47 @@ static void *work(void *unused) {
         (void)kohiblad_get_index(in, in_size, 0, out, room, &length);
     } else if (!strcmp(name, "print"))
         status = kohiblad_print(in, in_size, levels, out, room, &length);
-    else if (!strcmp(name, "pretty"))
-        status = kohiblad_pretty(in, in_size, levels, out, 0, &length);
-    else if (!strcmp(name, "canonical"))
+    else if (!strcmp(name, "pretty")) {
+        /* Without room the text is only counted. */
+        if (kohiblad_pretty(in, in_size, levels, NULL, 0, &length) != KOHIBLAD_NO_ROOM) abort();
+        uint8_t *text = malloc(length);
+        if (!text) abort();
+        status = kohiblad_pretty(in, in_size, levels, text, length, &length);
+        if (status != KOHIBLAD_OK) abort();
+        free(text);
+    } else if (!strcmp(name, "canonical"))
         status = kohiblad_canonical(in, in_size, levels, out, room, &length);
     else if (!strcmp(name, "contains"))
         status = kohiblad_contains(in, in_size, in, in_size, levels, SIZE_MAX).value != 1;
     else if (!strcmp(name, "concat"))
         status = kohiblad_concat(in, in_size, in, in_size, levels, out, 0, &length);
-    else if (!strcmp(name, "merge_patch"))
+    else if (!strcmp(name, "merge_patch")) {
         status = kohiblad_merge_patch(in, in_size, in, in_size, levels, out, room, &length);
+        status |= kohiblad_merge_patch(object, sizeof object, in, in_size, levels, out, room,
+                                       &length);
+    } else if (!strcmp(name, "exists"))
+        status = kohiblad_exists(in, in_size, (const uint8_t *)"a", 1, levels).status;
+    else if (!strcmp(name, "object_keys"))
+        status = kohiblad_object_keys(in, in_size, levels, out, room, &length) % KOHIBLAD_NONE;
+    else if (!strcmp(name, "top_keys"))
+        status = kohiblad_top_keys(in, in_size, levels, NULL, 0, &length);
+    else if (!strcmp(name, "path_in"))
+        status = kohiblad_path_in(in, in_size, (const uint8_t *)"/a", 2, levels, out, room,
+                                  &length);
     else if (!strcmp(name, "strip_nulls"))
         status = kohiblad_strip_nulls(in, in_size, levels, out, room, &length);
     else if (!strcmp(name, "pick"))
         status = kohiblad_pick(in, in_size, no_names, sizeof no_names, KOHIBLAD_OTHERS, levels, out,
                                room, &length);
     else if (!strcmp(name, "array_distinct"))
-        status = kohiblad_array_distinct(in, in_size, levels, out, room, &length);
+        status = kohiblad_array_distinct(pair, pair_size, levels + 1, out, room, &length);
     else if (!strcmp(name, "array_intersection"))
-        status = kohiblad_array_intersection(in, in_size, in, in_size, levels, out, room, &length);
+        status = kohiblad_array_intersection(in, in_size, more, in_size, levels, out, room,
+                                             &length);
     else if (!strcmp(name, "array_except"))
-        status = kohiblad_array_except(in, in_size, in, in_size, levels, out, room, &length);
+        status = kohiblad_array_except(in, in_size, more, in_size, levels, out, room, &length);
     else if (!strcmp(name, "array_overlap"))
-        status = kohiblad_array_overlap(in, in_size, in, in_size, levels).value != 1;
+        status = kohiblad_array_overlap(in, in_size, more, in_size, levels).value;
     else if (!strcmp(name, "key_cut"))
         status = kohiblad_key_cut(in, in_size, levels, out, room, &length);
     else if (!strcmp(name, "member_key"))
@@ -144,9 +174,11 @@ static void *work(void *unused) {
     else if (!strcmp(name, "edit")) {
         size_t path_size;
         uint8_t *path = path_of(&path_size);
-        static const uint8_t null[] = { 0x20, 0, 0, 0, 0, 0, 0, 0 };
+        bool is_object = in[0] == 0x40;
         status = kohiblad_edit(in, in_size, path, path_size, KOHIBLAD_PUT, null, sizeof null,
                                levels, out, 0, &length);
+        status |= kohiblad_edit(is_object ? object : no_names, sizeof object, path, path_size,
+                                KOHIBLAD_CREATE, null, sizeof null, levels, out, room, &length);
         free(path);
     } else if (!strcmp(name, "get_path")) {
         size_t path_size;
@@ -171,6 +203,9 @@ static void *work(void *unused) {
     else if (!strcmp(name, "build_array"))
         status = kohiblad_build_array(in, in_size, (size_t[]){ 0, in_size }, 2, levels, out,
                                       room, &length);
+    else if (!strcmp(name, "build_object"))
+        status = kohiblad_build_object(in, in_size, (size_t[]){ 0, 0, in_size }, 3, levels, out,
+                                       room, &length);
     else if (!strcmp(name, "parse"))
         status = kohiblad_parse(in, in_size, levels, 0, out, room, &length);
     else if (!strcmp(name, "text_fault"))
@@ -191,36 +226,66 @@ static void text_of(size_t deep, int shape) {
     memset(p, shape == 'o' ? '}' : ']', deep);
 }
 
+/* Notes where the stack of the call begins, and calls. */
+static void *noted(void *unused) {
+    stack_top = __builtin_frame_address(0);
+    return work(unused);
+}
+
+/* Runs the call on a stack of this size, and returns to how many bytes of it the call wrote. */
+static size_t run(size_t size) {
+    uint8_t *block = mmap(0, GUARD + size, PROT_READ | PROT_WRITE, MAP_PRIVATE | MAP_ANONYMOUS, -1,
+                          0);
+    if (block == MAP_FAILED || mprotect(block, GUARD, PROT_NONE)) exit(2);
+    stack_end = block + GUARD;
+    memset(stack_end, PAINT, size);
+    pthread_attr_t attributes;
+    pthread_t worker;
+    pthread_attr_init(&attributes);
+    if (pthread_attr_setstack(&attributes, stack_end, size)
+        || pthread_create(&worker, &attributes, noted, NULL))
+        exit(2);
+    pthread_join(worker, NULL);
+    uint8_t *lowest = stack_end;
+    while (lowest < stack_top && *lowest == PAINT) lowest++;
+    size_t used = (size_t)(stack_top - lowest);
+    munmap(block, GUARD + size);
+    return used;
+}
+
+/* The document of the text, whose depth takes no stack, and what calls compare it with. */
+static void make_documents(bool is_object) {
+    const char *wanted = name;
+    name = "parse";
+    work(NULL);
+    uint8_t *text = in;
+    /* A level has a header, and of an object 9 bytes or of an array 4; the number has 2. */
+    in_size = levels * (is_object ? 13 : 8) + 2;
+    both = malloc(2 * in_size);
+    pair = malloc(pair_size = 12 + 2 * in_size);
+    if (!both || !pair) abort();
+    memcpy(both, out, in_size);
+    memcpy(both + in_size, out, in_size);
+    in = both;
+    more = both + in_size;
+    more[in_size - 1]++;
+    uint8_t *at = put_word(pair, 0x80000002);
+    at = put_word(at, KOHIBLAD_TYPE_CONTAINER + (uint32_t)in_size);
+    at = put_word(at, KOHIBLAD_TYPE_CONTAINER + (uint32_t)in_size);
+    memcpy(at, both, 2 * in_size);
+    free(text);
+    name = wanted;
+}
+
 int main(int argc, char **argv) {
     if (argc != 5 || atol(argv[3]) < 1) return 2;
     name = argv[1];
     levels = (size_t)atol(argv[3]);
     text_of(levels, argv[4][0]);
-    room = 16 * in_size + 64;
+    room = 32 * in_size + 64;
     out = malloc(room);
     if (!out) return 2;
-    pthread_attr_t attributes;
-    pthread_attr_init(&attributes);
-    if (!reads_text()) {
-        /* The document of the text, made on a stack that surely carries it. */
-        const char *wanted = name;
-        name = "parse";
-        pthread_t maker;
-        pthread_attr_setstacksize(&attributes, (size_t)1 << 30);
-        if (pthread_create(&maker, &attributes, work, NULL)) return 2;
-        pthread_join(maker, NULL);
-        name = wanted;
-        uint8_t *text = in;
-        in = malloc(room);
-        if (!in) return 2;
-        memcpy(in, out, room);
-        free(text);
-        /* A level has a header, and of an object 9 bytes or of an array 4; the number has 2. */
-        in_size = levels * (argv[4][0] == 'o' ? 13 : 8) + 2;
-    }
-    pthread_t worker;
-    pthread_attr_setstacksize(&attributes, (size_t)atol(argv[2]) * 1024);
-    if (pthread_create(&worker, &attributes, work, NULL)) return 2;
-    pthread_join(worker, NULL);
+    if (!reads_text()) make_documents(argv[4][0] == 'o');
+    printf("%s %zu %c %zu\n", name, levels, argv[4][0], run((size_t)atol(argv[2]) * 1024));
     return 0;
 }

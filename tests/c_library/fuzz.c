@@ -725,6 +725,38 @@ static void select_within(struct block b, bool shallow, size_t depth,
     drop(t);
 }
 
+/* Several keys at once are there as each of them is. */
+static void keys_within(struct block b, struct block other, bool shallow, bool are, size_t depth) {
+    static const char *const keys[] = { "a", "x", "", "abc", "b", "\303\251", "a" };
+    enum { KEYS = sizeof keys / sizeof *keys };
+    uint8_t text[64], names[128];
+    size_t end = 0, size, count = below(4);
+    bool any = false, all = true;
+    text[end++] = '[';
+    for (size_t i = 0; i < count; i++) {
+        const char *key = keys[below(KEYS)];
+        bool has = kohiblad_exists(b.at, b.size, (const uint8_t *)key, strlen(key), depth).value;
+        any |= has;
+        all &= has;
+        end += (size_t)sprintf((char *)text + end, "%s\"%s\"", i ? "," : "", key);
+    }
+    text[end++] = ']';
+    assert(!kohiblad_parse(text, end, 1, 0, names, sizeof names, &size));
+    struct block exact = copy_of(names, size);
+    struct kohiblad_truth some = kohiblad_exists_any(b.at, b.size, exact.at, size, depth);
+    struct kohiblad_truth each = kohiblad_exists_all(b.at, b.size, exact.at, size, depth);
+    assert(some.status == (shallow && depth > 0 ? KOHIBLAD_OK : KOHIBLAD_INVALID_JSONB));
+    assert(each.status == some.status);
+    assert(some.value == (!some.status && any) && each.value == (!each.status && all));
+    drop(exact);
+    some = kohiblad_exists_any(b.at, b.size, other.at, other.size, depth);
+    each = kohiblad_exists_all(b.at, b.size, other.at, other.size, depth);
+    assert(some.status == each.status);
+    if (!are) assert(some.status == KOHIBLAD_INVALID_JSONB);
+    else assert(some.status == KOHIBLAD_OK || some.status == KOHIBLAD_OTHER_KIND);
+    if (some.status) assert(!some.value && !each.value);
+}
+
 /* The functions over documents, by their laws. */
 static void answer_functions(struct block b, struct block other, size_t depth, struct block out) {
     bool shallow = kohiblad_check(b.at, b.size, depth);
@@ -762,6 +794,7 @@ static void answer_functions(struct block b, struct block other, size_t depth, s
     } else {
         assert(status == KOHIBLAD_NO_ROOM);
     }
+    keys_within(b, other, shallow, are, depth);
     patch_within(b, other, shallow, are, depth, out);
     pick_within(b, other, shallow, are, depth, out);
     edit_within(b, other, shallow, is_other, depth, out);

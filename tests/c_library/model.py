@@ -37,6 +37,7 @@ class Place(ctypes.Structure):
 
 
 LIBRARY.kohiblad_contains.restype = LIBRARY.kohiblad_exists.restype = Truth
+LIBRARY.kohiblad_exists_any.restype = LIBRARY.kohiblad_exists_all.restype = Truth
 LIBRARY.kohiblad_array_overlap.restype = Truth
 LIBRARY.kohiblad_get_path.restype = Place
 
@@ -133,13 +134,22 @@ def depth_of(value):
     return 0
 
 
-def size_of(value):
-    """How many values and keys there are."""
+def data_of(value):
+    """The bytes of a text, or of a binary or opaque value."""
+    if isinstance(value, str):
+        return value.encode()
+    is_data = isinstance(value, Scalar) and value.tag == EXTENSION and (
+        value.stored[0] == 0 or value.stored[0] > 0x40)
+    return value.stored[1:] if is_data else b""
+
+
+def weight_of(value):
+    """How many values and keys there are, and bytes of keys, texts and data."""
     if isinstance(value, list):
-        return 1 + sum(map(size_of, value))
+        return 1 + sum(map(weight_of, value))
     if isinstance(value, dict):
-        return 1 + sum(1 + size_of(it) for it in value.values())
-    return 1
+        return 1 + sum(1 + len(name.encode()) + weight_of(it) for name, it in value.items())
+    return 1 + len(data_of(value))
 
 
 def is_container(value):
@@ -249,6 +259,56 @@ def contained(left, right):
     if isinstance(left, dict) and isinstance(right, dict):
         return all(key in left and contained(left[key], right[key]) for key in right)
     return not is_container(left) and not is_container(right) and are_equal(left, right)
+
+
+def by_keys(value):
+    return iter(sorted((name.encode(), it) for name, it in value.items()))
+
+
+def steps_to_all(left, right):
+    """The steps of containment of a value in a value."""
+    if isinstance(left, list) and isinstance(right, list):
+        steps = 1
+        for wanted in right:
+            steps += steps_to_one(left, wanted)
+            if not any(contained(it, wanted) for it in left):
+                break
+        return steps
+    if isinstance(left, dict) and isinstance(right, dict):
+        steps, members = 1, by_keys(left)
+        for key, wanted in by_keys(right):
+            found = None
+            for name, it in members:
+                steps += 1 + len(name)
+                if name >= key:
+                    found = (it,) if name == key else None
+                    break
+            if not found:
+                break
+            steps += steps_to_all(found[0], wanted)
+            if not contained(found[0], wanted):
+                break
+        return steps
+    texts = isinstance(left, str) and isinstance(right, str)
+    both = [isinstance(it, Scalar) and it.tag == EXTENSION for it in (left, right)]
+    data = data_of(left)
+    return 1 + (len(data) if (texts or all(both)) and len(data) == len(data_of(right)) else 0)
+
+
+def steps_to_one(items, wanted):
+    """The steps to the first item that contains a value."""
+    steps = 0
+    for it in items:
+        steps += steps_to_all(it, wanted)
+        if contained(it, wanted):
+            break
+    return steps
+
+
+def steps_in(left, right):
+    if isinstance(left, list) and not is_container(right):
+        return steps_to_one(left, right)
+    return steps_to_all(left, right)
 
 
 def contains(left, right):
@@ -640,13 +700,14 @@ def asks_path_in(chance, left, right):
 
 def asks_contains(chance, left, right):
     wanted = contains(left, right)
-    product = size_of(left) * size_of(right)
-    steps = chance.choice([NO_LIMIT, product, chance.randint(0, product)])
+    product, needed = weight_of(left) * weight_of(right), steps_in(left, right)
+    assert needed <= product
+    steps = chance.choice([NO_LIMIT, product, needed, max(needed, 1) - 1, chance.randint(0, product)])
     depth = max(depth_of(left), depth_of(right))
     stored = document(left), document(right)
     status, answer = truth_of("contains", *stored, SIZE(depth), SIZE(steps))
-    if status == TOO_MANY_STEPS:
-        assert steps < product
+    if steps < needed:
+        assert (status, answer) == (TOO_MANY_STEPS, False)
     else:
         assert (status, answer) == (OK, wanted)
     if depth > 0:
@@ -658,6 +719,13 @@ def asks_exists(chance, left, right):
     key = chance.choice(KEYS + ["xyz"])
     status, answer = truth_of("exists", document(left), key.encode(), SIZE(depth_of(left)))
     assert (status, answer) == (OK, exists(left, key))
+
+
+def asks_exists_many(chance, left, right):
+    names, depth = chance.choices(KEYS + ["xyz"], k=chance.randint(0, 4)), max(depth_of(left), 1)
+    stored, there = (document(left), document(names)), [exists(left, key) for key in names]
+    assert truth_of("exists_any", *stored, SIZE(depth)) == (OK, any(there)), names
+    assert truth_of("exists_all", *stored, SIZE(depth)) == (OK, all(there)), names
 
 
 def asks_concat(chance, left, right):
@@ -803,9 +871,9 @@ def asks_keys(chance, left, right):
             assert top_key in keys_of("top_keys", document(left), SIZE(9))[1]
 
 
-QUESTIONS = [asks_contains, asks_contains, asks_exists, asks_concat, asks_merge_patch,
-             asks_strip_nulls, asks_select, asks_select, asks_get_path, asks_edit, asks_edit,
-             asks_edit, asks_no_path, asks_pick, asks_pick, asks_object_keys, asks_array_sets,
+QUESTIONS = [asks_contains, asks_contains, asks_exists, asks_exists_many, asks_concat,
+             asks_merge_patch, asks_strip_nulls, asks_select, asks_select, asks_get_path,
+             asks_edit, asks_edit, asks_edit, asks_no_path, asks_pick, asks_pick, asks_object_keys, asks_array_sets,
              asks_array_sets, asks_comparable_key, asks_member_key, asks_no_names, asks_keys, asks_names,
              asks_names, asks_path_in]
 

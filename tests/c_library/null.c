@@ -74,6 +74,14 @@ int main(void) {
     assert(kohiblad_merge_patch(NULL, 0, NULL, 0, 9, NULL, 0, &length) == KOHIBLAD_INVALID_JSONB);
     assert(kohiblad_strip_nulls(NULL, 0, 9, NULL, 0, &length) == KOHIBLAD_INVALID_JSONB);
     static const uint8_t array[] = { 0x80, 0, 0, 0 }, object[] = { 0x40, 0, 0, 0 };
+    assert(kohiblad_exists_any(NULL, 0, array, sizeof array, 9).status == KOHIBLAD_INVALID_JSONB);
+    assert(kohiblad_exists_all(null, sizeof null, NULL, 0, 9).status == KOHIBLAD_INVALID_JSONB);
+    assert(kohiblad_exists_any(null, sizeof null, null, sizeof null, 9).status
+           == KOHIBLAD_OTHER_KIND);
+    assert(kohiblad_exists_any(array, sizeof array, array, sizeof array, 1).value == 0);
+    assert(kohiblad_exists_all(array, sizeof array, array, sizeof array, 1).value == 1);
+    assert(kohiblad_exists_all(array, sizeof array, array, sizeof array, 0).status
+           == KOHIBLAD_INVALID_JSONB);
     assert(kohiblad_pick(NULL, 0, NULL, 0, KOHIBLAD_NAMED, 9, NULL, 0, &length)
            == KOHIBLAD_INVALID_JSONB);
     assert(kohiblad_pick(null, sizeof null, null, sizeof null, KOHIBLAD_NAMED, 9, NULL, 0, &length)
@@ -185,6 +193,10 @@ int main(void) {
     assert(kohiblad_get_member(block, 8, 0, block + 8, 8, &length, block + 12, 8, numbers)
            == KOHIBLAD_OVERLAP);
     assert(kohiblad_get_member(block, 8, 0, block + 8, 8, &length, block + 16, 8, &length)
+           == KOHIBLAD_OVERLAP);
+    assert(kohiblad_get_member(block, 8, 0, block + 8, 8, numbers, (uint8_t *)numbers, 8, &length)
+           == KOHIBLAD_OVERLAP);
+    assert(kohiblad_get_member(block, 8, 0, (uint8_t *)&length, 8, numbers, block + 16, 8, &length)
            == KOHIBLAD_OVERLAP);
 
     /* The limit of a scalar's payload, of which no byte is read where the room is too small. */

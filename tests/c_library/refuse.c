@@ -26,7 +26,7 @@ void *__wrap_realloc(void *block, size_t size) {
 
 static const char text[] = "{\"a\":1,\"b\":[true,\"\\u00e9\"],"
                            "\"c\":{\"d\":\"e\",\"f\":-12.5,\"g\":[[],{}]}}";
-enum { ROOM = 1024, CALLS = 39 };
+enum { ROOM = 1024, CALLS = 41 };
 static uint8_t document[ROOM], pairs[ROOM];
 static size_t size, offsets[5], pairs_size, order[4];
 static uint64_t keys[ROOM / 8];
@@ -36,12 +36,12 @@ static size_t path_size, names_size;
 
 static bool takes_memory(int which) {
     return which < 7 || which == 13 || which == 14 || (which > 16 && which < 22)
-        || (which > 23 && which < 38);
+        || (which > 23 && which < 40);
 }
 
-/* Whether a call has no length: a sort, and whether two arrays overlap. */
+/* Whether a call has no length: a sort, whether two arrays overlap, and whether keys are there. */
 static bool has_no_length(int which) {
-    return which == 6 || which == 34;
+    return which == 6 || which == 34 || which == 38 || which == 39;
 }
 
 static uint32_t call(int which, uint8_t *out, size_t *length) {
@@ -113,6 +113,8 @@ static uint32_t call(int which, uint8_t *out, size_t *length) {
     case 37:
         return kohiblad_path_in(document, size, (const uint8_t *)"{c,\"g\",0}", 9, 8, out, ROOM,
                                 length);
+    case 38: return kohiblad_exists_any(document, size, names, names_size, 8).status;
+    case 39: return kohiblad_exists_all(document, size, names, names_size, 8).status;
     default: return kohiblad_key_cut(document, size, 8, out, ROOM, length);
     }
 }
@@ -159,6 +161,13 @@ int main(void) {
             assert(has_no_length(which) || length == 0);
         }
     }
+    /* A text that does not fit is counted without memory. */
+    left = 0;
+    assert(kohiblad_pretty(document, size, 8, NULL, 0, &length) == KOHIBLAD_NO_ROOM);
+    left = -1;
+    size_t counted = length;
+    assert(kohiblad_pretty(document, size, 8, out, ROOM, &length) == KOHIBLAD_OK);
+    assert(length == counted);
     printf("%ld runs\n", runs);
     return 0;
 }

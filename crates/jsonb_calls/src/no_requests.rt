@@ -1,4 +1,4 @@
-// Calls that allocate nothing: tools/refuse_each.py checks that these tests make no allocation.
+// Calls that allocate nothing: tools/refuse_each checks that these tests make no allocation.
 use crate::comparable::{BYTES_KEY, KEY, NESTED};
 use jsonb::{
     ArrayIterator, Document, Encoder, Error, ExtensionItem, JsonbItem, JsonbItemType, Node, Number,

@@ -15,15 +15,15 @@ use crate::command::{decode_shallow, decode_word};
 use crate::words::Words;
 use jsonb::layer::parse_string;
 use jsonb::{ArrayBuilder, Document, Error, JsonbItemType, Node, OwnedJsonb, RawJsonb};
+use simdutf8::basic;
 use std::alloc::Global;
 use std::cmp::Ordering;
-use std::str;
 
 /// Executes `enc`: the canonical document of a JSON text.
 pub fn answer_enc(alloc: Global, text: &[u8]) -> Result<Answer, Refusal>
     ensures { IsAnswerOrRefusal IsEncAnswer text.now (outcome_line result) }
 {
-    let Ok(json) = str::from_utf8(text) else {
+    let Ok(json) = basic::from_utf8(text) else {
         return Err(Refusal::Call(Error::InvalidUtf8));
     };
     match OwnedJsonb::parse(alloc, json) {
@@ -177,7 +177,7 @@ pub fn answer_get(alloc: Global, word: &[u8], key: &[u8]) -> Result<Answer, Refu
     ensures { IsAnswerOrRefusal (IsGetAnswer word.now) key.now (outcome_line result) }
 {
     let bytes = decode_shallow(alloc, word)?;
-    let Ok(json) = str::from_utf8(key) else {
+    let Ok(json) = basic::from_utf8(key) else {
         return Err(Refusal::Call(Error::InvalidUtf8));
     };
     let name = match parse_string(alloc, json) {

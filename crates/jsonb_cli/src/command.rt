@@ -17,8 +17,8 @@ use jsonb::{Error, nests_deeper};
 use std::alloc::Global;
 
 /// How deep the bytes of a word may nest if a command walks them. As LLVM builds the program a
-/// level took at most 410 bytes of stack where it was measured, so this takes half of the usual 8
-/// MB.
+/// level takes at most 404 bytes of stack where it was measured, for `canon`, so this takes half of
+/// the usual 8 MB.
 pub const MAX_WORD_DEPTH: usize = 10_000;
 
 /// A command with its arguments: a text, or words.

@@ -6,6 +6,8 @@ mod calls;
 mod command;
 mod laws;
 mod run;
+#[cfg(test)]
+mod tests;
 mod words;
 
 use std::io;

@@ -1,7 +1,7 @@
 //! The loop from lines to answers, over any reader and any writer.
 
 ghost use Rattle.std.specs.Prelude.{◌≡◌, ℕ, List, OnOk, OnErr, IfSome, IsErrOf};
-ghost use Rattle.jsonb_cli.specs.Names.{IsAtEnd, AppendsReplies, AppendsBeginning};
+ghost use Rattle.jsonb_cli.specs.Names.{IsAtEnd, AreAnswers, AppendsReplies, AppendsBeginning};
 ghost use Rattle.jsonb_cli.specs.Names.{AppendsWhole, line_rule, commands, error_of, fault_line};
 
 use crate::answer::line_text;
@@ -66,8 +66,9 @@ impl LineAnswerer for Commands {
 /// If a command runs out of memory, its answer is `error OutOfMemory`, and the run continues. After
 /// an error, a prefix of the answers was written. `Read`: the reader failed, or was called
 /// 18,446,744,073,709,551,615 times without reaching the end of the input. `Write`: the writer
-/// failed, or accepted no byte. `Memory`: the allocation of a line or of an answer failed. An input
-/// has only one output if no answer is `error OutOfMemory` (`answer_laws`).
+/// failed, or accepted no byte. `Memory`: the allocation of a line or of an answer failed.
+///
+/// An input has only one output if no answer is `error OutOfMemory`.
 pub fn run<R: Read, W: Write>(alloc: Global, reader: &mut R, writer: &mut W) -> Result<(), RunError>
     ensures done { OnOk result (IfSome (R.remaining reader.old) (λ input. AppendsReplies
         line_rule commands commands input (W.contents writer.old) (W.contents writer.new))) }
@@ -79,6 +80,10 @@ pub fn run<R: Read, W: Write>(alloc: Global, reader: &mut R, writer: &mut W) -> 
     ensures prompt { IsErrOf result RunError.Read → IfSome (R.remaining reader.old) (λ input.
         IfSome (R.remaining reader.new) (λ left. (start : List ℕ) × AppendsWhole line_rule
         commands commands input start left (W.contents writer.old) (W.contents writer.new))) }
+
+    // If no answer is `error OutOfMemory`, the output is determined by the input.
+    ensures one_output { (input a b : List ℕ) → AreAnswers line_rule commands input a
+        → AreAnswers line_rule commands input b → a ≡ b }
 {
     Ok(answer_lines(alloc, &mut Commands, reader, writer)?)
 }

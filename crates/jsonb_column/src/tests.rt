@@ -1,4 +1,4 @@
-// Zone maps with ample memory. tools/refuse_each.py runs each test with each of its allocations
+// Zone maps with ample memory. tools/refuse_each runs each test with each of its allocations
 // failing in turn.
 use crate::{Column, Zones};
 use jsonb::{Document, Error, Reads};

@@ -11,8 +11,8 @@ use crate::answer::{
 };
 use jsonb::Error;
 use jsonb_column::Column;
+use simdutf8::basic;
 use std::alloc::Global;
-use std::str;
 
 /// A command with its arguments.
 #[derive(Clone, Copy, Debug)]
@@ -156,7 +156,7 @@ impl<'a> Command<'a> {
 pub fn answer(alloc: Global, column: &mut Column, line: &[u8]) -> Result<String, Refusal>
     ensures { IsLineOutcome column.old line.now (reply_of result) column.new }
 {
-    match str::from_utf8(line) {
+    match basic::from_utf8(line) {
         Ok(line) => Command::parse(line).answer(alloc, column),
         Err(_) => Err(Refusal::Call(Error::InvalidUtf8)),
     }

@@ -1,5 +1,5 @@
 // What each allocating call leaves after a failed allocation. A test ends with the right result, or
-// passes on the error once it has examined what the failure left; tools/refuse_each.py runs it with
+// passes on the error once it has examined what the failure left; tools/refuse_each runs it with
 // each of its allocations failing in turn.
 use crate::documents::{decode_again, encoded, read_as_tree};
 use jsonb::layer::append_canonical;

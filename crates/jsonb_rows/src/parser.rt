@@ -25,8 +25,13 @@ fn line_feeds_are_white_space(rt: HostRuntime) -> Result<(), Fail> {
 }
 
 #[test]
-fn no_string_has_a_line_feed(rt: HostRuntime) {
-    assert!(rt; matches!(parse_value(rt.alloc(), "\"\n\""), Err(Error::InvalidJson)));
+fn no_string_has_a_line_feed(rt: HostRuntime) -> Result<(), Fail> {
+    let refusal = parse_value(rt.alloc(), "\"\n\"").err();
+    if refusal == Some(Error::OutOfMemory) {
+        Err(Error::OutOfMemory)?;
+    }
+    assert!(rt; refusal == Some(Error::InvalidJson));
+    Ok(())
 }
 
 // Texts, and the `Debug` output of the values that they mean.

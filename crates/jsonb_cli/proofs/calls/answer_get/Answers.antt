@@ -18,12 +18,12 @@ pub returns-in-Err : goal.returns-in-Err
 returns-in-Err c =
     let same : c.in-Ok.json.now ≡ c.args.key.now = search rules in
     failed c.in-Err.ensures.only
-    (λ is. no_name _ c.in_ok-bytes.ensures.ok c.in-Ok.ensures.cases.1
+    (λ is. no_name _ c.in_ok-bytes.ensures.ok c.in-Ok.ensures.1
     (λ name named. c.in-Err.ensures.invalid is name (rw same named.1)) (ap said_of is))
 
 pub returns-in-Err-document_in : goal.returns-in-Err-document_in
 returns-in-Err-document_in c =
-    let named = key_named c.in-Ok-parse_string.name (search rules) c.in-Ok.ensures.cases.1 refl
+    let named = key_named c.in-Ok-parse_string.name (search rules) c.in-Ok.ensures.1 refl
     c.in-Ok-parse_string.ensures.ok in
     let (is, not) = c.in-Err-document_in.ensures.none in
     inl (no_document _ _ c.in_ok-bytes.ensures.ok named (rw c.deref.ensures.value at not)
@@ -31,7 +31,7 @@ returns-in-Err-document_in c =
 
 pub returns-in-Some : goal.returns-in-Some
 returns-in-Some c =
-    let named = key_named c.in-Ok-parse_string.name (search rules) c.in-Ok.ensures.cases.1
+    let named = key_named c.in-Ok-parse_string.name (search rules) c.in-Ok.ensures.1
     c.deref-2.ensures.value
     c.in-Ok-parse_string.ensures.ok in
     let name = c.deref-2.result.now in
@@ -47,7 +47,7 @@ returns-in-Some c =
 
 pub returns : goal.returns
 returns c =
-    let named = key_named c.in-Ok-parse_string.name (search rules) c.in-Ok.ensures.cases.1
+    let named = key_named c.in-Ok-parse_string.name (search rules) c.in-Ok.ensures.1
     c.deref-2.ensures.value
     c.in-Ok-parse_string.ensures.ok in
     let d = c.in-Ok-document_in.document in

@@ -2,7 +2,7 @@ use Rattle.std.proofs.Common.{◌<◌, ◌≤◌, length, ap, arith, sym, subst}
 use Rattle.std.proofs.lemmas.List.{length-map}
 use Rattle.std.specs.List.{concat}
 use Rattle.jsonb_codec.specs.Doc.{IsDocument}
-use Rattle.jsonb.specs.declared.reads.lookup.TheConstants.{MAX_READS}
+use Rattle.jsonb.specs.declared.lookup.TheConstants.{MAX_READS}
 use Rattle.jsonb_column.specs.Rows.{row_in}
 use Rattle.jsonb_column.specs.Select.{most_reads}
 use Rattle.jsonb_column.proofs.RowsLaws.{row_document}

@@ -1,0 +1,8 @@
+use Rattle.jsonb_cli.proofs.OneAnswer.{one_output}
+use Rattle.jsonb_cli.proofs.run.run.Goals as goal
+
+pub returns-clause-one_output : goal.returns-clause-one_output
+returns-clause-one_output g c = one_output
+
+pub returns-in_err-answer_lines-clause-one_output : goal.returns-in_err-answer_lines-clause-one_output
+returns-in_err-answer_lines-clause-one_output g c = one_output
