@@ -28,6 +28,12 @@ DROP CAST (kohiblad AS jsonb);
 CREATE CAST (kohiblad AS json) WITH FUNCTION kohiblad_to_json(kohiblad) AS ASSIGNMENT;
 CREATE CAST (kohiblad AS jsonb) WITH FUNCTION kohiblad_to_jsonb(kohiblad) AS ASSIGNMENT;
 
+-- A jsonb is taken wherever a document is, as in doc @> jsonb_build_object(..) and coalesce(doc,
+-- '{}'::jsonb): of two types the server chooses the one that the other is cast to without asking.
+
+DROP CAST (jsonb AS kohiblad);
+CREATE CAST (jsonb AS kohiblad) WITH INOUT AS IMPLICIT;
+
 -- To scalars, by explicit casts alone, as jsonb has them. The text of a string is had by #>> '{}':
 -- a cast to text is the text of the document, with quotes.
 
@@ -84,7 +90,19 @@ CREATE CAST (int4 AS kohiblad) WITH FUNCTION kohiblad(int4);
 CREATE CAST (int8 AS kohiblad) WITH FUNCTION kohiblad(int8);
 CREATE CAST (bool AS kohiblad) WITH FUNCTION kohiblad(bool);
 
--- Documents
+-- Documents. A text or a jsonb fits if its cast succeeds; else the fault is what the cast says.
+
+CREATE FUNCTION kohiblad_fits(text) RETURNS bool
+AS 'MODULE_PATHNAME', 'pg_kohiblad_fits_text' LANGUAGE C STRICT IMMUTABLE PARALLEL SAFE COST 10;
+
+CREATE FUNCTION kohiblad_fits(jsonb) RETURNS bool
+AS 'MODULE_PATHNAME', 'pg_kohiblad_fits_jsonb' LANGUAGE C STRICT IMMUTABLE PARALLEL SAFE COST 10;
+
+CREATE FUNCTION kohiblad_fault(text) RETURNS text
+AS 'MODULE_PATHNAME', 'pg_kohiblad_fault_text' LANGUAGE C STRICT IMMUTABLE PARALLEL SAFE COST 10;
+
+CREATE FUNCTION kohiblad_fault(jsonb) RETURNS text
+AS 'MODULE_PATHNAME', 'pg_kohiblad_fault_jsonb' LANGUAGE C STRICT IMMUTABLE PARALLEL SAFE COST 10;
 
 CREATE FUNCTION kohiblad_version() RETURNS text
 AS 'MODULE_PATHNAME', 'pg_kohiblad_version' LANGUAGE C STRICT STABLE PARALLEL SAFE;
@@ -413,6 +431,9 @@ AS 'MODULE_PATHNAME', 'pg_kohiblad_rows_deserialize' LANGUAGE C STRICT IMMUTABLE
 CREATE FUNCTION kohiblad_agg_step(internal, anyelement) RETURNS internal
 AS 'MODULE_PATHNAME', 'pg_kohiblad_agg_step' LANGUAGE C STABLE PARALLEL SAFE;
 
+CREATE FUNCTION kohiblad_agg_step(internal, jsonb) RETURNS internal
+AS 'MODULE_PATHNAME', 'pg_kohiblad_agg_step' LANGUAGE C STABLE PARALLEL SAFE;
+
 CREATE FUNCTION kohiblad_object_agg_step(internal, "any", "any") RETURNS internal
 AS 'MODULE_PATHNAME', 'pg_kohiblad_object_agg_step' LANGUAGE C STABLE PARALLEL SAFE;
 
@@ -423,6 +444,13 @@ CREATE OR REPLACE AGGREGATE kohiblad_agg(kohiblad) (
 );
 
 CREATE AGGREGATE kohiblad_agg(anyelement) (
+    SFUNC = kohiblad_agg_step, STYPE = internal, FINALFUNC = kohiblad_agg_final,
+    COMBINEFUNC = kohiblad_rows_combine, SERIALFUNC = kohiblad_rows_serialize,
+    DESERIALFUNC = kohiblad_rows_deserialize, PARALLEL = SAFE
+);
+
+-- A jsonb fits both of these, so it has one of its own.
+CREATE AGGREGATE kohiblad_agg(jsonb) (
     SFUNC = kohiblad_agg_step, STYPE = internal, FINALFUNC = kohiblad_agg_final,
     COMBINEFUNC = kohiblad_rows_combine, SERIALFUNC = kohiblad_rows_serialize,
     DESERIALFUNC = kohiblad_rows_deserialize, PARALLEL = SAFE
@@ -439,3 +467,37 @@ CREATE AGGREGATE kohiblad_object_agg("any", "any") (
     COMBINEFUNC = kohiblad_rows_combine, SERIALFUNC = kohiblad_rows_serialize,
     DESERIALFUNC = kohiblad_rows_deserialize, PARALLEL = SAFE
 );
+
+-- Full text search, by the server's functions over a jsonb of the document.
+
+CREATE FUNCTION to_tsvector(kohiblad) RETURNS tsvector
+LANGUAGE sql STRICT STABLE PARALLEL SAFE COST 100
+RETURN to_tsvector($1::jsonb);
+
+CREATE FUNCTION to_tsvector(regconfig, kohiblad) RETURNS tsvector
+LANGUAGE sql STRICT IMMUTABLE PARALLEL SAFE COST 100
+RETURN to_tsvector($1, $2::jsonb);
+
+CREATE FUNCTION kohiblad_to_tsvector(kohiblad, kohiblad) RETURNS tsvector
+LANGUAGE sql STRICT STABLE PARALLEL SAFE COST 100
+RETURN jsonb_to_tsvector($1::jsonb, $2::jsonb);
+
+CREATE FUNCTION kohiblad_to_tsvector(regconfig, kohiblad, kohiblad) RETURNS tsvector
+LANGUAGE sql STRICT IMMUTABLE PARALLEL SAFE COST 100
+RETURN jsonb_to_tsvector($1, $2::jsonb, $3::jsonb);
+
+CREATE FUNCTION ts_headline(kohiblad, tsquery) RETURNS kohiblad
+LANGUAGE sql STRICT STABLE PARALLEL SAFE COST 100
+RETURN ts_headline($1::jsonb, $2)::kohiblad;
+
+CREATE FUNCTION ts_headline(kohiblad, tsquery, text) RETURNS kohiblad
+LANGUAGE sql STRICT STABLE PARALLEL SAFE COST 100
+RETURN ts_headline($1::jsonb, $2, $3)::kohiblad;
+
+CREATE FUNCTION ts_headline(regconfig, kohiblad, tsquery) RETURNS kohiblad
+LANGUAGE sql STRICT IMMUTABLE PARALLEL SAFE COST 100
+RETURN ts_headline($1, $2::jsonb, $3)::kohiblad;
+
+CREATE FUNCTION ts_headline(regconfig, kohiblad, tsquery, text) RETURNS kohiblad
+LANGUAGE sql STRICT IMMUTABLE PARALLEL SAFE COST 100
+RETURN ts_headline($1, $2::jsonb, $3, $4)::kohiblad;

@@ -105,6 +105,40 @@ run_refusals() {
     expect "rows taken" 1 "$(query "SELECT count(*) FROM refused")"
 }
 
+# A pretty text of more than 1 GB, of 1,000,000 items in 1,000 levels, is refused before memory is
+# asked for.
+run_memory() {
+    note "memory"
+    query "CREATE TABLE indented AS SELECT (repeat('[', 1000) || repeat('1,', 999999) || '1'
+        || repeat(']', 1000))::kohiblad AS d"
+    expect "a long text" "54000 kohiblad: the result has 2005001998 bytes, more than 1 GB t" \
+        "$(psql -At -c "SELECT refusal('SELECT kohiblad_pretty(d) FROM indented')" -c "SELECT
+            (regexp_match(pg_read_file('/proc/self/status'), 'VmHWM:\s+(\d+)'))[1]::int < 400000" |
+            paste -sd ' ')"
+}
+
+# Prints the sessions of a page as psql --echo-all prints them, or their statements alone. There a
+# statement begins after `=> ` and goes on in indented lines, and a row begins with one space.
+session_of() {
+    awk -v statements="${2:-}" '
+        /^```/ { on = $0 == "```text"; next }
+        !on { next }
+        /^=> |^   / { print substr($0, 4); next }
+        !statements { sub(/^ /, ""); print }' "$1"
+}
+
+# All lines of the page on moving in are run, and print what stands there.
+run_page() {
+    note "MIGRATE.md"
+    psql -c "CREATE DATABASE moved"
+    session_of "$folder/MIGRATE.md" > "$scratch/page"
+    [ -s "$scratch/page" ] || fail "MIGRATE.md has no sessions"
+    session_of "$folder/MIGRATE.md" statements |
+        "$bin/psql" -Xq --echo-all -At -P fieldsep=' | ' -d moved > "$scratch/shown" 2>&1
+    diff -u "$scratch/page" "$scratch/shown" >&2 || fail "MIGRATE.md"
+    passed "$(wc -l < "$scratch/page")"
+}
+
 load_vectors() {
     query "CREATE TABLE lines (request text, answer text)"
     paste "$vectors.in" "$vectors.out" | psql -c "COPY lines FROM STDIN"
@@ -113,6 +147,11 @@ load_vectors() {
 run_latin() {
     psql -c "CREATE DATABASE latin ENCODING LATIN1 LOCALE 'C' TEMPLATE template0"
     run_script latin latin
+    psql -c "CREATE DATABASE latin_again ENCODING LATIN1 LOCALE 'C' TEMPLATE template0"
+    "$bin/pg_dump" --no-sync latin > "$scratch/latin.sql"
+    psql -d latin_again -f "$scratch/latin.sql" > "$scratch/restored"
+    local rows="SELECT count(*), md5(string_agg(d::bytea::text, ' ' ORDER BY id)) FROM lacking"
+    expect "rows that LATIN1 lacks" "$(query "$rows" latin)" "$(query "$rows" latin_again)"
 }
 
 # What pg_dump writes makes the same rows, indexes and extension in another database.
@@ -183,7 +222,7 @@ run_trusted() {
     note "an owner's extension"
     psql -c "CREATE ROLE owner LOGIN" -c "CREATE DATABASE owned OWNER owner"
     psql -U owner -d owned -c "CREATE EXTENSION kohiblad VERSION '0.6'" \
-        -c "ALTER EXTENSION kohiblad UPDATE"
+        -c "ALTER EXTENSION kohiblad UPDATE" -c "CREATE EXTENSION kohiblad_compat"
     expect "a member" 7 "$("$bin/psql" -XAt -U owner -d owned -c "SELECT '[7]'::kohiblad -> 0")"
 }
 
@@ -232,6 +271,8 @@ run_installcheck
 run_copies
 run_partitions
 run_refusals
+run_memory
+run_page
 load_vectors
 run_script vectors
 run_latin

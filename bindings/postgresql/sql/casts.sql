@@ -55,3 +55,39 @@ FROM unnest(ARRAY['SELECT ''NaN''::numeric::kohiblad', 'SELECT ''-Infinity''::nu
 SELECT (1e-255::numeric)::kohiblad::numeric = 1e-255::numeric;
 SELECT refusal('SELECT 1.5::float8::kohiblad'), refusal('SELECT 1.5::float4::kohiblad');
 SELECT refusal('INSERT INTO counted (d) SELECT 5');
+-- A jsonb is taken where a document is: of both types the document's is chosen.
+CREATE FUNCTION mixed(expression text) RETURNS text LANGUAGE plpgsql AS $$
+DECLARE
+    shown text;
+BEGIN
+    EXECUTE format('SELECT (%s)::text || '' '' || pg_typeof(%1$s)
+        FROM (SELECT ''{"a": 1.50, "b": [1, 2]}''::kohiblad AS k, ''{"a": 1.5}''::jsonb AS j) s',
+        expression) INTO shown;
+    RETURN shown;
+END $$;
+SELECT expression, mixed(expression) FROM (VALUES
+    (1, 'k @> j'), (2, 'j <@ k'), (3, 'j @> k'), (4, 'k || j'), (5, 'j || k'), (6, 'k = j'),
+    (7, 'j = k -> ''a'''), (8, 'k <> j'), (9, 'k > j'), (10, 'coalesce(k -> ''x'', j)'),
+    (11, 'coalesce(j -> ''x'', k)'), (12, 'CASE WHEN k ? ''x'' THEN k ELSE j END'),
+    (13, 'CASE WHEN k ? ''x'' THEN j ELSE k -> ''b'' END'), (14, 'nullif(k -> ''a'', j -> ''a'')'),
+    (15, 'greatest(j, k)'), (16, '(ARRAY[j, k])[1]'), (17, 'k = ANY (ARRAY[j])'), (18, 'j IN (k)'),
+    (19, 'kohiblad_set(k, ''{a}'', j)'), (20, 'k @> jsonb_build_object(''a'', 1.5)'),
+    (21, 'kohiblad_typeof(j)'), (22, 'k || ''{}'''), (23, 'j || ''{}'''), (24, 'j @> ''{}''')
+) v(number, expression) ORDER BY number;
+SELECT v FROM (SELECT '[1]'::jsonb AS v UNION ALL SELECT '[1.0]'::kohiblad) s;
+-- What takes any value takes a jsonb as one.
+SELECT to_kohiblad('{"a": 1.0}'::jsonb), kohiblad_build_array('[1]'::jsonb, '"a"'::jsonb),
+    (SELECT kohiblad_agg(v) FROM (VALUES ('1'::jsonb), (NULL)) j(v)),
+    (SELECT kohiblad_object_agg('k', v) FROM (VALUES ('1'::jsonb)) j(v)),
+    (SELECT kohiblad_object_agg(7, v) FROM (VALUES ('[]'::jsonb)) j(v));
+-- An index finds what a jsonb asks for.
+CREATE TABLE mixed_rows AS SELECT kohiblad_build_object('id', i) AS d FROM generate_series(1, 500) i;
+CREATE INDEX mixed_content ON mixed_rows USING gin (d);
+CREATE INDEX mixed_order ON mixed_rows (d);
+SET enable_seqscan = off;
+SELECT plan_has($$ SELECT FROM mixed_rows WHERE d @> '{"id": 7}'::jsonb $$, 'on mixed_content');
+SELECT plan_has($$ SELECT FROM mixed_rows WHERE d = '{"id": 7}'::jsonb $$, 'on mixed_order');
+SELECT d FROM mixed_rows WHERE d @> '{"id": 7}'::jsonb;
+RESET enable_seqscan;
+-- A number of a jsonb past the limits is refused where it is compared.
+SELECT refusal($$ SELECT '1'::kohiblad = '1e40'::jsonb $$);

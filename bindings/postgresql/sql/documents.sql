@@ -44,7 +44,13 @@ SET max_stack_depth = '1MB';
 SELECT nested_text(1000)::kohiblad::text = nested_text(1000);
 SELECT nested_bytes(1000)::kohiblad::text = nested_text(1000);
 SET max_stack_depth = '100kB';
-SELECT refusal($$ SELECT '[]'::kohiblad $$);
+SELECT nested_text(1000)::kohiblad IS NOT NULL, '\x80000000'::bytea::kohiblad,
+    kohiblad_canonical('[1]'), kohiblad_strip_nulls('[1]');
+SELECT kohiblad_key(d) = kohiblad_key(d), kohiblad_hash(d) = kohiblad_hash(d), d::json::text
+FROM (SELECT '[1]'::kohiblad AS d) s;
+SELECT refusal($$ SELECT nested_text(1000)::kohiblad::text $$),
+    refusal($$ SELECT nested_bytes(1000)::kohiblad $$);
+SELECT refusal($$ SELECT kohiblad_hash(nested_text(1000)::kohiblad) $$);
 RESET max_stack_depth;
 -- Kinds and lengths.
 SELECT kohiblad_kind('null'), kohiblad_kind('true'), kohiblad_kind('1'), kohiblad_kind('""');

@@ -123,3 +123,44 @@ SELECT rechecked($$ SELECT FROM named WHERE d @@ 'exists($.x)' $$);
 SELECT array_agg(i ORDER BY i) FROM found WHERE d @@ '$.a == "1"' AND i < 0;
 SELECT array_agg(i ORDER BY i) FROM found WHERE d @? '$[0] ? (@ == "1")' AND i < 0;
 RESET enable_seqscan;
+-- A document that jsonb cannot hold: a path finds nothing in it, with an index and without, where
+-- nothing is said of errors.
+CREATE TABLE unheld AS SELECT CASE i WHEN 7 THEN '{"a":1,"b":"\\\u0000"}'
+    WHEN 8 THEN '{"a":1,"\u0000":2}' ELSE '{"a":1,"b":"\\u0000\u0001"}' END::kohiblad AS d
+FROM generate_series(1, 20) i;
+CREATE INDEX unheld_d ON unheld USING gin (d);
+CREATE FUNCTION found_unheld(condition text) RETURNS text LANGUAGE plpgsql AS $$
+DECLARE
+    by_index text;
+    by_scan text;
+BEGIN
+    SET LOCAL enable_seqscan = off;
+    SET LOCAL enable_bitmapscan = on;
+    EXECUTE 'SELECT count(*) FROM unheld WHERE ' || condition INTO by_index;
+    IF NOT plan_has('SELECT FROM unheld WHERE ' || condition, 'Index Scan') THEN
+        RETURN 'no index';
+    END IF;
+    SET LOCAL enable_seqscan = on;
+    SET LOCAL enable_bitmapscan = off;
+    EXECUTE 'SELECT count(*) FROM unheld WHERE ' || condition INTO by_scan;
+    RETURN by_index || ' ' || by_scan;
+END $$;
+SELECT found_unheld($$ d @? '$.a' $$), found_unheld($$ d @@ '$.a == 1' $$),
+    found_unheld($$ d @? '$.a ? (@ == 1)' $$), found_unheld($$ d @> '{"a":1}' $$);
+SELECT count(*) FILTER (WHERE d @? '$'), count(*) FILTER (WHERE d @? '$' IS NULL),
+    count(*) FILTER (WHERE kohiblad_path_exists(d, '$', silent => true)),
+    count(*) FILTER (WHERE kohiblad_path_exists_tz(d, '$', silent => true)),
+    count(*) FILTER (WHERE kohiblad_path_match(d, '$.a == 1', silent => true)),
+    count(kohiblad_path_query_first(d, '$.a', silent => true)),
+    sum(kohiblad_array_length(kohiblad_path_query_array(d, '$.a', silent => true))) FROM unheld;
+SELECT count(*), sum(it::int) FROM unheld, kohiblad_path_query(d, '$.a', silent => true) it;
+SELECT count(*) FROM (SELECT kohiblad_path_query(d, '$.*', silent => true) FROM unheld) s;
+SELECT refusal($$ SELECT count(*) FROM unheld WHERE kohiblad_path_exists(d, '$') $$);
+SELECT refusal($$ SELECT kohiblad_path_exists('[]', '$', '{"x":"\u0000"}', true) $$);
+-- Paths of more steps than documents have levels.
+SELECT found_unheld(format('d @@ %L', '$' || repeat('.a', steps) || ' == 1')),
+    found_unheld(format('d @? %L', '$' || repeat('.a', steps) || ' ? (@ == 1)'))
+FROM unnest('{1,2,999,1000,1001,1500}'::int[]) steps;
+INSERT INTO unheld SELECT (repeat('{"a":', 1000) || '1' || repeat('}', 1000))::kohiblad;
+SELECT found_unheld(format('d @@ %L', '$' || repeat('.a', steps) || ' == 1'))
+FROM unnest('{999,1000,1001}'::int[]) steps;

@@ -44,4 +44,15 @@ BEGIN
     RETURN d;
 END $$;
 SELECT made();
-SELECT refusal($$ SELECT write('[]', '[2147483647]', '1') $$);
+-- Gaps: jsonb makes arrays of at most 16,777,216 items. What is past that is refused at once.
+SELECT write('[0]', '[1500]', '1') = kohiblad_build_array(VARIADIC '{0}'::int[]
+        || array_fill(NULL::int, '{1499}') || 1),
+    kohiblad_length(write('{}', '[''a''][4097]', '1') -> 'a');
+SELECT kohiblad_length(write('[1]', '[1000000]', '1'));
+SET statement_timeout = '3s';
+SELECT refusal($$ SELECT write('[]', '[16777216]', '1') $$);
+SELECT refusal($$ SELECT write('[]', '[40000000]', '1') $$);
+SELECT refusal($$ SELECT write('{"a":[1]}', '[''a''][40000000]', '1') $$);
+SELECT refusal($$ SELECT write('{}', '[''a''][2147483647][''b'']', '1') $$);
+SELECT refusal($$ SELECT write('[]', repeat('[16000000]', 17), '1') $$);
+RESET statement_timeout;

@@ -8,6 +8,7 @@
 
 #include "catalog/pg_proc.h"
 #include "catalog/pg_type.h"
+#include "miscadmin.h"
 #include "nodes/makefuncs.h"
 #include "nodes/supportnodes.h"
 #include "utils/builtins.h"
@@ -52,6 +53,7 @@ static bool find_elements(Part value, Bytes path, Part *child) {
     *child = value;
     uint32_t status = kohiblad_begin(path.at, path.size, &cursor);
     while (status == KOHIBLAD_OK) {
+        CHECK_FOR_INTERRUPTS();
         status = kohiblad_next(path.at, path.size, &cursor, &key, &element);
         if (status != KOHIBLAD_OK) break;
         if (!find_element(*child, part_at(path, element), child)) return false;
@@ -91,8 +93,10 @@ static struct varlena *array_of_path(ArrayType *array) {
     if (ARR_NDIM(array) > 1 || array_contains_nulls(array)) return NULL;
     TextPath path = elements_of_array(array);
     Rows *rows = new_rows();
-    for (int i = 0; i < path.count; i++)
+    for (int i = 0; i < path.count; i++) {
+        CHECK_FOR_INTERRUPTS();
         add_text(rows, utf8_of_text(DatumGetTextPP(path.elements[i])));
+    }
     struct varlena *built = array_of_rows(rows);
     free_rows(rows);
     return built;

@@ -5,6 +5,7 @@
 #include "catalog/pg_type.h"
 #include "funcapi.h"
 #include "libpq/pqformat.h"
+#include "miscadmin.h"
 #include "port/pg_bswap.h"
 #include "utils/builtins.h"
 #include "utils/fmgrprotos.h"
@@ -41,7 +42,10 @@ Datum pg_kohiblad_build_array(PG_FUNCTION_ARGS) {
     if (count < 0) PG_RETURN_NULL();
     Oid documents = type_of_documents(fcinfo);
     Rows *rows = new_rows();
-    for (int i = 0; i < count; i++) add_value(rows, values[i], nulls[i], types[i], documents);
+    for (int i = 0; i < count; i++) {
+        CHECK_FOR_INTERRUPTS();
+        add_value(rows, values[i], nulls[i], types[i], documents);
+    }
     PG_RETURN_POINTER(array_of_rows(rows));
 }
 
@@ -58,6 +62,7 @@ Datum pg_kohiblad_build_object(PG_FUNCTION_ARGS) {
     Oid documents = type_of_documents(fcinfo);
     Rows *rows = new_rows();
     for (int i = 0; i < count; i += 2) {
+        CHECK_FOR_INTERRUPTS();
         add_key(rows, values[i], nulls[i], types[i], documents);
         add_value(rows, values[i + 1], nulls[i + 1], types[i + 1], documents);
     }
@@ -148,8 +153,10 @@ Datum pg_kohiblad_rows_serialize(PG_FUNCTION_ARGS) {
     StringInfoData out;
     pq_begintypsend(&out);
     pq_sendint64(&out, rows->count);
-    for (size_t i = 0; i < rows->count; i++)
+    for (size_t i = 0; i < rows->count; i++) {
+        CHECK_FOR_INTERRUPTS();
         pq_sendint32(&out, rows->offsets[i + 1] - rows->offsets[i]);
+    }
     pq_sendbytes(&out, rows->bytes.data, rows->bytes.len);
     PG_RETURN_BYTEA_P(pq_endtypsend(&out));
 }
@@ -164,6 +171,7 @@ Datum pg_kohiblad_rows_deserialize(PG_FUNCTION_ARGS) {
     const char *lengths = pq_getmsgbytes(&in, count * sizeof(uint32));
     Rows *rows = new_rows();
     for (size_t i = 0; i < count; i++) {
+        CHECK_FOR_INTERRUPTS();
         uint32 length;
         memcpy(&length, lengths + i * sizeof length, sizeof length);
         length = pg_ntoh32(length);

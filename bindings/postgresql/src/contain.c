@@ -3,23 +3,199 @@
 
 #include "miscadmin.h"
 
-/* So many steps take some milliseconds. */
-#define FIRST_STEPS 1000000
+/* So many steps take some 0.2 seconds. To test what is asked in parts, take fewer. */
+#ifndef MOST_STEPS
+#define MOST_STEPS 4000000
+#endif
 
-/* Nested arrays may take a product of steps. So the call gives up after some and begins anew with
- * twice as many, which takes twice the time at most, and between two calls a query can be
- * cancelled. */
-static bool contains(Bytes left, Bytes right) {
-    size_t depth = depth_of_size(Max(left.size, right.size)), steps = FIRST_STEPS;
+/* So many keys are sooner looked up in an object than all of the document is checked. */
+#define FEW_KEYS 4
+
+/* Nested arrays may take a product of steps, and a call of the library cannot be cancelled. So it
+ * gives up after so many, and then the same is asked in parts, between which a query can be
+ * cancelled: a few items of one array at a time against a few of the other, and members one by
+ * one. */
+static bool contains_in_parts(Part left, Part right);
+
+/* Whether a document contains another; false if that takes more than so many steps. */
+static bool ends_within(size_t steps, Bytes left, Bytes right, bool *answer) {
+    CHECK_FOR_INTERRUPTS();
+    size_t depth = depth_of_size(Max(left.size, right.size));
     check_stack_for(stack_of_depth(depth));
-    for (;;) {
-        struct kohiblad_truth truth =
-            kohiblad_contains(left.at, left.size, right.at, right.size, depth, steps);
-        if (truth.status == KOHIBLAD_OK) return truth.value;
-        if (truth.status != KOHIBLAD_TOO_MANY_STEPS) refuse(truth.status, ERRCODE_DATA_CORRUPTED);
+    struct kohiblad_truth truth =
+        kohiblad_contains(left.at, left.size, right.at, right.size, depth, steps);
+    if (truth.status == KOHIBLAD_TOO_MANY_STEPS) return false;
+    if (truth.status != KOHIBLAD_OK) refuse(truth.status, ERRCODE_DATA_CORRUPTED);
+    *answer = truth.value;
+    return true;
+}
+
+/* The parts of what has one child take as many steps as the whole. */
+static bool has_one_child(Bytes container) {
+    return kind_of(container).count == 1;
+}
+
+/* Some items of an array in turn: how many are taken next, and where they begin. */
+typedef struct Chunks {
+    Bytes array;
+    struct kohiblad_cursor cursor, next;
+    size_t most, count; /* the number of items wanted, and of those that there are */
+    Part first;
+    struct varlena *items;
+} Chunks;
+
+static Chunks chunks_of(Bytes array) {
+    Chunks chunks = {.array = array, .most = 1};
+    uint32_t status = kohiblad_begin(array.at, array.size, &chunks.cursor);
+    if (status != KOHIBLAD_OK) refuse(status, ERRCODE_DATA_CORRUPTED);
+    return chunks;
+}
+
+/* Takes the array of the items that come next; false if there are none. */
+static bool take_items(Chunks *chunks) {
+    Bytes array = chunks->array;
+    struct kohiblad_place place;
+    Rows *rows = new_rows();
+    uint32_t status = KOHIBLAD_OK;
+    chunks->next = chunks->cursor;
+    for (chunks->count = 0; chunks->count < chunks->most; chunks->count++) {
         CHECK_FOR_INTERRUPTS();
-        steps = steps > SIZE_MAX / 2 ? SIZE_MAX : 2 * steps;
+        status = kohiblad_next(array.at, array.size, &chunks->next, NULL, &place);
+        if (status != KOHIBLAD_OK) break;
+        Part item = part_at(array, place);
+        if (chunks->count == 0) chunks->first = item;
+        add_part(rows, item);
     }
+    if (status != KOHIBLAD_OK && status != KOHIBLAD_NONE) refuse(status, ERRCODE_DATA_CORRUPTED);
+    if (chunks->count > 0) chunks->items = array_of_rows(rows);
+    free_rows(rows);
+    return chunks->count > 0;
+}
+
+/* Leaves the items that were taken, for twice as many. */
+static void pass_items(Chunks *chunks) {
+    pfree(chunks->items);
+    chunks->cursor = chunks->next;
+    chunks->most *= 2;
+}
+
+/* Takes half as many of these items; false if it is only one. */
+static bool halve_items(Chunks *chunks) {
+    if (chunks->count == 1) return false;
+    pfree(chunks->items);
+    chunks->most = chunks->count / 2;
+    return true;
+}
+
+/* Whether some item of an array contains the only item of another. */
+static bool has_item(Bytes array, Bytes wanted, Part item) {
+    bool answer, is_single = has_one_child(array);
+    Chunks chunks = chunks_of(array);
+    while (take_items(&chunks)) {
+        if (is_single || !ends_within(MOST_STEPS, bytes_of(chunks.items), wanted, &answer)) {
+            if (halve_items(&chunks)) continue;
+            answer = contains_in_parts(chunks.first, item);
+        }
+        pass_items(&chunks);
+        if (answer) return true;
+    }
+    return false;
+}
+
+/* Whether for each item of an array some item of the other contains it. */
+static bool contains_items(Bytes array, Bytes wanted) {
+    bool answer, is_single = has_one_child(wanted);
+    Chunks chunks = chunks_of(wanted);
+    while (take_items(&chunks)) {
+        Bytes items = bytes_of(chunks.items);
+        if (is_single || !ends_within(MOST_STEPS, array, items, &answer)) {
+            if (halve_items(&chunks)) continue;
+            answer = has_item(array, items, chunks.first);
+        }
+        pass_items(&chunks);
+        if (!answer) return false;
+    }
+    return true;
+}
+
+/* Moves on in an object to a key, in the order of its keys. */
+static bool move_to_key(Bytes object, struct kohiblad_cursor *cursor, Bytes wanted, Part *value) {
+    struct kohiblad_place key, place;
+    for (;;) {
+        CHECK_FOR_INTERRUPTS();
+        uint32_t status = kohiblad_next(object.at, object.size, cursor, &key, &place);
+        if (status == KOHIBLAD_NONE) return false;
+        if (status != KOHIBLAD_OK) refuse(status, ERRCODE_DATA_CORRUPTED);
+        int order = compare_bytes(part_at(object, key).payload, wanted);
+        *value = part_at(object, place);
+        if (order >= 0) return order == 0;
+    }
+}
+
+/* Whether a value contains another, in parts if need be. */
+static bool contains_value(Part left, Part right) {
+    bool answer, are_arrays = is_array_part(left) && is_array_part(right);
+    bool are_objects = is_object_part(left) && is_object_part(right);
+    if ((are_arrays || are_objects) &&
+        ends_within(MOST_STEPS, left.payload, right.payload, &answer))
+        return answer;
+    return contains_in_parts(left, right);
+}
+
+/* Whether each key of an object is in the other, with a value that contains its own. */
+static bool contains_members(Bytes object, Bytes wanted) {
+    struct kohiblad_cursor cursor, wanted_cursor;
+    struct kohiblad_place key, place;
+    Part value;
+    bool is_single = has_one_child(wanted);
+    uint32_t status = kohiblad_begin(object.at, object.size, &cursor);
+    if (status == KOHIBLAD_OK) status = kohiblad_begin(wanted.at, wanted.size, &wanted_cursor);
+    while (status == KOHIBLAD_OK) {
+        status = kohiblad_next(wanted.at, wanted.size, &wanted_cursor, &key, &place);
+        if (status != KOHIBLAD_OK) break;
+        if (!move_to_key(object, &cursor, part_at(wanted, key).payload, &value)) return false;
+        Part part = part_at(wanted, place);
+        if (!(is_single ? contains_in_parts : contains_value)(value, part)) return false;
+    }
+    if (status != KOHIBLAD_NONE) refuse(status, ERRCODE_DATA_CORRUPTED);
+    return true;
+}
+
+/* Whether two scalars are equal, which takes few steps but for long texts. */
+static bool are_equal_scalars(Part left, Part right) {
+    bool answer = false;
+    struct varlena *l = document_of_part(left), *r = document_of_part(right);
+    ends_within(SIZE_MAX, bytes_of(l), bytes_of(r), &answer);
+    pfree(l);
+    pfree(r);
+    return answer;
+}
+
+static bool contains_in_parts(Part left, Part right) {
+    check_stack_depth();
+    if (!is_container(left) && !is_container(right)) return are_equal_scalars(left, right);
+    if (is_array_part(left) && is_array_part(right))
+        return contains_items(left.payload, right.payload);
+    return is_object_part(left) && is_object_part(right) &&
+           contains_members(left.payload, right.payload);
+}
+
+static struct varlena *array_of_part(Part part) {
+    Rows *rows = new_rows();
+    add_part(rows, part);
+    struct varlena *array = array_of_rows(rows);
+    free_rows(rows);
+    return array;
+}
+
+/* An array contains a scalar too that is one of its items. */
+static bool contains(Bytes left, Bytes right) {
+    bool answer;
+    if (ends_within(MOST_STEPS, left, right, &answer)) return answer;
+    Part whole = part_of_document(left), wanted = part_of_document(right);
+    if (is_array_part(whole) && !is_container(wanted))
+        return contains_items(left, bytes_of(array_of_part(wanted)));
+    return contains_in_parts(whole, wanted);
 }
 
 /* One argument contains the other. */
@@ -61,23 +237,69 @@ Datum pg_kohiblad_exists(PG_FUNCTION_ARGS) {
     PG_RETURN_BOOL(result);
 }
 
-/* Whether a key of an array exists that is wanted, or one that is not; nulls are passed over. */
-static bool any_exists(FunctionCallInfo fcinfo, bool wanted) {
-    Bytes document = bytes_of(PG_GETARG_VARLENA_PP(0));
-    TextPath keys = elements_of_array(PG_GETARG_ARRAYTYPE_P(1));
+/* Whether any of a few keys exists, or all of them: each is looked up by itself. */
+static bool few_exist(Bytes document, TextPath keys, bool needs_all) {
     for (int i = 0; i < keys.count; i++) {
+        CHECK_FOR_INTERRUPTS();
         if (keys.nulls[i]) continue;
-        if (exists(document, utf8_of_text(DatumGetTextPP(keys.elements[i]))) == wanted) return true;
+        Bytes key = utf8_of_text(DatumGetTextPP(keys.elements[i]));
+        if (exists(document, key) != needs_all) return !needs_all;
     }
-    return false;
+    return needs_all;
+}
+
+/* The array of the keys that are texts of the format; whether some are too long for it, and so in
+ * no document. */
+static struct varlena *array_of_keys(TextPath keys, bool *some_are_too_long) {
+    Rows *rows = new_rows();
+    *some_are_too_long = false;
+    for (int i = 0; i < keys.count; i++) {
+        CHECK_FOR_INTERRUPTS();
+        if (keys.nulls[i]) continue;
+        Bytes key = utf8_of_text(DatumGetTextPP(keys.elements[i]));
+        if (key.size < PAYLOAD_LIMIT)
+            add_text(rows, key);
+        else
+            *some_are_too_long = true;
+    }
+    struct varlena *array = array_of_rows(rows);
+    free_rows(rows);
+    return array;
+}
+
+/* The same for any number of keys, in one walk over the document. */
+static bool many_exist(Bytes document, TextPath keys, bool needs_all) {
+    bool some_are_too_long;
+    struct varlena *array = array_of_keys(keys, &some_are_too_long);
+    if (some_are_too_long && needs_all) return false;
+    Bytes names = bytes_of(array);
+    size_t depth = depth_of_size(document.size);
+    check_stack_for(stack_of_depth(depth));
+    struct kohiblad_truth truth =
+        (needs_all ? kohiblad_exists_all : kohiblad_exists_any)(document.at, document.size,
+                                                                names.at, names.size, depth);
+    if (truth.status != KOHIBLAD_OK) refuse(truth.status, ERRCODE_DATA_CORRUPTED);
+    pfree(array);
+    return truth.value;
+}
+
+/* Whether any key of an array exists, or all of them; nulls are passed over. */
+static bool keys_exist(FunctionCallInfo fcinfo, bool needs_all) {
+    struct varlena *given = PG_GETARG_VARLENA_PP(0);
+    Bytes document = bytes_of(given);
+    TextPath keys = elements_of_array(PG_GETARG_ARRAYTYPE_P(1));
+    bool are_few = keys.count <= FEW_KEYS && kind_of(document).kind == KOHIBLAD_OBJECT;
+    bool result = (are_few ? few_exist : many_exist)(document, keys, needs_all);
+    PG_FREE_IF_COPY(given, 0);
+    return result;
 }
 
 PG_FUNCTION_INFO_V1(pg_kohiblad_exists_any);
 Datum pg_kohiblad_exists_any(PG_FUNCTION_ARGS) {
-    PG_RETURN_BOOL(any_exists(fcinfo, true));
+    PG_RETURN_BOOL(keys_exist(fcinfo, false));
 }
 
 PG_FUNCTION_INFO_V1(pg_kohiblad_exists_all);
 Datum pg_kohiblad_exists_all(PG_FUNCTION_ARGS) {
-    PG_RETURN_BOOL(!any_exists(fcinfo, false));
+    PG_RETURN_BOOL(keys_exist(fcinfo, true));
 }

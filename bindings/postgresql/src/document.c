@@ -1,7 +1,6 @@
 #include "document.h"
 
 #include "libpq/pqformat.h"
-#include "mb/pg_wchar.h"
 #include "miscadmin.h"
 #include "tcop/tcopprot.h"
 #include "utils/builtins.h"
@@ -14,7 +13,7 @@ PG_MODULE_MAGIC;
 /* What check_stack_depth leaves below its limit, less a reserve for the server's own calls. */
 #define STACK_LEFT (STACK_DEPTH_SLOP - 64 * 1024)
 
-static const char *explanation(uint32_t status) {
+const char *explanation(uint32_t status) {
     switch (status) {
         case KOHIBLAD_INVALID_JSONB:
             return "The bytes are no document of at most " CppAsString2(MAX_DEPTH)
@@ -38,13 +37,16 @@ static int code_of(uint32_t status, int code) {
     }
 }
 
-void refuse_because(uint32_t status, int code, const char *detail) {
+const char *name_of_status(uint32_t status) {
     uint8_t name[STATUS_NAME_ROOM];
     size_t length;
     if (kohiblad_status_name(status, name, sizeof name, &length) != KOHIBLAD_OK)
         elog(ERROR, "kohiblad: status %u", status);
-    ereport(ERROR, (errcode(code_of(status, code)),
-                    errmsg("kohiblad: %.*s", (int)length, (const char *)name),
+    return pnstrdup((const char *)name, length);
+}
+
+void refuse_because(uint32_t status, int code, const char *detail) {
+    ereport(ERROR, (errcode(code_of(status, code)), errmsg("kohiblad: %s", name_of_status(status)),
                     detail ? errdetail("%s", detail) : 0));
 }
 
@@ -67,57 +69,59 @@ void check_stack_for(size_t bytes) {
                         errhint("Increase the configuration parameter \"max_stack_depth\".")));
 }
 
+bool has_room(size_t bytes) {
+    return bytes <= MAX_ROOM - 1;
+}
+
 void check_room(size_t bytes) {
-    if (bytes > MAX_ROOM - 1)
+    if (!has_room(bytes))
         ereport(ERROR, (errcode(ERRCODE_PROGRAM_LIMIT_EXCEEDED),
                         errmsg("kohiblad: the result has %zu bytes, more than 1 GB", bytes)));
 }
 
-char *write_after(size_t prefix, WriteCall call, Bytes in, size_t guess, int code, size_t *length) {
-    check_stack_for(DOCUMENT_STACK);
+/* The result of a call within a depth, as write_after has it. */
+static char *write_within(size_t depth, size_t prefix, WriteCall call, Bytes in, size_t guess,
+                          int code, size_t *length) {
     size_t room = Min(guess, MAX_ROOM - 1);
     char *out = palloc(prefix + room + 1);
-    uint32_t status = call(in.at, in.size, MAX_DEPTH, (uint8_t *)out + prefix, room, length);
+    uint32_t status = call(in.at, in.size, depth, (uint8_t *)out + prefix, room, length);
     if (status == KOHIBLAD_NO_ROOM) {
         pfree(out);
         room = *length;
         check_room(room);
         out = palloc(prefix + room + 1);
-        status = call(in.at, in.size, MAX_DEPTH, (uint8_t *)out + prefix, room, length);
+        status = call(in.at, in.size, depth, (uint8_t *)out + prefix, room, length);
     }
     if (status != KOHIBLAD_OK) refuse(status, code);
     out[prefix + *length] = 0;
     return out;
 }
 
-struct varlena *write_value(WriteCall call, Bytes in, size_t guess, int code) {
-    size_t length;
-    struct varlena *value = (struct varlena *)write_after(VARHDRSZ, call, in, guess, code, &length);
+char *write_after(size_t prefix, WriteCall call, Bytes document, size_t guess, int code,
+                  size_t *length) {
+    size_t depth = depth_of_size(document.size);
+    check_stack_for(stack_of_depth(depth));
+    return write_within(depth, prefix, call, document, guess, code, length);
+}
+
+static struct varlena *sized_value(char *written, size_t length) {
+    struct varlena *value = (struct varlena *)written;
     SET_VARSIZE(value, VARHDRSZ + length);
     return value;
 }
 
-/* A text that the server can hold: it ends texts by a zero byte, which a string here may have. */
-text *text_of_utf8(Bytes utf8) {
-    if (memchr(utf8.at, 0, utf8.size))
-        ereport(ERROR, (errcode(ERRCODE_UNTRANSLATABLE_CHARACTER),
-                        errmsg("kohiblad: \\u0000 cannot be converted to text")));
-    const char *shown = (const char *)utf8.at;
-    if (GetDatabaseEncoding() == PG_UTF8) return cstring_to_text_with_len(shown, utf8.size);
-    char *converted = pg_any_to_server(shown, utf8.size, PG_UTF8);
-    if (converted == shown) return cstring_to_text_with_len(shown, utf8.size);
-    text *result = cstring_to_text(converted);
-    pfree(converted);
-    return result;
+struct varlena *write_value(WriteCall call, Bytes document, size_t guess, int code) {
+    size_t length;
+    char *written = write_after(VARHDRSZ, call, document, guess, code, &length);
+    return sized_value(written, length);
 }
 
-Bytes utf8_of_server(const char *given, size_t size) {
-    char *utf8 = pg_server_to_any(given, size, PG_UTF8);
-    return (Bytes){(const uint8_t *)utf8, utf8 == given ? size : strlen(utf8)};
-}
-
-Bytes utf8_of_text(const text *name) {
-    return utf8_of_server(VARDATA_ANY(name), VARSIZE_ANY_EXHDR(name));
+/* Texts are read without stack for their depth. */
+struct varlena *write_value_of_text(WriteCall call, Bytes text, size_t guess, int code) {
+    size_t length;
+    check_stack_for(KOHIBLAD_CALL_STACK);
+    char *written = write_within(MAX_DEPTH, VARHDRSZ, call, text, guess, code, &length);
+    return sized_value(written, length);
 }
 
 struct kohiblad_value_kind kind_of(Bytes document) {
@@ -168,9 +172,14 @@ bool is_array(Part container) {
     return kohiblad_kind(container.payload.at, container.payload.size).kind == KOHIBLAD_ARRAY;
 }
 
+bool is_document(Bytes given) {
+    size_t depth = depth_of_size(given.size);
+    check_stack_for(stack_of_depth(depth));
+    return kohiblad_check(given.at, given.size, depth);
+}
+
 void check_document(Bytes given, int code) {
-    check_stack_for(DOCUMENT_STACK);
-    if (!kohiblad_check(given.at, given.size, MAX_DEPTH)) refuse(KOHIBLAD_INVALID_JSONB, code);
+    if (!is_document(given)) refuse(KOHIBLAD_INVALID_JSONB, code);
 }
 
 static struct varlena *checked_document(Bytes given) {

@@ -20,11 +20,15 @@
 /* No stored document nests deeper. */
 #define MAX_DEPTH 1000
 
-/* The stack that a call of the library over a stored document needs. */
-#define DOCUMENT_STACK (MAX_DEPTH * KOHIBLAD_LEVEL_STACK + KOHIBLAD_CALL_STACK)
-
 /* The bytes before the payload in the document of a scalar. */
 #define SCALAR_FRONT 8
+
+/* What comes before hexadecimal, as in bytea. No JSON text begins so. */
+#define HEX_MARK "\\x"
+#define HEX_MARK_SIZE 2
+
+/* The first number of bytes that no text has, and no key. */
+#define PAYLOAD_LIMIT (1 << 28)
 
 /* The largest document of a number, a decimal of 128 bits. */
 #define NUMBER_ROOM (SCALAR_FRONT + 18)
@@ -33,6 +37,9 @@
  * at least: a header, and the entry word of the next. */
 #define ENTRY_SIZE 4
 #define LEVEL_SIZE 8
+
+/* Loops over bytes ask after so many whether the query is cancelled. */
+#define BYTES_UNCHECKED 65536
 
 typedef struct Bytes {
     const uint8_t *at;
@@ -45,6 +52,12 @@ typedef struct Part {
     Bytes payload;
 } Part;
 
+/* Why a text is refused: the status of the library, and what the error says beside it. */
+typedef struct Fault {
+    uint32_t status;
+    const char *detail;
+} Fault;
+
 /* A library call that reads bytes within a depth and writes as snprintf does. */
 typedef uint32_t (*WriteCall)(const uint8_t *bytes, size_t size, size_t depth, uint8_t *out,
                               size_t room, size_t *length);
@@ -53,6 +66,13 @@ typedef uint32_t (*WriteCall)(const uint8_t *bytes, size_t size, size_t depth, u
 
 static inline Bytes bytes_of(const struct varlena *value) {
     return (Bytes){(const uint8_t *)VARDATA_ANY(value), VARSIZE_ANY_EXHDR(value)};
+}
+
+/* The order of texts and keys: by bytes, and the shorter first. */
+static inline int compare_bytes(Bytes left, Bytes right) {
+    int order = memcmp(left.at, right.at, Min(left.size, right.size));
+    if (order != 0) return order;
+    return (left.size > right.size) - (left.size < right.size);
 }
 
 /* No document of so many bytes nests deeper, and none that is stored. */
@@ -68,9 +88,18 @@ static inline size_t edit_stack_of_depth(size_t depth) {
     return depth * KOHIBLAD_EDIT_LEVEL_STACK + KOHIBLAD_CALL_STACK;
 }
 
+/* The name of a status, and what it means, NULL if its name says all. */
+extern const char *name_of_status(uint32_t status);
+extern const char *explanation(uint32_t status);
+
 /* Raises an error that names the library's status, with what it means or with another detail. */
 extern void refuse(uint32_t status, int code) pg_attribute_noreturn();
 extern void refuse_because(uint32_t status, int code, const char *detail) pg_attribute_noreturn();
+
+/* Whether a value can have so many bytes, and whether bytes are a document of at most MAX_DEPTH
+ * levels. */
+extern bool has_room(size_t bytes);
+extern bool is_document(Bytes given);
 
 /* Raises an error unless so much stack is left, unless a value can have so many bytes, and unless
  * bytes are a document of at most MAX_DEPTH levels. */
@@ -78,15 +107,21 @@ extern void check_stack_for(size_t bytes);
 extern void check_room(size_t bytes);
 extern void check_document(Bytes given, int code);
 
-/* The result of a call after `prefix` bytes that the caller fills in, and before a zero byte;
- * `guess` is the room that is tried first. */
-extern char *write_after(size_t prefix, WriteCall call, Bytes in, size_t guess, int code,
+/* The result of a call over a document after `prefix` bytes that the caller fills in, and before a
+ * zero byte; `guess` is the room that is tried first. */
+extern char *write_after(size_t prefix, WriteCall call, Bytes document, size_t guess, int code,
                          size_t *length);
 
-/* The result of a call as a new value. */
-extern struct varlena *write_value(WriteCall call, Bytes in, size_t guess, int code);
+/* The result of a call over a document, or over a text of any depth, as a new value. */
+extern struct varlena *write_value(WriteCall call, Bytes document, size_t guess, int code);
+extern struct varlena *write_value_of_text(WriteCall call, Bytes text, size_t guess, int code);
 
-/* UTF-8 of the library as a text of the server's encoding, and texts of the server as UTF-8. */
+/* A JSON text in the server's encoding, with escapes for the characters that this lacks; the same
+ * bytes where it needs no other. */
+extern Bytes server_json(Bytes json);
+
+/* UTF-8 of the library as a plain text of the server's encoding, and texts of the server as
+ * UTF-8. */
 extern text *text_of_utf8(Bytes utf8);
 extern Bytes utf8_of_server(const char *given, size_t size);
 extern Bytes utf8_of_text(const text *name);
@@ -117,6 +152,16 @@ extern text *plain_text(Part part);
 
 /* The document of a JSON text in UTF-8, which is refused as the text of a column is. */
 extern struct varlena *document_of_json(Bytes utf8);
+
+/* Where and why a text in UTF-8 that is read within a depth is not JSON. */
+extern Fault fault_of_text(Bytes utf8, size_t depth);
+
+/* Whether a text of a column has a document in hexadecimal, and its bytes: NULL if they are not
+ * hexadecimal, and at which byte. */
+static inline bool is_hex(const char *given) {
+    return strncmp(given, HEX_MARK, HEX_MARK_SIZE) == 0;
+}
+extern struct varlena *bytes_of_hex(const char *given, size_t *bad);
 
 /* Whether the part is an array, and not an object. */
 extern bool is_array(Part container);

@@ -204,6 +204,7 @@ typedef struct Names {
 } Names;
 
 static int compare_names(const void *left, const void *right) {
+    CHECK_FOR_INTERRUPTS();
     const Bytes *l = left, *r = right;
     int order = memcmp(l->at, r->at, Min(l->size, r->size));
     return order ? order : (l->size > r->size) - (l->size < r->size);
@@ -224,7 +225,10 @@ static uint32_t pick_others(const uint8_t *bytes, size_t size, const uint8_t *na
 static struct varlena *without_members(struct varlena *given, Names names) {
     Bytes document = bytes_of(given);
     Rows *rows = new_rows();
-    for (size_t i = 0; i < names.count; i++) add_text(rows, names.at[i]);
+    for (size_t i = 0; i < names.count; i++) {
+        CHECK_FOR_INTERRUPTS();
+        add_text(rows, names.at[i]);
+    }
     struct varlena *listed = array_of_rows(rows);
     struct varlena *result = made_of_two(pick_others, document, bytes_of(listed));
     pfree(listed);
@@ -272,6 +276,7 @@ Datum pg_kohiblad_delete_array(PG_FUNCTION_ARGS) {
     TextPath given = path_of_array(PG_GETARG_ARRAYTYPE_P(1));
     Names names = {palloc(Max(given.count, 1) * sizeof(Bytes)), 0};
     for (int i = 0; i < given.count; i++) {
+        CHECK_FOR_INTERRUPTS();
         if (!given.nulls[i])
             names.at[names.count++] = utf8_of_text(DatumGetTextPP(given.elements[i]));
     }

@@ -9,6 +9,7 @@
 
 #include "access/gin.h"
 #include "access/stratnum.h"
+#include "miscadmin.h"
 
 /* The numbers of the operators, which are those of jsonb's operator classes. */
 enum {
@@ -35,7 +36,10 @@ static Datum key_of_value(uint64_t hash) {
 /* FNV-1a of the mark and the name. */
 static Datum key_of_name(Bytes name) {
     uint64 hash = (FNV_BASIS ^ NAME_MARK) * FNV_PRIME;
-    for (size_t i = 0; i < name.size; i++) hash = (hash ^ name.at[i]) * FNV_PRIME;
+    for (size_t i = 0; i < name.size; i++) {
+        if (i % BYTES_UNCHECKED == 0) CHECK_FOR_INTERRUPTS();
+        hash = (hash ^ name.at[i]) * FNV_PRIME;
+    }
     return UInt64GetDatum(hash | 1);
 }
 
@@ -58,7 +62,10 @@ void append_values(Keys *keys, Bytes document) {
     uint32_t status = kohiblad_index_keys(document.at, document.size, depth, (uint64_t *)out, room,
                                           &count);
     if (status != KOHIBLAD_OK) refuse(status, ERRCODE_DATA_CORRUPTED);
-    for (size_t i = 0; i < count; i++) out[i] = key_of_value(out[i]);
+    for (size_t i = 0; i < count; i++) {
+        CHECK_FOR_INTERRUPTS();
+        out[i] = key_of_value(out[i]);
+    }
     keys->count += count;
 }
 
@@ -87,6 +94,7 @@ static void append_names(Keys *keys, Bytes document) {
     struct kohiblad_place key, value;
     uint32_t status = kohiblad_begin(document.at, document.size, &cursor);
     while (status == KOHIBLAD_OK) {
+        CHECK_FOR_INTERRUPTS();
         status = kohiblad_next(document.at, document.size, &cursor, &key, &value);
         if (status != KOHIBLAD_OK) break;
         if (key.status != KOHIBLAD_OK && value.type != KOHIBLAD_TYPE_STRING) continue;
@@ -118,9 +126,11 @@ Datum pg_kohiblad_gin_extract_values(PG_FUNCTION_ARGS) {
 
 static void append_given_names(Keys *keys, ArrayType *array) {
     TextPath names = elements_of_array(array);
-    for (int i = 0; i < names.count; i++)
+    for (int i = 0; i < names.count; i++) {
+        CHECK_FOR_INTERRUPTS();
         if (!names.nulls[i])
             append_name(keys, utf8_of_text(DatumGetTextPP(names.elements[i])));
+    }
 }
 
 static Keys keys_of_query(FunctionCallInfo fcinfo, StrategyNumber strategy) {
@@ -149,8 +159,10 @@ Datum pg_kohiblad_gin_extract_query(PG_FUNCTION_ARGS) {
  * them for ?|, and else all. */
 static bool may_match(const GinTernaryValue *has, int32 count, StrategyNumber strategy) {
     bool needs_one = strategy == EXISTS_ANY;
-    for (int32 i = 0; i < count; i++)
+    for (int32 i = 0; i < count; i++) {
+        CHECK_FOR_INTERRUPTS();
         if ((has[i] != GIN_FALSE) == needs_one) return needs_one;
+    }
     return !needs_one;
 }
 

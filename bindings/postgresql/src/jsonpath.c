@@ -3,26 +3,70 @@
 #include "document.h"
 
 #include "funcapi.h"
+#include "miscadmin.h"
 #include "utils/builtins.h"
 #include "utils/fmgrprotos.h"
 
-extern Datum pg_kohiblad_to_jsonb(PG_FUNCTION_ARGS);
+/* The first code point that the text of a document has an escape for only if the server's encoding
+ * lacks it. */
+#define FIRST_PAST_ASCII 0x80
 
-static Datum jsonb_of_argument(FunctionCallInfo fcinfo, int argument) {
-    return DirectFunctionCall1(pg_kohiblad_to_jsonb, PG_GETARG_DATUM(argument));
+extern Datum pg_kohiblad_to_json(PG_FUNCTION_ARGS);
+
+static char *json_of_argument(FunctionCallInfo fcinfo, int argument) {
+    Datum json = DirectFunctionCall1(pg_kohiblad_to_json, PG_GETARG_DATUM(argument));
+    return text_to_cstring(DatumGetTextPP(json));
 }
 
-/* Calls a function of the server with the same arguments, but with documents as jsonb: the first,
- * and the variables, which are the third. A set takes them in its first call alone. */
+/* Whether jsonb has each character of a JSON text that this extension wrote: it has no \u0000, and
+ * none that the server's encoding lacks. */
+static bool has_jsonb(const char *json) {
+    for (const char *at = strchr(json, '\\'); at; at = strchr(at + 2, '\\')) {
+        CHECK_FOR_INTERRUPTS();
+        if (at[1] != 'u') continue;
+        char digits[] = {at[2], at[3], at[4], at[5], 0};
+        unsigned long point = strtoul(digits, NULL, 16);
+        if (point == 0 || point >= FIRST_PAST_ASCII) return false;
+    }
+    return true;
+}
+
+/* Operators pass over what a path cannot be followed in, and functions if their last argument says
+ * so. */
+static bool is_silent(FunctionCallInfo fcinfo) {
+    return PG_NARGS() == 2 || PG_GETARG_BOOL(3);
+}
+
+/* What a function returns where a path finds nothing and says nothing. */
+static Datum nothing(FunctionCallInfo fcinfo, PGFunction function) {
+    if (function == jsonb_path_query_array || function == jsonb_path_query_array_tz)
+        return DirectFunctionCall1(jsonb_in, CStringGetDatum("[]"));
+    if (fcinfo->flinfo->fn_retset)
+        ((ReturnSetInfo *)fcinfo->resultinfo)->isDone = ExprEndResult;
+    PG_RETURN_NULL();
+}
+
+/* Puts the documents among the arguments as jsonb into those of a call: the first, and the
+ * variables, which are the third. False if the first has no jsonb, and the call is silent. */
+static bool put_jsonb(FunctionCallInfo fcinfo, FunctionCallInfo call) {
+    char *json = json_of_argument(fcinfo, 0);
+    if (is_silent(fcinfo) && !has_jsonb(json)) return false;
+    call->args[0].value = DirectFunctionCall1(jsonb_in, CStringGetDatum(json));
+    if (PG_NARGS() == 2) return true;
+    json = json_of_argument(fcinfo, 2);
+    call->args[2].value = DirectFunctionCall1(jsonb_in, CStringGetDatum(json));
+    return true;
+}
+
+/* Calls a function of the server with the same arguments, but with documents as jsonb. A set takes
+ * them in its first call alone. */
 static Datum call_with_jsonb(FunctionCallInfo fcinfo, PGFunction function) {
     LOCAL_FCINFO(call, 4);
     InitFunctionCallInfoData(*call, fcinfo->flinfo, PG_NARGS(), PG_GET_COLLATION(),
                              fcinfo->context, fcinfo->resultinfo);
     for (int i = 0; i < PG_NARGS(); i++) call->args[i] = fcinfo->args[i];
-    if (!fcinfo->flinfo->fn_retset || SRF_IS_FIRSTCALL()) {
-        call->args[0].value = jsonb_of_argument(fcinfo, 0);
-        if (PG_NARGS() > 2) call->args[2].value = jsonb_of_argument(fcinfo, 2);
-    }
+    bool is_first = !fcinfo->flinfo->fn_retset || SRF_IS_FIRSTCALL();
+    if (is_first && !put_jsonb(fcinfo, call)) return nothing(fcinfo, function);
     Datum result = function(call);
     fcinfo->isnull = call->isnull;
     return result;

@@ -41,12 +41,6 @@ static enum rank rank_of(Part part) {
     }
 }
 
-static int compare_bytes(Bytes left, Bytes right) {
-    int order = memcmp(left.at, right.at, Min(left.size, right.size));
-    if (order != 0) return order;
-    return (left.size > right.size) - (left.size < right.size);
-}
-
 static bool are_same_bytes(Bytes left, Bytes right) {
     return left.size == right.size && memcmp(left.at, right.at, left.size) == 0;
 }
@@ -188,16 +182,16 @@ static void free_room(KeyRoom *room) {
 }
 
 static Bytes write_key(Bytes document, KeyRoom *room) {
-    check_stack_for(DOCUMENT_STACK);
-    size_t length;
+    size_t depth = depth_of_size(document.size), length;
+    check_stack_for(stack_of_depth(depth));
     uint32_t status =
-        kohiblad_key(document.at, document.size, MAX_DEPTH, room->at, room->size, &length);
+        kohiblad_key(document.at, document.size, depth, room->at, room->size, &length);
     if (status == KOHIBLAD_NO_ROOM) {
         free_room(room);
         room->at = MemoryContextAllocHuge(room->context, length);
         room->size = length;
         room->is_allocated = true;
-        status = kohiblad_key(document.at, document.size, MAX_DEPTH, room->at, room->size, &length);
+        status = kohiblad_key(document.at, document.size, depth, room->at, room->size, &length);
     }
     if (status != KOHIBLAD_OK) refuse(status, ERRCODE_DATA_CORRUPTED);
     return (Bytes){room->at, length};

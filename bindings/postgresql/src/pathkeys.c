@@ -23,7 +23,7 @@ static Bytes string_of(JsonPathItem *item) {
     return utf8_of_server(shown, size);
 }
 
-/* Adds the document of a number, unless it is past the format's limits; then no document has it. */
+/* Adds the document of a scalar, unless it is past the format's limits; then no document has it. */
 static bool add_number(Rows *rows, Numeric number) {
     const char *digits = DatumGetCString(DirectFunctionCall1(numeric_out, NumericGetDatum(number)));
     uint8_t document[NUMBER_ROOM];
@@ -35,25 +35,45 @@ static bool add_number(Rows *rows, Numeric number) {
     return true;
 }
 
+static bool add_string(Rows *rows, Bytes utf8) {
+    if (utf8.size >= PAYLOAD_LIMIT) return false;
+    add_text(rows, utf8);
+    return true;
+}
+
 static bool add_scalar(Rows *rows, JsonPathItem *item) {
     switch (item->type) {
         case jpiNull: add_null(rows); return true;
         case jpiBool: add_boolean(rows, jspGetBool(item)); return true;
         case jpiNumeric: return add_number(rows, jspGetNumeric(item));
-        default: add_text(rows, string_of(item)); return true;
+        default: return add_string(rows, string_of(item));
     }
 }
 
-/* Appends the key of a scalar at the end of a way. */
+/* The object of a member. */
+static struct varlena *object_around(Bytes key, Bytes value) {
+    Rows *member = new_rows();
+    add_row(member, key);
+    add_row(member, value);
+    struct varlena *object = object_of_rows(member);
+    free_rows(member);
+    return object;
+}
+
+/* Appends the key of a scalar at the end of a way, unless that is past the format's limits; then no
+ * document has it. */
 static void append_scalar(Keys *keys, const Way *way, JsonPathItem *scalar) {
     Rows *rows = new_rows();
     if (!add_scalar(rows, scalar)) return;
     Bytes value = {(uint8_t *)rows->bytes.data, rows->bytes.len};
-    for (; way; way = way->above) {
-        Rows *member = new_rows();
-        add_row(member, way->key);
-        add_row(member, value);
-        value = bytes_of(object_of_rows(member));
+    struct varlena *inner = NULL, *outer;
+    for (int levels = 0; way; way = way->above, levels++, inner = outer) {
+        CHECK_FOR_INTERRUPTS();
+        if (levels == MAX_DEPTH || way->key.size >= PAYLOAD_LIMIT || value.size >= PAYLOAD_LIMIT)
+            return;
+        outer = object_around(way->key, value);
+        value = bytes_of(outer);
+        if (inner) pfree(inner);
     }
     append_values(keys, value);
 }
@@ -70,6 +90,7 @@ static bool follow(Keys *keys, JsonPathItem *first, const Way *current, const Wa
     if (item.type != jpiRoot && item.type != jpiCurrent) return false;
     *way = item.type == jpiRoot ? NULL : current;
     while (jspGetNext(&item, &next)) {
+        CHECK_FOR_INTERRUPTS();
         item = next;
         switch (item.type) {
             case jpiKey: *way = below(*way, string_of(&item)); break;
@@ -91,6 +112,7 @@ static bool is_scalar(const JsonPathItem *item) {
 
 static void append_of_predicate(Keys *keys, JsonPathItem *item, const Way *current) {
     check_stack_depth();
+    CHECK_FOR_INTERRUPTS();
     JsonPathItem left, right;
     const Way *way;
     switch (item->type) {

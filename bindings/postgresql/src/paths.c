@@ -2,6 +2,7 @@
 
 #include "catalog/pg_type.h"
 #include "common/string.h"
+#include "miscadmin.h"
 #include "utils/builtins.h"
 
 TextPath elements_of_array(ArrayType *array) {
@@ -64,6 +65,7 @@ bool find_step(Bytes container, Bytes element, Part *child) {
 bool find_path(Bytes document, TextPath path, Part *child) {
     *child = part_of_document(document);
     for (int i = 0; i < path.count; i++) {
+        CHECK_FOR_INTERRUPTS();
         if (is_null(path, i) || !is_container(*child)) return false;
         Bytes element = utf8_of_text(DatumGetTextPP(path.elements[i]));
         if (!find_step(child->payload, element, child)) return false;
@@ -106,6 +108,7 @@ static void add_step(PathEnd *end) {
 bool follow_path(Bytes document, TextPath path, PathEnd *end) {
     *end = (PathEnd){.container = part_of_document(document), .steps = new_rows()};
     for (;; end->level++) {
+        CHECK_FOR_INTERRUPTS();
         if (is_null(path, end->level))
             ereport(ERROR, (errcode(ERRCODE_NULL_VALUE_NOT_ALLOWED),
                             errmsg("kohiblad: path element at position %d is null",

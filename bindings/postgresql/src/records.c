@@ -131,6 +131,7 @@ static HeapTupleHeader record_of(const Call *call, Bytes object, TupleDesc colum
     bool *nulls = palloc(columns->natts * sizeof *nulls);
     take_apart(given, columns, values, nulls);
     for (int i = 0; i < columns->natts; i++) {
+        CHECK_FOR_INTERRUPTS();
         Form_pg_attribute column = TupleDescAttr(columns, i);
         Part part;
         if (column->attisdropped) {

@@ -53,7 +53,10 @@ static Bytes row_at(const Rows *rows, size_t i) {
 }
 
 void add_rows(Rows *rows, const Rows *more) {
-    for (size_t i = 0; i < more->count; i++) add_row(rows, row_at(more, i));
+    for (size_t i = 0; i < more->count; i++) {
+        CHECK_FOR_INTERRUPTS();
+        add_row(rows, row_at(more, i));
+    }
 }
 
 void add_part(Rows *rows, Part part) {
@@ -139,6 +142,7 @@ struct varlena *object_of_unique_rows(const Rows *rows) {
 
 /* By name, and equal names by row. */
 static int compare_keys(const void *left, const void *right) {
+    CHECK_FOR_INTERRUPTS();
     const Key *l = left, *r = right;
     int order = memcmp(l->name.at, r->name.at, Min(l->name.size, r->name.size));
     if (order != 0) return order;
@@ -154,10 +158,14 @@ static bool are_same_names(Bytes left, Bytes right) {
 static Rows *last_rows(const Rows *rows) {
     size_t count = rows->count / 2;
     Key *keys = MemoryContextAllocHuge(CurrentMemoryContext, count * sizeof *keys);
-    for (size_t i = 0; i < count; i++) keys[i] = (Key){row_at(rows, 2 * i), 2 * i};
+    for (size_t i = 0; i < count; i++) {
+        CHECK_FOR_INTERRUPTS();
+        keys[i] = (Key){row_at(rows, 2 * i), 2 * i};
+    }
     qsort(keys, count, sizeof *keys, compare_keys);
     Rows *last = new_rows();
     for (size_t i = 0; i < count; i++) {
+        CHECK_FOR_INTERRUPTS();
         if (i + 1 < count && are_same_names(keys[i].name, keys[i + 1].name)) continue;
         add_row(last, keys[i].name);
         add_row(last, row_at(rows, keys[i].row + 1));

@@ -9,8 +9,16 @@
 #include "nodes/subscripting.h"
 #include "parser/parse_coerce.h"
 #include "parser/parse_expr.h"
+#include "port/pg_bswap.h"
 #include "utils/builtins.h"
 #include "utils/fmgrprotos.h"
+
+/* No gap makes a longer array; jsonb ends at the same length. */
+#define MOST_ITEMS 16777216
+
+/* What the header of an array has beside the number of items. */
+#define ARRAY_HEADER 0x80000000
+#define HEADER_SIZE 4
 
 /* The subscripts of one expression, as texts, and the types that they are written with. */
 typedef struct Subscripts {
@@ -108,31 +116,74 @@ static void fetch_old(ExprState *state pg_attribute_unused(), ExprEvalStep *step
         reference->prevvalue = value_at(*step->resvalue, path_of(reference), &reference->prevnull);
 }
 
-/* Adds so many nulls, and then a value. */
-static void add_after_nulls(Rows *rows, int64 nulls, Bytes value) {
-    if (nulls > 0) check_room(nulls * SCALAR_FRONT);
-    for (; nulls > 0; nulls--) {
+/* The bytes that nulls take before an index that so many items do not reach. */
+static size_t gap_before(int64 index, int64 count) {
+    if (index <= count) return 0;
+    if (index >= MOST_ITEMS)
+        ereport(ERROR, (errcode(ERRCODE_PROGRAM_LIMIT_EXCEEDED),
+                        errmsg("kohiblad: number of array elements exceeds the maximum allowed "
+                               "(%d)", MOST_ITEMS)));
+    return (index - count) * ENTRY_SIZE;
+}
+
+/* Refuses gaps that do not fit a value beside so many bytes, before anything is made: the one at
+ * the end of a path in the document, and those in the containers that the rest of it names. */
+static void check_gaps(TextPath path, const PathEnd *end, size_t bytes) {
+    if (end->is_array) bytes += gap_before(end->index, end->count);
+    for (int i = end->level + 1; i < path.count; i++) {
         CHECK_FOR_INTERRUPTS();
-        add_null(rows);
+        int index;
+        if (index_of_text(DatumGetTextPP(path.elements[i]), &index)) bytes += gap_before(index, 0);
     }
+    check_room(bytes);
+}
+
+static struct varlena *array_of_value(Bytes value) {
+    Rows *rows = new_rows();
     add_row(rows, value);
+    struct varlena *array = array_of_rows(rows);
+    free_rows(rows);
+    return array;
+}
+
+/* The array of so many nulls and a value after them. Of a null the format has its entry word alone,
+ * which is 0: so these come between the header of an array of the value and that one's entry. */
+static struct varlena *array_with_gap(int64 nulls, Bytes value) {
+    struct varlena *array = array_of_value(value);
+    if (nulls <= 0) return array;
+    Bytes last = bytes_of(array);
+    size_t gap = nulls * ENTRY_SIZE;
+    uint32 header = pg_hton32(ARRAY_HEADER | (uint32)(nulls + 1));
+    check_room(gap + last.size);
+    struct varlena *wide = palloc0(VARHDRSZ + gap + last.size);
+    uint8_t *out = (uint8_t *)VARDATA(wide);
+    memcpy(out, &header, HEADER_SIZE);
+    memcpy(out + HEADER_SIZE + gap, last.at + HEADER_SIZE, last.size - HEADER_SIZE);
+    SET_VARSIZE(wide, VARHDRSZ + gap + last.size);
+    pfree(array);
+    return wide;
+}
+
+static struct varlena *object_of_member(Bytes key, Bytes value) {
+    Rows *rows = new_rows();
+    add_row(rows, key);
+    add_row(rows, value);
+    struct varlena *object = object_of_rows(rows);
+    free_rows(rows);
+    return object;
 }
 
 /* A value in the containers that these elements of a path name, from the last one to the first. */
 static Bytes wrapped(TextPath path, int first, Bytes value) {
-    for (int i = path.count - 1; i >= first; i--) {
+    struct varlena *inner = NULL, *outer;
+    for (int i = path.count - 1; i >= first; i--, inner = outer) {
+        CHECK_FOR_INTERRUPTS();
         const text *element = DatumGetTextPP(path.elements[i]);
-        Rows *rows = new_rows();
         int index;
-        if (index_of_text(element, &index)) {
-            add_after_nulls(rows, index, value);
-            value = bytes_of(array_of_rows(rows));
-        } else {
-            add_row(rows, utf8_of_text(element));
-            add_row(rows, value);
-            value = bytes_of(object_of_rows(rows));
-        }
-        free_rows(rows);
+        outer = index_of_text(element, &index) ? array_with_gap(index, value)
+                                               : object_of_member(utf8_of_text(element), value);
+        value = bytes_of(outer);
+        if (inner) pfree(inner);
     }
     return value;
 }
@@ -145,10 +196,11 @@ static void pg_attribute_noreturn() refuse_scalar(void) {
 
 /* The document with a value after the items of the array at the end, behind nulls for a gap. */
 static struct varlena *with_item(Bytes document, const PathEnd *end, Bytes value) {
-    Rows *rows = new_rows();
-    add_after_nulls(rows, end->index - end->count, value);
-    Bytes array = bytes_of(joined(end->container.payload, bytes_of(array_of_rows(rows))));
-    return edited(document, end->steps, KOHIBLAD_PUT, array);
+    struct varlena *more = array_with_gap(end->index - end->count, value);
+    struct varlena *array = joined(end->container.payload, bytes_of(more));
+    pfree(more);
+    if (end->level == 0) return array;
+    return edited(document, end->steps, KOHIBLAD_PUT, bytes_of(array));
 }
 
 /* The document with a value at the subscripts, in containers that are made where there is none. */
@@ -159,6 +211,7 @@ static struct varlena *with_value(Bytes document, TextPath path, Bytes value) {
         ereport(ERROR, (errcode(ERRCODE_INVALID_PARAMETER_VALUE),
                         errmsg("kohiblad: path element at position %d is out of range: %d",
                                end.level + 1, (int)end.index)));
+    check_gaps(path, &end, document.size + value.size);
     value = wrapped(path, end.level + 1, value);
     if (end.is_array && end.index >= end.count) return with_item(document, &end, value);
     if (end.is_array)

@@ -5,27 +5,20 @@
  * written in hexadecimal. The other functions show an extension value as a string. */
 #include "document.h"
 
-#include "mb/pg_wchar.h"
 #include "miscadmin.h"
 #include "utils/builtins.h"
 
-/* What comes before hexadecimal, as in bytea. No JSON text begins so. */
-#define HEX_MARK "\\x"
-#define HEX_MARK_SIZE 2
-
-/* Refuses a text that was read within a depth, and says where it is not JSON. */
-static void pg_attribute_noreturn() refuse_text(const uint8_t *given, size_t size, size_t depth) {
-    struct kohiblad_fault fault =
-        kohiblad_text_fault(given, size, depth, KOHIBLAD_EXPONENTS_ALLOWED);
-    if (fault.status != KOHIBLAD_INVALID_JSON && fault.status != KOHIBLAD_BAD_NUMBER)
-        refuse(fault.status, ERRCODE_INVALID_TEXT_REPRESENTATION);
-    const char *reason = fault.status == KOHIBLAD_INVALID_JSON
+Fault fault_of_text(Bytes utf8, size_t depth) {
+    struct kohiblad_fault found =
+        kohiblad_text_fault(utf8.at, utf8.size, depth, KOHIBLAD_EXPONENTS_ALLOWED);
+    if (found.status != KOHIBLAD_INVALID_JSON && found.status != KOHIBLAD_BAD_NUMBER)
+        return (Fault){found.status, explanation(found.status)};
+    const char *reason = found.status == KOHIBLAD_INVALID_JSON
                              ? ""
                              : ": a number is unfinished, past 128 bits, or has more than 255 "
                                "digits after its point";
-    refuse_because(KOHIBLAD_INVALID_JSON, ERRCODE_INVALID_TEXT_REPRESENTATION,
-                   psprintf("The text stops being JSON at byte " UINT64_FORMAT "%s.", fault.offset,
-                            reason));
+    return (Fault){found.status, psprintf("The text stops being JSON at byte " UINT64_FORMAT "%s.",
+                                          found.offset, reason)};
 }
 
 /* Parses a text, which takes no stack for its depth, and says where it is not JSON. */
@@ -33,13 +26,14 @@ static uint32_t parse(const uint8_t *given, size_t size, size_t depth, uint8_t *
                       size_t *length) {
     uint32_t status =
         kohiblad_parse(given, size, depth, KOHIBLAD_EXPONENTS_ALLOWED, out, room, length);
-    if (status == KOHIBLAD_INVALID_JSON) refuse_text(given, size, depth);
-    return status;
+    if (status != KOHIBLAD_INVALID_JSON) return status;
+    Fault fault = fault_of_text((Bytes){given, size}, depth);
+    refuse_because(fault.status, ERRCODE_INVALID_TEXT_REPRESENTATION, fault.detail);
 }
 
 struct varlena *document_of_json(Bytes utf8) {
-    return write_value(parse, utf8, 4 * utf8.size + SCALAR_FRONT,
-                       ERRCODE_INVALID_TEXT_REPRESENTATION);
+    return write_value_of_text(parse, utf8, 4 * utf8.size + SCALAR_FRONT,
+                               ERRCODE_INVALID_TEXT_REPRESENTATION);
 }
 
 /* Texts are seldom longer than twice their documents. */
@@ -47,13 +41,20 @@ static size_t text_guess(Bytes document) {
     return 2 * document.size + 64;
 }
 
+/* The JSON text that a call wrote, as a text of the server. */
+static text *server_text(struct varlena *written) {
+    Bytes utf8 = bytes_of(written), json = server_json(utf8);
+    if (json.at == utf8.at) return written;
+    pfree(written);
+    text *result = cstring_to_text_with_len((const char *)json.at, json.size);
+    pfree((void *)json.at);
+    return result;
+}
+
 text *compact_text(Bytes document) {
     struct varlena *shown = write_value(kohiblad_print, document, text_guess(document),
                                         ERRCODE_DATA_CORRUPTED);
-    if (GetDatabaseEncoding() == PG_UTF8) return shown;
-    text *result = text_of_utf8(bytes_of(shown));
-    pfree(shown);
-    return result;
+    return server_text(shown);
 }
 
 text *plain_text(Part part) {
@@ -99,8 +100,7 @@ static char *json_of_document(Bytes document) {
     size_t length;
     char *shown = write_after(0, kohiblad_print, document, text_guess(document),
                               ERRCODE_DATA_CORRUPTED, &length);
-    if (GetDatabaseEncoding() == PG_UTF8) return shown;
-    return pg_any_to_server(shown, length, PG_UTF8);
+    return (char *)server_json((Bytes){(uint8_t *)shown, length}).at;
 }
 
 static char *hex_of_document(Bytes document) {
@@ -125,18 +125,28 @@ static void pg_attribute_noreturn() refuse_hex(size_t place) {
                     errdetail("The text stops being hexadecimal at byte %zu.", place)));
 }
 
-/* The document that is written in hexadecimal; the zero byte after the text is no digit. */
-static struct varlena *document_of_hex(const char *given) {
+/* The zero byte after the text is no digit. */
+struct varlena *bytes_of_hex(const char *given, size_t *bad) {
     size_t size = strlen(given);
     struct varlena *value = palloc(VARHDRSZ + size / 2);
     uint8_t *end = (uint8_t *)VARDATA(value);
     for (size_t i = HEX_MARK_SIZE; i < size; i += 2) {
-        int high = value_of_digit(given[i]), low = value_of_digit(given[i + 1]);
-        if (high < 0) refuse_hex(i);
-        if (low < 0) refuse_hex(i + 1);
+        if (i % BYTES_UNCHECKED == 0) CHECK_FOR_INTERRUPTS();
+        int high = value_of_digit(given[i]), low = high < 0 ? 0 : value_of_digit(given[i + 1]);
+        if (high < 0 || low < 0) {
+            *bad = high < 0 ? i : i + 1;
+            return NULL;
+        }
         *end++ = high << 4 | low;
     }
     SET_VARSIZE(value, end - (uint8_t *)value);
+    return value;
+}
+
+static struct varlena *document_of_hex(const char *given) {
+    size_t bad;
+    struct varlena *value = bytes_of_hex(given, &bad);
+    if (!value) refuse_hex(bad);
     check_document(bytes_of(value), ERRCODE_INVALID_BINARY_REPRESENTATION);
     return value;
 }
@@ -144,7 +154,7 @@ static struct varlena *document_of_hex(const char *given) {
 PG_FUNCTION_INFO_V1(pg_kohiblad_in);
 Datum pg_kohiblad_in(PG_FUNCTION_ARGS) {
     const char *given = PG_GETARG_CSTRING(0);
-    if (strncmp(given, HEX_MARK, HEX_MARK_SIZE) == 0) PG_RETURN_POINTER(document_of_hex(given));
+    if (is_hex(given)) PG_RETURN_POINTER(document_of_hex(given));
     PG_RETURN_POINTER(document_of_json(utf8_of_server(given, strlen(given))));
 }
 
@@ -158,10 +168,11 @@ Datum pg_kohiblad_out(PG_FUNCTION_ARGS) {
     PG_RETURN_CSTRING(shown);
 }
 
+/* Each line is indented, so the text may be a thousand times as long as the document: its length is
+ * asked for first, without room for it. */
 PG_FUNCTION_INFO_V1(pg_kohiblad_pretty);
 Datum pg_kohiblad_pretty(PG_FUNCTION_ARGS) {
     Bytes document = bytes_of(PG_GETARG_VARLENA_PP(0));
-    struct varlena *shown = write_value(kohiblad_pretty, document,
-                                        2 * text_guess(document), ERRCODE_DATA_CORRUPTED);
-    PG_RETURN_TEXT_P(text_of_utf8(bytes_of(shown)));
+    struct varlena *shown = write_value(kohiblad_pretty, document, 0, ERRCODE_DATA_CORRUPTED);
+    PG_RETURN_TEXT_P(server_text(shown));
 }

@@ -165,6 +165,7 @@ static void add_object(Rows *rows, Datum value, Oid documents) {
     HeapTupleData tuple = {.t_len = HeapTupleHeaderGetDatumLength(header), .t_data = header};
     Rows *members = new_rows();
     for (int i = 0; i < columns->natts; i++) {
+        CHECK_FOR_INTERRUPTS();
         Form_pg_attribute column = TupleDescAttr(columns, i);
         if (column->attisdropped) continue;
         bool is_null;

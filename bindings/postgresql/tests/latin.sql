@@ -14,8 +14,22 @@ CREATE INDEX ON accents USING gin (d);
 SET enable_seqscan = off;
 SELECT count(*) FROM accents WHERE d ? 'é' AND d @> '{"é":"ü"}' AND d @@ '$."é" == "ü"';
 RESET enable_seqscan;
+-- What LATIN1 lacks is written as JSON's escapes, and so read back. A plain text has none.
+CREATE TABLE lacking (id int, d kohiblad);
+INSERT INTO lacking VALUES (1, '"\u20ac"'), (2, '{"\u65e5é":["\\\u20acü", "\ud834\udd1e"]}');
+INSERT INTO lacking SELECT 3, kohiblad_agg(repeat('é', i) || i ORDER BY i) || '"\u20ac"'
+    || kohiblad_build_array(repeat('é', 5000)) FROM generate_series(1, 600) i;
+SELECT d, d::json FROM lacking WHERE id < 3 ORDER BY id;
+SELECT kohiblad_pretty(d), d #>> '{}' FROM lacking WHERE id = 2;
+SELECT count(*) FROM lacking WHERE d::text::kohiblad::bytea = d::bytea
+    AND d::json::kohiblad::bytea = d::bytea AND kohiblad_pretty(d)::kohiblad = d;
+SELECT d::text LIKE '%éé600%\\u20ac%éééé%' FROM lacking WHERE id = 3;
+SELECT to_kohiblad(lacking)::text, row_to_json(lacking) FROM lacking WHERE id = 1;
+SELECT * FROM kohiblad_to_record('{"a":["\u20ac"],"b":{"\u20ac":1}}') AS t(a kohiblad, b json);
 \set ON_ERROR_STOP off
 SELECT '{"é":x}'::kohiblad;
 \set VERBOSITY sqlstate
-SELECT '"\u65e5"'::kohiblad;
 SELECT '["\u65e5"]'::kohiblad ->> 0;
+SELECT kohiblad_each_text('{"\u65e5":1}');
+SELECT '"\u65e5"'::kohiblad::jsonb;
+SELECT * FROM kohiblad_to_record('{"a":"\u20ac"}') AS t(a text);

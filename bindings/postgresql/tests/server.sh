@@ -65,10 +65,12 @@ copy_server() {
     bin=$scratch$lib/bin
 }
 
+# Builds the extension, with more options of the compiler if they are given.
 build_extension() {
     mkdir "$scratch/build"
     cp -r "$folder/Makefile" "$folder"/kohiblad* "$folder"/{src,sql,expected} "$scratch/build"
-    make -C "$scratch/build" PG_CONFIG="$bin/pg_config" includedir_server="$headers" COPT=-Werror \
+    make -C "$scratch/build" PG_CONFIG="$bin/pg_config" includedir_server="$headers" \
+        COPT="-Werror ${1:-}" \
         install > "$scratch/build.log" 2>&1 || { cat "$scratch/build.log" >&2; fail "make"; }
 }
 

@@ -5,12 +5,13 @@
 
 The statements are those of src/test/regress/sql/jsonb.sql in Debian's source package of the server,
 which tests/peers/run.py downloads into FOLDER, or into a scratch folder; without it they are passed
-over. Each is run in a session that has jsonb, and with `kohiblad` in place of `jsonb`, in another;
-the server is the one that PGHOST and PGUSER name, and PSQL is its client.
+over. Each is run in a session that has jsonb, and in three others: with `kohiblad` in place of
+`jsonb`; with `kohiblad` in place of the type `jsonb` alone, where kohiblad_compat is loaded; and as
+it is, where that is loaded. The server is the one that PGHOST and PGUSER name, and PSQL its client.
 
 Two answers are the same if both are errors with one SQLSTATE, or have the same rows in any order.
 Values are compared as JSON where both are JSON, also inside of arrays and records. Statements whose
-answers cannot be the same are left out by name (LEFT_OUT). The last line has the counts.
+answers cannot be the same are left out by name (LEFT_OUT). A line has the counts of each session.
 
     --list    prints each statement whose answers differ, with both
 """
@@ -32,7 +33,6 @@ import run as peers  # noqa: E402
 
 # What a statement that is left out has in it, and why it is.
 LEFT_OUT = {
-    r"tsvector|tsquery": "full text search",
     r"'1(\.3)?e100'|'12345\.0{45}5'": "a number past the format's 128 bits",
 }
 REGRESS = "src/test/regress"
@@ -150,6 +150,19 @@ def ask(statements, data, database):
     return answers
 
 
+def with_type(statement):
+    """The statement with another type in place of jsonb, and the same functions."""
+    return re.sub(r"\bjsonb\b", "kohiblad", statement)
+
+
+# The names of the databases, and the statements that run in each.
+SESSIONS = {
+    "of_kohiblad": lambda statement: statement.replace("jsonb", "kohiblad"),
+    "of_compat": with_type,
+    "of_both": lambda statement: statement,
+}
+
+
 def reason_of(statement):
     """Why a statement is left out, or `None`."""
     return next((why for what, why in LEFT_OUT.items() if re.search(what, statement)), None)
@@ -169,28 +182,38 @@ def files_of(folder):
     return None
 
 
-def compare(folder, lists):
-    """Prints what differs, and the counts."""
+def answer_in_words(answer, database):
+    """The answer with one name for both types, where a session has the other one."""
+    if database == "of_both":
+        return answer
+    return Answer(answer.state, answer.output.replace("jsonb", "kohiblad"))
+
+
+def compare(database, statements, data, wanted, lists):
+    """Prints which answers of a session differ from those that jsonb has, and the counts."""
+    changed = [SESSIONS[database](it) for it in statements]
+    counts = collections.Counter()
+    for statement, jsonb, given in zip(changed, wanted, ask(changed, data, database)):
+        jsonb, given = answer_in_words(jsonb, database), answer_in_words(given, database)
+        reason = reason_of(statement) if database != "of_both" else None
+        kind = f"left out, {reason}" if reason else "the same" if jsonb.is_same(given) else "differ"
+        counts[kind] += 1
+        if lists and kind == "differ":
+            print(f"-- {statement}\n   jsonb:    {jsonb}\n   kohiblad: {given}")
+    print(f"{database}: {len(statements)} statements, "
+          + ", ".join(f"{counts[kind]} {kind}" for kind in sorted(counts, reverse=True)))
+
+
+def compare_sessions(folder, lists):
+    """Compares each session."""
     files = files_of(folder)
     if not files:
         print("passed over: Debian's source package postgresql-15 cannot be had")
         return 77
     statements = statements_of(files[0])
-    of_jsonb = ask(statements, files[1], "of_jsonb")
-    changed = [it.replace("jsonb", "kohiblad") for it in statements]
-    of_kohiblad = ask(changed, files[1], "of_kohiblad")
-    counts = collections.Counter()
-    for statement, wanted, given in zip(changed, of_jsonb, of_kohiblad):
-        reason = reason_of(statement)
-        wanted = Answer(wanted.state, wanted.output.replace("jsonb", "kohiblad"))
-        kind = f"left out: {reason}" if reason else "same" if wanted.is_same(given) else "differ"
-        counts[kind] += 1
-        if lists and kind == "differ":
-            print(f"-- {statement}\n   jsonb:    {wanted}\n   kohiblad: {given}")
-    for kind in sorted(counts):
-        if kind.startswith("left out"):
-            print(f"{counts[kind]} {kind}")
-    print(f"{len(statements)} statements, {counts['same']} the same, {counts['differ']} differ")
+    wanted = ask(statements, files[1], "of_jsonb")
+    for database in SESSIONS:
+        compare(database, statements, files[1], wanted, lists)
     return 0
 
 
@@ -198,7 +221,7 @@ def main():
     """Takes the arguments."""
     given = [it for it in sys.argv[1:] if it != "--list"]
     with tempfile.TemporaryDirectory() as scratch:
-        return compare(given[0] if given else scratch, "--list" in sys.argv)
+        return compare_sessions(given[0] if given else scratch, "--list" in sys.argv)
 
 
 if __name__ == "__main__":

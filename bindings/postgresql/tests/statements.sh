@@ -9,8 +9,11 @@ folder=$(cd "$(dirname "$0")/.." && pwd)
 . "$folder/tests/server.sh"
 
 open_server
-for database in of_jsonb of_kohiblad; do
+for database in of_jsonb of_kohiblad of_compat of_both; do
     psql -c "CREATE DATABASE $database"
     psql -d "$database" -c "CREATE EXTENSION kohiblad"
+done
+for database in of_compat of_both; do
+    psql -d "$database" -c "CREATE EXTENSION kohiblad_compat"
 done
 PSQL=$bin/psql python3 "$folder/tests/statements.py" "$@"
