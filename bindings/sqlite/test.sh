@@ -60,6 +60,7 @@ done
 run_script utf8 UTF-8
 run_script json1 UTF-8
 run_script many UTF-8
+run_script steps UTF-8
 
 echo 'tests/deepest.sql with 2.5 MB of stack'
 # shellcheck disable=SC3045 # dash and bash have ulimit -s
@@ -88,7 +89,16 @@ LOCPATH="$scratch" LC_ALL=$locale "$scratch/refuse" "$scratch/out/kohiblad" > "$
     || fail 'tests/refuse.c'
 tests=$((tests + $(cat "$scratch/count")))
 
-# RANDOM_STATEMENTS sets how many, and RANDOM_SEED which.
+echo 'tests/interrupt.c: functions interrupted while they run'
+make -s OUT="$scratch/newer" EXTRA_CFLAGS='-Werror -include tests/newer.h' LDFLAGS=-Wl,-z,undefs \
+    || fail 'the build with tests/newer.h'
+# shellcheck disable=SC2046
+cc -std=c11 -O1 -Wall -Wextra -Werror tests/interrupt.c -o "$scratch/interrupt" -rdynamic \
+    $(pkg-config --cflags --libs sqlite3) || fail 'the build of tests/interrupt.c'
+"$scratch/interrupt" "$scratch/newer/kohiblad" > "$scratch/count" || fail 'tests/interrupt.c'
+tests=$((tests + $(cat "$scratch/count")))
+
+# RANDOM_STATEMENTS sets how many, RANDOM_SEED which, and SOAK_MINUTES how long they are cancelled.
 if command -v python3 > "$scratch/found" && echo 'int main(void) { return 0; }' \
     | cc -fsanitize=address,undefined -x c - -o "$scratch/sanitized" 2> "$scratch/found"; then
     count=${RANDOM_STATEMENTS:-3000}
@@ -102,7 +112,20 @@ if command -v python3 > "$scratch/found" && echo 'int main(void) { return 0; }' 
         < "$scratch/random.sql" > "$scratch/printed" 2> "$scratch/reported" || [ $? -eq 1 ] \
         || fail "sanitizers: $(grep -A 12 'ERROR: \|runtime error' "$scratch/reported")"
     [ "$(tail -n 1 "$scratch/printed")" = 'done' ] || fail 'the random statements do not end'
-    tests=$((tests + 1))
+    minutes=${SOAK_MINUTES:-0.1}
+    echo "tests/soak.c: random statements, cancelled at random, for $minutes minutes"
+    rm -r "$scratch/sanitized.out"
+    make -s OUT="$scratch/sanitized.out" CFLAGS='-O1 -g -fno-sanitize-recover=all' \
+        EXTRA_CFLAGS='-Werror -fsanitize=address,undefined -include tests/newer.h' \
+        LDFLAGS=-Wl,-z,undefs || fail 'the build with sanitizers and tests/newer.h'
+    # shellcheck disable=SC2046
+    cc -std=c11 -O1 -g -Wall -Wextra -Werror -fsanitize=address,undefined \
+        -fno-sanitize-recover=all tests/soak.c -o "$scratch/soak" -rdynamic -pthread \
+        $(pkg-config --cflags --libs sqlite3) || fail 'the build of tests/soak.c'
+    python3 tests/random.py 0 "${RANDOM_SEED:-1}" \
+        | "$scratch/soak" "$scratch/sanitized.out/kohiblad" "$minutes" "${RANDOM_SEED:-1}" \
+        || fail 'tests/soak.c'
+    tests=$((tests + 2))
 else
     echo 'without random statements, which need python3 and the sanitizers of gcc'
 fi

@@ -124,6 +124,10 @@ static enum outcome edit_at(const struct caller *caller, const struct edit_funct
     struct bytes path;
     char *message;
     enum outcome outcome = FAILED;
+    if (is_interrupted(caller)) {
+        fail(caller, INTERRUPTED);
+        return FAILED;
+    }
     if (!get_text(caller, argument, &path)) return FAILED;
     if (find_target(caller, document, path, &target, &message) == KOHIBLAD_OK) {
         outcome = edit_target(caller, function, buffer, document, &target, value);

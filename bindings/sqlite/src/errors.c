@@ -28,6 +28,7 @@ void fail_because(const struct caller *caller, uint32_t status, const char *note
 void fail(const struct caller *caller, uint32_t status)
 {
     if (status == RESULT_TOO_BIG) sqlite3_result_error_toobig(caller->context);
+    else if (status == INTERRUPTED) sqlite3_result_error_code(caller->context, SQLITE_INTERRUPT);
     else fail_because(caller, status, NULL);
 }
 

@@ -6,9 +6,16 @@
 #include <sqlite3ext.h>
 
 /* How deep texts and documents may nest. The stack that this needs is KOHIBLAD_CALL_STACK and
- * KOHIBLAD_LEVEL_STACK for each level, 1,008 KB; for changes KOHIBLAD_EDIT_LEVEL_STACK, 1.9 MB. */
+ * KOHIBLAD_LEVEL_STACK for each level, 1,008 KB; for changes KOHIBLAD_EDIT_LEVEL_STACK, which is
+ * 2,008 KB. */
 #ifndef KOHIBLAD_SQLITE_DEPTH
 #define KOHIBLAD_SQLITE_DEPTH 1000
+#endif
+
+/* How many steps jb_contains may take, which is a second or two. Without a limit it takes a product
+ * of the lengths of both arguments. */
+#ifndef KOHIBLAD_SQLITE_STEPS
+#define KOHIBLAD_SQLITE_STEPS 20000000
 #endif
 
 /* Headers before 3.45 have no name for this flag, and SQLite before 3.45 ignores it. */
@@ -19,8 +26,9 @@
 /* The subtype of TEXT that is JSON: SQLite's JSON functions set and read it. */
 enum { JSON_SUBTYPE = 'J' };
 
-/* A status beside those of the library: the result is past SQLite's limit of lengths. */
-enum { RESULT_TOO_BIG = 1000 };
+/* Statuses beside those of the library: the result is past SQLite's limit of lengths, and the query
+ * was interrupted. */
+enum { RESULT_TOO_BIG = 1000, INTERRUPTED = 1001 };
 
 struct bytes {
     const uint8_t *at;
@@ -71,6 +79,13 @@ void fail(const struct caller *caller, uint32_t status);
 void fail_because(const struct caller *caller, uint32_t status, const char *note);
 /* Reports why a value has no document, and where a JSON text is at fault. */
 void fail_value(const struct caller *caller, uint32_t status, const struct sql_value *value);
+
+/* interrupts.c */
+
+/* Whether SQLite can say that a query was interrupted, as it can from 3.41 on. */
+bool has_interrupts(void);
+/* Whether the query was interrupted. */
+bool is_interrupted(const struct caller *caller);
 
 /* arguments.c: where a function whose name begins with get returns false, it has reported why. */
 

@@ -53,12 +53,14 @@ static void jb_text(const struct caller *caller, sqlite3_value **arguments)
     if (get_checked(caller, *arguments, &document)) give_compact(caller, document);
 }
 
+/* The text may be hundreds of times as long as the document. So no memory is taken before the
+ * length is known. */
 static void jb_pretty(const struct caller *caller, sqlite3_value **arguments)
 {
     struct buffer buffer;
     struct bytes document;
     if (get_checked(caller, *arguments, &document)
-        && fill(caller, &buffer, write_pretty, &document, 3 * document.size))
+        && fill(caller, &buffer, write_pretty, &document, 0))
         give_json(caller, &buffer);
 }
 
@@ -112,10 +114,32 @@ static void give_truth(const struct caller *caller, struct kohiblad_truth truth)
     else fail(caller, truth.status);
 }
 
+static struct kohiblad_truth contains_in_steps(const struct documents *both, size_t steps)
+{
+    return kohiblad_contains(both->left.at, both->left.size, both->right.at, both->right.size,
+                             KOHIBLAD_SQLITE_DEPTH, steps);
+}
+
+/* So many steps take less than a tenth of a second. */
+enum { FIRST_STEPS = 1000000 };
+
+/* The call gives up after some steps and begins anew with four times as many, so that a query can
+ * be interrupted between two calls. Where SQLite cannot say that it was, there is one call. */
 static void give_contains(const struct caller *caller, const struct documents *both)
 {
-    give_truth(caller, kohiblad_contains(both->left.at, both->left.size, both->right.at,
-                                         both->right.size, KOHIBLAD_SQLITE_DEPTH, SIZE_MAX));
+    size_t steps = KOHIBLAD_SQLITE_STEPS;
+    struct kohiblad_truth truth;
+    if (has_interrupts() && steps > FIRST_STEPS) steps = FIRST_STEPS;
+    truth = contains_in_steps(both, steps);
+    while (truth.status == KOHIBLAD_TOO_MANY_STEPS && steps < KOHIBLAD_SQLITE_STEPS) {
+        if (is_interrupted(caller)) {
+            truth.status = INTERRUPTED;
+            break;
+        }
+        steps = steps < KOHIBLAD_SQLITE_STEPS / 4 ? 4 * steps : KOHIBLAD_SQLITE_STEPS;
+        truth = contains_in_steps(both, steps);
+    }
+    give_truth(caller, truth);
 }
 
 static void jb_contains(const struct caller *caller, sqlite3_value **arguments)
@@ -159,6 +183,32 @@ static void jb_exists(const struct caller *caller, sqlite3_value **arguments)
     if (get_document(caller, arguments[0], &document) && get_text(caller, arguments[1], &key))
         give_truth(caller, kohiblad_exists(document.at, document.size, key.at, key.size,
                                            KOHIBLAD_SQLITE_DEPTH));
+}
+
+/* Whether some or all of several keys are there, of which the call is told by a document. */
+typedef struct kohiblad_truth key_test(const uint8_t *bytes, size_t size, const uint8_t *names,
+                                       size_t names_size, size_t depth);
+
+static void test_keys(const struct caller *caller, sqlite3_value **arguments, key_test *test)
+{
+    struct bytes document, names;
+    struct buffer buffer;
+    if (!get_document(caller, arguments[0], &document)
+        || !make_document(caller, arguments[1], &buffer, &names))
+        return;
+    give_truth(caller, test(document.at, document.size, names.at, names.size,
+                            KOHIBLAD_SQLITE_DEPTH));
+    release(&buffer);
+}
+
+static void jb_exists_any(const struct caller *caller, sqlite3_value **arguments)
+{
+    test_keys(caller, arguments, kohiblad_exists_any);
+}
+
+static void jb_exists_all(const struct caller *caller, sqlite3_value **arguments)
+{
+    test_keys(caller, arguments, kohiblad_exists_all);
 }
 
 static void jb_valid(const struct caller *caller, sqlite3_value **arguments)
@@ -295,6 +345,8 @@ static const struct function functions[] = {
     { "jb_compare", 2, SAME, false, jb_compare },
     { "jb_contains", 2, SAME, false, jb_contains },
     { "jb_exists", 2, SAME, false, jb_exists },
+    { "jb_exists_any", 2, SAME, false, jb_exists_any },
+    { "jb_exists_all", 2, SAME, false, jb_exists_all },
     { "jb_concat", 2, SAME, false, jb_concat },
     { "jb_patch", 2, SAME, false, jb_patch },
     { "jb_valid", 1, SAME, false, jb_valid },

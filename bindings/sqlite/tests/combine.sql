@@ -15,6 +15,27 @@ SELECT jb_exists(doc, 'a'), jb_exists(doc, 'c'), jb_exists(jb('["x",1]'), 'x') F
 SELECT jb_exists(jb('"x"'), 'x'), jb_exists(jb('1'), '1'), jb_exists(NULL, 'x');
 --> 1|0|NULL
 
+SELECT jb_exists_any(doc, '["x","b"]'), jb_exists_any(doc, '["x","c"]'), jb_exists_any(doc, '[]')
+FROM t;
+--> 1|0|0
+SELECT jb_exists_all(doc, '["b","a","b"]'), jb_exists_all(doc, jb('["a","c"]')),
+    jb_exists_all(doc, '[]') FROM t;
+--> 1|0|1
+SELECT jb_exists_any(jb('["x",1]'), '["1","x"]'), jb_exists_all(jb('["x",1]'), '["1","x"]'),
+    jb_exists_all(jb('"x"'), '["x"]'), jb_exists_any(jb('1'), '["1"]');
+--> 1|0|1|0
+SELECT jb_exists_any(NULL, '[]'), jb_exists_any(doc, NULL), jb_exists_all(NULL, '[]') FROM t;
+--> NULL|NULL|NULL
+-- Each key beside jb_exists: 3,000 keys, of which each third is there.
+CREATE TABLE keys AS WITH n(i) AS (SELECT 1 UNION ALL SELECT i + 1 FROM n WHERE i < 3000)
+SELECT i, 'k' || i AS name FROM n;
+CREATE TABLE many AS SELECT jb_group_object(name, i) AS thirds, jb_group_array(name) AS names
+FROM keys WHERE i % 3 = 0;
+SELECT jb_exists_all(thirds, names), jb_exists_all(names, names),
+    jb_exists_all(thirds, jb_concat(names, '["k4"]')), jb_exists_any(thirds, '["k4","k3000"]'),
+    (SELECT sum(jb_exists(thirds, name)) FROM keys) FROM many;
+--> 1|1|0|1|1000
+
 SELECT jb_text(jb_concat(doc, '{"a":2,"z":[]}')) FROM t;
 --> {"a":2,"b":[10,{"c":"z","d":null}],"price":1.50,"z":[]}
 SELECT jb_text(jb_concat('[1]', '[2,[3]]')), jb_text(jb_concat('[1]', 2)), jb_text(jb_concat(1, 2));
@@ -79,6 +100,18 @@ SELECT jb_exists(doc, 5) FROM t;
 --! jb_exists: OtherKind: names and paths are TEXT
 SELECT jb_exists(x'00', 'a');
 --! jb_exists: InvalidJsonb
+SELECT jb_exists_any('{}', '[]');
+--! jb_exists_any: InvalidJsonb: a document is a BLOB
+SELECT jb_exists_any(doc, '["a",1]') FROM t;
+--! jb_exists_any: OtherKind
+SELECT jb_exists_all(doc, '"a"') FROM t;
+--! jb_exists_all: OtherKind
+SELECT jb_exists_all(doc, 'a') FROM t;
+--! jb_exists_all: InvalidJson at byte 0
+SELECT jb_exists_all(doc, x'00') FROM t;
+--! jb_exists_all: InvalidJsonb
+SELECT jb_exists_any(x'00', '["a"]');
+--! jb_exists_any: InvalidJsonb
 SELECT jb_concat(x'00', doc) FROM t;
 --! jb_concat: InvalidJsonb
 SELECT jb_patch(doc, x'00') FROM t;

@@ -15,6 +15,8 @@ SELECT length(jb_group_array(jb_at(doc, '$[0]'))) - length(doc) FROM deep;
 SELECT jb_valid(jb_remove(doc, '$' || replace(hex(zeroblob(999)), '00', '[0]'))),
     jb_contains(doc, doc), jb_exists(doc, 'x'), jb_length(jb_concat(doc, doc)) FROM deep;
 --> 1|1|0|2
+SELECT jb_exists_any(doc, '["x"]'), jb_exists_all(doc, '[]') FROM deep;
+--> 0|1
 SELECT jb_set(doc, '$' || replace(hex(zeroblob(999)), '00', '[0]'), 1) =
     jb(replace(hex(zeroblob(999)), '00', '[') || 1 || replace(hex(zeroblob(999)), '00', ']'))
 FROM deep;

@@ -2,7 +2,9 @@
 """Prints random statements over all functions of the extension: COUNT of them, by SEED.
 
 Documents are whole, broken in a byte, or no documents; paths, names and values are random too.
-Most statements end with an error, which is no fault. The last one prints `done`."""
+Most statements end with an error, which is no fault. The last one prints `done`. If COUNT is 0 they
+have no end, and one in twenty is over large documents, for tests/soak.c."""
+import itertools
 import json
 import random
 import sys
@@ -103,6 +105,8 @@ def statement():
         "SELECT jb_pretty(jb_remove(%s, %s, %s))" % (doc, at, path()),
         "SELECT jb_text(jb_patch(%s, %s))" % (doc, other),
         "SELECT jb_contains(%s, %s), jb_exists(%s, %s)" % (doc, other, doc, name),
+        "SELECT jb_exists_any(%s, jb_array(%s, %s))" % (doc, name, quoted(random.choice(LETTERS))),
+        "SELECT jb_exists_all(%s, %s), jb_exists_any(%s, %s)" % (doc, other, other, doc),
         "SELECT jb_valid(jb_concat(%s, %s)), jb_compare(%s, %s)" % (doc, other, doc, other),
         "SELECT jb_text(jb_array(%s, %s))" % (sql_value(), sql_value()),
         "SELECT jb_text(jb_object(%s, %s, %s, %s))" % (name, sql_value(), quoted("z"), sql_value()),
@@ -121,12 +125,48 @@ def statement():
     ])
 
 
+def long_statement():
+    """One that takes some milliseconds to some seconds, if nothing ends it."""
+    count = random.choice([300, 1000, 3000, 10000])
+    item = random.choice(["i", "i % 7", "0", "json('[1,2.5,\"x\"]')", "jb_object('k', i)",
+                          "hex(randomblob(200))"])
+    paths = ", ".join("'$[%d]', %s" % (random.randrange(count), random.choice(["1", "jb('[[]]')"]))
+                      for _ in range(random.randrange(1, 50)))
+    levels = random.randrange(1, 1000)
+    deep = "replace(hex(zeroblob(%d)), '00', '[') || '1' || replace(hex(zeroblob(%d)), '00', ']')" \
+        % (levels, levels)
+    rows = "WITH n(i) AS (SELECT 1 UNION ALL SELECT i + 1 FROM n WHERE i < %d), " \
+        "a(x, y) AS (SELECT jb_group_array(%s), jb_concat(jb_group_array(0), i) FROM n) " \
+        % (count, item)
+    return rows + random.choice([
+        "SELECT jb_contains(x, x), jb_contains(y, x) FROM a",
+        "SELECT jb_contains(y, jb_group_array(i)) FROM a, n",
+        "SELECT jb_contains(jb_object('k', x, 'l', y), jb_object('l', x)) FROM a",
+        "SELECT length(jb_set(x, %s)), length(jb_remove(y, '$[#-1]', '$[0]', '$[1]')) FROM a"
+        % paths,
+        "SELECT sum(length(fullkey) + length(value)), max(id) FROM a, jb_tree(x)",
+        "SELECT count(*), max(key) FROM a, jb_each(y) WHERE value >= 0",
+        "SELECT length(jb_pretty(x)), length(jb_text(x)), length(jb_key(x)) FROM a",
+        "SELECT sum(length(jb_group_array(i) OVER (ROWS 50 PRECEDING))) FROM n",
+        "SELECT length(jb_group_object('k' || i, %s)) FROM n" % item,
+        "SELECT length(jb_pretty(jb(%s))), length(jb_patch(jb(%s), x)) FROM a" % (deep, deep),
+        "SELECT sum(jb_compare(x, y) + jb_compare(jb_text(x), x)) FROM a, n WHERE n.i < 50",
+        "SELECT jb_valid(jb_concat(x, y)), jb_exists(x, 'a'), jb_exists(y, 'a') FROM a",
+        "SELECT jb_exists_any(x, jb_group_array('k' || i)), jb_exists_all(x, x) FROM a, n",
+    ])
+
+
 def main():
     count, seed = int(sys.argv[1]), int(sys.argv[2])
     random.seed(seed)
-    for _ in range(count):
-        print(statement().replace("\n", " ") + ";")
+    for _ in range(count) if count else itertools.count():
+        made = long_statement() if not count and random.random() < 0.05 else statement()
+        print(made.replace("\n", " ") + ";")
     print("SELECT 'done';")
 
 
-main()
+try:
+    main()
+except BrokenPipeError:
+    # The reader has enough.
+    sys.stderr.close()

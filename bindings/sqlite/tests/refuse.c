@@ -1,7 +1,7 @@
 /* Runs SQL with each allocation refused in turn: the answer is the right one or SQLITE_NOMEM, and
  * all memory is freed. Then passes hostile and broken documents, and makes results past SQLite's
- * limit. All in the locale of the environment, whose decimal point may be a comma. Prints how many
- * tests passed. The extension is its argument. */
+ * limits of lengths and of memory. All in the locale of the environment, whose decimal point may be
+ * a comma. Prints how many tests passed. The extension is its argument. */
 #define _GNU_SOURCE
 #include <dlfcn.h>
 #include <locale.h>
@@ -15,8 +15,11 @@
 static bool is_counting;
 static long countdown; /* the allocation that comes when it is 0 is refused */
 
-static bool is_refused(void)
+static size_t largest; /* that was asked for */
+
+static bool is_refused(size_t size)
 {
+    if (size > largest) largest = size;
     return is_counting && countdown-- == 0;
 }
 
@@ -25,14 +28,14 @@ void *malloc(size_t size)
 {
     static void *(*next)(size_t);
     if (!next) next = (void *(*)(size_t))(uintptr_t)dlsym(RTLD_NEXT, "malloc");
-    return is_refused() ? NULL : next(size);
+    return is_refused(size) ? NULL : next(size);
 }
 
 void *realloc(void *block, size_t size)
 {
     static void *(*next)(void *, size_t);
     if (!next) next = (void *(*)(void *, size_t))(uintptr_t)dlsym(RTLD_NEXT, "realloc");
-    return is_refused() ? NULL : next(block, size);
+    return is_refused(size) ? NULL : next(block, size);
 }
 
 static const char *extension;
@@ -128,6 +131,8 @@ static const struct { const char *sql, *answer; } statements[] = {
       " FROM json_each('[1,\"x\",[2],null]') LIMIT 1 OFFSET 3", "{\"k2\":\"[2]\",\"k3\":null}" },
     { "SELECT jb_contains(jb('{\"a\":[1,2]}'), '{\"a\":[2]}')", "1" },
     { "SELECT jb_exists(jb('{\"a\":1}'), 'a')", "1" },
+    { "SELECT jb_exists_any(jb('{\"a\":1}'), '[\"b\",\"a\"]')", "1" },
+    { "SELECT jb_exists_all(jb('[\"a\"]'), jb('[\"b\",\"a\"]'))", "0" },
     { "SELECT jb_text(jb_concat(jb('{\"a\":1}'), '{\"b\":2}'))", "{\"a\":1,\"b\":2}" },
     { "SELECT jb_text(jb_patch(jb('{\"a\":{\"b\":1,\"c\":2},\"d\":3}'),"
       " '{\"a\":{\"b\":null,\"e\":{\"f\":4}},\"d\":null}'))",
@@ -215,6 +220,8 @@ static const struct { const char *sql; int code; const char *answer; } hostile[]
     { "SELECT jb_contains(?, '[]')", SQLITE_ERROR, "jb_contains: InvalidJsonb" },
     { "SELECT jb_contains('[]', ?)", SQLITE_ERROR, "jb_contains: InvalidJsonb" },
     { "SELECT jb_exists(?, 'a')", SQLITE_ERROR, "jb_exists: InvalidJsonb" },
+    { "SELECT jb_exists_any(?, '[]')", SQLITE_ERROR, "jb_exists_any: InvalidJsonb" },
+    { "SELECT jb_exists_all(jb('{}'), ?)", SQLITE_ERROR, "jb_exists_all: InvalidJsonb" },
     { "SELECT jb_concat(?, 1)", SQLITE_ERROR, "jb_concat: InvalidJsonb" },
     { "SELECT jb_patch(?, '{}')", SQLITE_ERROR, "jb_patch: InvalidJsonb" },
     { "SELECT jb_patch('{}', ?)", SQLITE_ERROR, "jb_patch: InvalidJsonb" },
@@ -265,6 +272,8 @@ static const struct { const char *sql; bool is_checked; } broken[] = {
     { "SELECT jb_contains(?, '{\"a\":[\"x\"]}')", true },
     { "SELECT jb_contains('[]', ?)", true },
     { "SELECT jb_exists(?, 'e')", true },
+    { "SELECT jb_exists_any(?, '[\"x\",\"e\"]')", true },
+    { "SELECT jb_exists_all(?, '[\"a\",\"e\"]')", true },
     { "SELECT jb_concat(?, '{\"a\":1}')", true },
     { "SELECT jb_patch(?, '{\"b\":{\"c\":null,\"d\":{\"x\":1}}}')", true },
     { "SELECT jb_patch('{\"b\":{\"c\":1}}', ?)", true },
@@ -361,6 +370,39 @@ static void pass_limit(void)
     if (sqlite3_close(database) != SQLITE_OK) fail("the database stays open", "");
 }
 
+/* A text that is some sixty times as long as its document: 40,001 items within 200 arrays inside
+ * one another, each indented. SQLite's limits decide before memory is asked for, also by the
+ * library. */
+static void pass_memory(void)
+{
+    static const char made[] = "CREATE TABLE deep AS SELECT jb("
+        "replace(hex(zeroblob(100)), '0', '[') || replace(hex(zeroblob(40000)), '00', '1,')"
+        " || '1' || replace(hex(zeroblob(100)), '0', ']')) AS doc";
+    static const char pretty[] = "SELECT length(jb_pretty(doc)) FROM deep";
+    static const char compact[] = "SELECT length(jb_text(doc)) FROM deep";
+    sqlite3 *database = open_database();
+    char answer[ANSWER];
+    if (run(database, made, NULL, 0, answer) != SQLITE_DONE) fail("no document is made", made);
+    /* 40,001 items, each after 400 blanks, and brackets after two for each level around them:
+     * 40,001 * 403 + 2 * (2 * 199 * 200 / 2 + 2 * 200) - 2. */
+    largest = 0;
+    if (run(database, pretty, NULL, 0, answer) != SQLITE_ROW || strcmp(answer, "16200801"))
+        fail(answer, pretty);
+    if (largest > 2 * 16200801) fail("it asks for more than the text", pretty);
+    sqlite3_hard_heap_limit64(2000000);
+    if (run(database, compact, NULL, 0, answer) != SQLITE_ROW) fail(answer, compact);
+    largest = 0;
+    if (run(database, pretty, NULL, 0, answer) != SQLITE_NOMEM) fail(answer, pretty);
+    if (largest > 2000000) fail("it asks for memory past the limit", pretty);
+    sqlite3_hard_heap_limit64(0);
+    sqlite3_limit(database, SQLITE_LIMIT_LENGTH, 2000000);
+    largest = 0;
+    if (run(database, pretty, NULL, 0, answer) != SQLITE_TOOBIG) fail(answer, pretty);
+    if (largest > 2000000) fail("it asks for memory past the limit of lengths", pretty);
+    if (sqlite3_close(database) != SQLITE_OK) fail("the database stays open", "");
+    passed += 3;
+}
+
 int main(int count, char **arguments)
 {
     if (count != 2) return 2;
@@ -374,6 +416,7 @@ int main(int count, char **arguments)
     pass_hostile();
     break_each_byte();
     pass_limit();
+    pass_memory();
     printf("%d\n", passed);
     return 0;
 }
