@@ -4,7 +4,9 @@
 #     PREFIX=/usr/local bindings/python/test.sh
 #     PKG_CONFIG_PATH=/usr/local/lib/pkgconfig bindings/python/test.sh
 #
-# All tests run twice: without the extension module, and with it if it can be compiled. PYTHON names
+# All tests run twice: without the extension module, and with it if it can be compiled. Then random
+# calls run for SOAK_MINUTES, 0.1 if it is not set, with a module that was compiled with sanitizers,
+# and are cancelled at random. At the end drivers.sh runs the lines of DRIVERS.md. PYTHON names
 # another Python than python3. The last line says how many tests passed, and lines before it which
 # were passed over; the status is 0, 1 after a failure, or 77 if a tool is missing.
 set -euo pipefail
@@ -44,11 +46,18 @@ cp -r "$top/$name" "$scratch/python"
 cp -r "$top/bindings/examples" "$scratch/examples"
 cp -r "$top/tests/lines/jsonb_probe" "$scratch/lines"
 cd "$scratch/python"
+packages=${PYTHONPATH:-}
 export HOME=$scratch KOHIBLAD_LIBRARY=$library KOHIBLAD_LINES=$scratch/lines
 export PYTHONPATH=$scratch/python/src PYTHONWARNINGS=error::SyntaxWarning
 
 run "$python" --version
 run "$python" -m compileall -q src tests build_backend bench.py || fail "a file has a wrong syntax"
+
+# Lists what the tests of the log passed over.
+list_skipped() {
+    sed -n "s|.*\.\.\. skipped ['\"]\(.*\)['\"]$|$name: passed over: \1|p" "$scratch/log" |
+        sort -u >> "$scratch/skipped"
+}
 
 # Runs the tests with or without the extension module, and counts those that passed in $passed.
 run_tests() {
@@ -58,9 +67,27 @@ run_tests() {
         fail "the tests failed with KOHIBLAD_NATIVE=$1"
     ran=$(sed -n 's/^Ran \([0-9]*\) test.*/\1/p' "$scratch/log")
     skipped=$(sed -n 's/^OK.*skipped=\([0-9]*\).*/\1/p' "$scratch/log")
-    sed -n "s|.*\.\.\. skipped ['\"]\(.*\)['\"]$|$name: passed over: \1|p" "$scratch/log" |
-        sort -u >> "$scratch/skipped"
+    list_skipped
     passed=$((ran - ${skipped:-0}))
+}
+
+# Whether the compiler has sanitizers, which Python itself need not have.
+has_sanitizers() {
+    echo 'int main(void) { return 0; }' |
+        ${CC:-cc} -fsanitize=address,undefined -x c - -o "$scratch/tried" 2> "$scratch/found"
+}
+
+# Random calls, cancelled at random, with the module compiled with sanitizers. Python does not free
+# all of its memory, so leaks are not looked for.
+soak() {
+    local preloaded
+    preloaded="$(${CC:-cc} -print-file-name=libasan.so) $(${CC:-cc} -print-file-name=libubsan.so)"
+    KOHIBLAD_NATIVE=1 CFLAGS='-O1 -g -fsanitize=address,undefined -fno-sanitize-recover=all' \
+        run "${build[@]}" || fail "the build with sanitizers failed"
+    (cd tests && LD_PRELOAD=$preloaded PYTHONMALLOC=malloc KOHIBLAD_NATIVE=1 \
+        ASAN_OPTIONS=detect_leaks=0:exitcode=99 UBSAN_OPTIONS=print_stacktrace=1:exitcode=99 \
+        run "$python" soak.py "${SOAK_MINUTES:-0.1}" "${SOAK_SEED:-1}") ||
+        fail "tests/soak.py failed"
 }
 
 rm -f src/kohiblad/_native.*.so
@@ -74,5 +101,12 @@ if [ "$has_module" ]; then
     run_tests 1
     told="$told, $passed with it"
 fi
+if [ "$has_module" ] && has_sanitizers; then soak; fi
+# The lines of DRIVERS.md, with the drivers that are installed.
+status=0
+PYTHONPATH=$packages run "$top/$name/drivers.sh" 2>&1 | tee "$scratch/log" || status=$?
+[ $status = 0 ] || [ $status = 77 ] || fail "drivers.sh failed"
+[ $status = 77 ] || sed -i '/drivers.sh runs them/d' "$scratch/skipped"
+list_skipped
 sort -u "$scratch/skipped"
 echo "$name: $told"

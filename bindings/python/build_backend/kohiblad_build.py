@@ -149,6 +149,7 @@ def write_wheel(folder, files, tag):
     files[f"{info}/WHEEL"] = (f"Wheel-Version: 1.0\nGenerator: kohiblad_build\n"
                               f"Root-Is-Purelib: {'true' if tag.endswith('-any') else 'false'}\n"
                               f"Tag: {tag}\n").encode()
+    files[f"{info}/entry_points.txt"] = entry_points()
     files[f"{info}/RECORD"] = record(files, f"{info}/RECORD")
     name = f"kohiblad-{version()}-{tag}.whl"
     with zipfile.ZipFile(os.path.join(folder, name), "w") as wheel:
@@ -220,6 +221,13 @@ def metadata():
               "Description-Content-Type": "text/markdown"}
     lines = "".join(f"{name}: {value}\n" for name, value in fields.items())
     return lines.encode() + b"\n" + read(os.path.join(TOP, "README.md"))
+
+
+def entry_points():
+    """The entry_points.txt file: the scripts of pyproject.toml."""
+    project = read(os.path.join(TOP, "pyproject.toml")).decode()
+    listed = re.search(r"^\[project\.scripts\]\n((?:.+\n)*)", project, re.M).group(1)
+    return f"[console_scripts]\n{listed}".replace('"', "").encode()
 
 
 def record(files, record_path):

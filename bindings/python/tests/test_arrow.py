@@ -11,6 +11,7 @@ import random
 import struct
 import subprocess
 import sys
+import threading
 import unittest
 
 from kohiblad import Document, InvalidDocumentError, arrow
@@ -18,8 +19,8 @@ from kohiblad.arrow import Column
 
 SCHEMA = struct.Struct("=QQQqqQQQQ")
 ARRAY = struct.Struct("=qqqqqQQQQQ")
-# Where an array has the address of its release.
-RELEASE_AT = 64
+# Where an array and a schema have the addresses of their releases.
+RELEASE_AT, SCHEMA_RELEASE_AT = 64, 56
 RELEASE = ctypes.CFUNCTYPE(None, ctypes.c_void_p)
 pointer_of = ctypes.PYFUNCTYPE(ctypes.c_void_p, ctypes.py_object, ctypes.c_char_p)(
     ("PyCapsule_GetPointer", ctypes.pythonapi))
@@ -71,6 +72,16 @@ class Consumer:
         RELEASE(self.release_address)(ctypes.addressof(self.taken))
 
 
+class Given:
+    """What has capsules that were made before."""
+
+    def __init__(self, capsules):
+        self.capsules = capsules
+
+    def __arrow_c_array__(self, requested_schema=None):
+        return self.capsules
+
+
 class Producer:
     """An array of another library: of either kind, a slice, or empty without memory."""
 
@@ -114,25 +125,27 @@ class ArrowTest(unittest.TestCase):
         self.assertEqual(again.buffers, read.buffers)
         for it in (read, again):
             it.release()
+        arrow._release_unused()
         self.assertEqual(arrow._exported, {})
 
     def test_memory_is_kept_as_long_as_a_consumer_uses_it(self):
         column = Column.of(ROWS * 1000)
         read = Consumer(column)
         del column
-        gc.collect()
+        arrow._release_unused()
         self.assertEqual(sum(map(len, read.rows())), 1000 * sum(len(bytes(it)) for it in ROWS))
         self.assertEqual(len(arrow._exported), 1)
         read.release()
-        self.assertEqual((arrow._exported, arrow._structs), ({}, {}))
+        arrow._release_unused()
+        self.assertEqual((arrow._exported, arrow._handed_out), ({}, []))
 
     def test_capsules_that_nobody_takes_are_released(self):
         column = Column.of(ROWS)
         for _ in range(100):
             column.__arrow_c_array__()
             column.__arrow_c_schema__()
-        gc.collect()
-        self.assertEqual((arrow._exported, arrow._structs), ({}, {}))
+        arrow._release_unused()
+        self.assertEqual((arrow._exported, arrow._handed_out), ({}, []))
 
     def test_rows_that_are_missing(self):
         rng = random.Random(1)
@@ -185,6 +198,106 @@ class ArrowTest(unittest.TestCase):
         with self.assertRaises(TypeError):
             Column()
 
+    def assert_refused(self, change, form=b"Z", error=ValueError):
+        """An array that was changed is refused, and left to its source."""
+        source = Producer([bytes(it) for it in ROWS], form, first=1)
+        change(source)
+        before = source.array.raw, source.schema.raw
+        with self.assertRaises(error) as refused:
+            Column.from_arrow(source)
+        gc.collect()
+        self.assertEqual((source.released, source.array.raw, source.schema.raw), ([], *before))
+        return str(refused.exception)
+
+    def test_what_was_released(self):
+        def released(name, at):
+            def change(source):
+                ctypes.memset(ctypes.addressof(getattr(source, name)) + at, 0, 8)
+            return change
+
+        for name, at in (("array", RELEASE_AT), ("schema", SCHEMA_RELEASE_AT)):
+            self.assertIn("released", self.assert_refused(released(name, at)))
+        # A capsule that another took first, and what it had was freed.
+        column = Column.of(ROWS)
+        capsules = column.__arrow_c_array__()
+
+        self.assertEqual(list(Column.from_arrow(Given(capsules))), ROWS)
+        del column
+        gc.collect()
+        for _ in range(2):
+            with self.assertRaisesRegex(ValueError, "released"):
+                Column.from_arrow(Given(capsules))
+
+    def test_what_is_no_capsule(self):
+        capsules = Column.of(ROWS).__arrow_c_array__()
+        for returned in (capsules[::-1], (None, None), (capsules[0], 7), (), capsules * 2):
+            with self.assertRaises(ValueError):
+                Column.from_arrow(Given(returned))
+
+    def test_arrays_that_cannot_be(self):
+        def field(name, layout, **fields):
+            names = {"array": ("length", "null_count", "offset", "n_buffers", "n_children",
+                               "buffers", "children", "dictionary"),
+                     "schema": ("format", "name", "metadata", "flags", "n_children", "children",
+                                "dictionary")}[name]
+
+            def change(source):
+                buffer = getattr(source, name)
+                given = list(layout.unpack(buffer.raw[:layout.size]))
+                for key, value in fields.items():
+                    given[names.index(key)] = value
+                ctypes.memmove(buffer, layout.pack(*given), layout.size)
+            return change
+
+        for form in (b"z", b"Z"):
+            for fields in ({"length": -1}, {"length": 1 << 62}, {"length": (1 << 63) - 1},
+                           {"offset": -1}, {"offset": 1 << 62}, {"null_count": -2},
+                           {"null_count": 6}, {"null_count": 1}, {"n_buffers": 2},
+                           {"n_buffers": 0}, {"n_buffers": -1}, {"n_children": 1},
+                           {"buffers": 0}, {"dictionary": 8}):
+                with self.subTest(form=form, fields=fields):
+                    self.assert_refused(field("array", ARRAY, **fields), form)
+            for fields in ({"n_children": 1}, {"dictionary": 8}):
+                self.assert_refused(field("schema", SCHEMA, **fields), form)
+            self.assert_refused(field("schema", SCHEMA, format=0), form, TypeError)
+
+    def test_buffers_that_are_missing(self):
+        def without(number):
+            return lambda source: ctypes.memset(
+                ctypes.addressof(source.buffers) + 8 * number, 0, 8)
+
+        for form in (b"z", b"Z"):
+            self.assertIn("offsets", self.assert_refused(without(1), form))
+            self.assertIn("data", self.assert_refused(without(2), form))
+        # Rows without bytes need no data, and an array without rows nothing at all.
+        for form in (b"z", b"Z"):
+            source = Producer([b"", b"", b""], form)
+            without(2)(source)
+            column = Column.from_arrow(source)
+            self.assertEqual((len(column), column.sorted_order()), (3, [0, 1, 2]))
+            with self.assertRaises(InvalidDocumentError):
+                column[1]
+            source = Producer([b"a"], form, first=1 << 40, length=0, is_empty=True)
+            column = Column.from_arrow(source)
+            self.assertEqual((list(column), column.sorted_order()), ([], []))
+            self.assertEqual(list(Column.from_arrow(column)), [])
+
+    def test_offsets_that_do_not_ascend(self):
+        def offsets(*given):
+            def change(source):
+                for number, offset in enumerate(given):
+                    source.offsets[number] = offset
+            return change
+
+        for form in (b"z", b"Z"):
+            for given in ((0, 8, 4), (0, -8, 4), (0, 1 << 30), (0, 0, -1)):
+                with self.subTest(form=form, given=given):
+                    self.assertIn("ascend", self.assert_refused(offsets(*given), form))
+            # What is before the first row is not read.
+            source = Producer([bytes(it) for it in ROWS], form, first=1)
+            offsets(-5)(source)
+            self.assertEqual(list(Column.from_arrow(source)), ROWS[1:])
+
     def test_a_column_is_a_sequence(self):
         column = Column.of(iter(ROWS))
         self.assertEqual((len(column), column[-1], column.index(ROWS[2]), ROWS[3] in column),
@@ -194,6 +307,39 @@ class ArrowTest(unittest.TestCase):
         read = Consumer(Column.of([]))
         self.assertEqual(list(read.rows()), [])
         read.release()
+
+    def test_a_capsule_that_is_freed_while_an_exception_is_raised(self):
+        class Failing:
+            def __add__(self, other):
+                raise KeyError("kept")
+
+        for capsule in (lambda: Column.of(ROWS).__arrow_c_schema__(),
+                        lambda: Column.of(ROWS).__arrow_c_array__()[1]):
+            with self.assertRaisesRegex(KeyError, "kept"):
+                # The capsule is on the stack of the frame, which is cleared by the exception.
+                [capsule(), Failing() + 1]
+        arrow._release_unused()
+        self.assertEqual((arrow._exported, arrow._handed_out), ({}, []))
+
+    def test_another_thread_releases(self):
+        read = [Consumer(Column.of(ROWS)) for _ in range(8)]
+        threads = [threading.Thread(target=it.release) for it in read]
+        for it in threads:
+            it.start()
+        for it in threads:
+            it.join()
+        arrow._release_unused()
+        self.assertEqual(arrow._exported, {})
+        self.assertEqual([it.taken.raw[RELEASE_AT:RELEASE_AT + 8] for it in read], [bytes(8)] * 8)
+
+    def test_few_capsules_that_nobody_has_are_kept(self):
+        kept = []
+        for number in range(1000):
+            capsules = Column.of(ROWS).__arrow_c_array__()
+            if number < 100:
+                kept.append(capsules)
+        self.assertLess(len(arrow._handed_out), 1000)
+        self.assertEqual([list(Column.from_arrow(Given(it))) for it in kept], [ROWS] * 100)
 
     def test_a_program_that_ends_with_capsules(self):
         program = ("from kohiblad import Document\nfrom kohiblad.arrow import Column\n"

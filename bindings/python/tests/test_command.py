@@ -77,7 +77,7 @@ class CommandTest(unittest.TestCase):
     def test_sort_names_the_document_that_ends_the_input(self):
         status, output, message = run("sort", "--memory", "1", given=stored("2", "1") + b"\0")
         self.assertEqual((status, output), (1, b""))
-        self.assertIn("document 3: the file ends within it", message)
+        self.assertIn("document 3: InvalidEOF: the file ends within it", message)
 
     def test_get_has_a_line_for_each_document(self):
         self.assertEqual(run("get", "town", given=stored(*LINES)),
@@ -103,11 +103,14 @@ class CommandTest(unittest.TestCase):
     def test_faults_name_their_place(self):
         source = self.path("in", b"1\n\n1e99\n")
         self.assertEqual(run("encode", source),
-                         (1, stored("1"), f"kohiblad: {source}: line 3: BadNumber: at byte 3\n"))
+                         (1, stored("1"), f"kohiblad: {source}: line 3: BadNumber: at byte 3 of a "
+                                          "number that is unfinished or too long, in '1e99'\n"))
         self.assertEqual(run("encode", given=b'{"a":1,}'),
-                         (1, b"", "kohiblad: standard input: line 1: InvalidJson: at byte 7\n"))
+                         (1, b"", "kohiblad: standard input: line 1: InvalidJson: expected a key "
+                                  "at byte 7, found '}'\n"))
         self.assertEqual(run("encode", given=b"[" * 100_000),
-                         (1, b"", "kohiblad: standard input: line 1: TooDeep\n"))
+                         (1, b"", "kohiblad: standard input: line 1: TooDeep: more brackets than "
+                                  "1,000 are open at byte 1000\n"))
         status, _, message = run("decode", given=stored("1") + (8).to_bytes(8, "big") + b"x" * 8)
         self.assertEqual(status, 1)
         self.assertIn("standard input: document 2: InvalidJsonb", message)
@@ -117,10 +120,15 @@ class CommandTest(unittest.TestCase):
         for size in range(len(whole) // 2 + 1, len(whole), 5):
             status, output, message = run("decode", given=whole[:size])
             self.assertEqual((status, output), (1, b"1\n"))
-            self.assertIn("document 2: the file ends within it", message)
+            self.assertIn("document 2: InvalidEOF: the file ends within it", message)
         status, _, message = run("decode", given=b"\xff" * 12)
         self.assertEqual(status, 1)
-        self.assertIn("document 1: the file ends within it", message)
+        self.assertIn("document 1: InvalidEOF: the file ends within it", message)
+
+    def test_json_lines_are_not_decoded(self):
+        status, _, message = run("decode", given=NDJSON)
+        self.assertEqual(status, 1)
+        self.assertIn("for JSON lines there are `read_lines` and `encode`", message)
 
     def test_no_such_file(self):
         status, _, message = run("decode", self.path("none"))
@@ -132,6 +140,13 @@ class CommandTest(unittest.TestCase):
         status, output, message = run("encode", "--progress", given=given)
         self.assertEqual((status, output), (0, stored("1") * 300_000))
         self.assertTrue(message.endswith("300,000 lines\n"), message[-50:])
+
+    def test_progress_of_a_file_has_the_part_that_was_read(self):
+        source = self.path("in", b"[1,2,3]\n" * 300_000)
+        status, _, message = run("encode", source, "-o", self.path("out"), "--progress")
+        self.assertEqual(status, 0)
+        self.assertRegex(message, r"^\r[\d,]+ lines, \d+%, \d+ s left")
+        self.assertEqual(message.split("\r")[-1].split(), ["300,000", "lines,", "100%"])
 
     def test_a_reader_that_ends_early(self):
         source = self.path("in", b"[1,2,3]\n" * 100_000)

@@ -233,7 +233,7 @@ class ThreadTest(unittest.TestCase):
             "            try:\n"
             "                Document.parse(deep, depth=64)\n"
             "            except TooDeepError as error:\n"
-            "                print(error)\n"
+            "                print(error.name)\n"
             "threading.stack_size(256 << 10)\n"
             "thread = threading.Thread(target=run)\n"
             "thread.start()\n"

@@ -29,7 +29,7 @@ class ErrorTest(unittest.TestCase):
             with self.assertRaises(InvalidTextError) as refused:
                 Document.parse(text)
             self.assertEqual(refused.exception.offset, offset)
-            self.assertEqual(str(refused.exception), f"{name}: at byte {offset}")
+            self.assertRegex(str(refused.exception), f"^{name}: .*at byte {offset}\\b")
 
     def test_texts(self):
         for text, offset in (("", 0), (" ", 1), ("[1,", 3), ("[1]]", 3), ("nul", 3), ("01", 1),
@@ -41,8 +41,11 @@ class ErrorTest(unittest.TestCase):
                              ("0." + "0" * 256, 258), ('{"a": [1, 2.5e-999]}', 17),
                              ("[1.]", 3), ("1e", 2), ("-", 1), ("[1e99,]", 4)):
             self.assert_fault(17, "BadNumber", offset, text)
-        for text in (b'"\xff"', b"\xc3", '"\udc00"'):
+        for text, offset in ((b'"\xff"', 1), (b"\xc3", 0), ('"\u00e9\udc00"', 3)):
             self.assert_refused(InvalidTextError, 7, "InvalidUtf8", kohiblad.loads, text)
+            with self.assertRaises(InvalidTextError) as refused:
+                Document.parse(text)
+            self.assertEqual(refused.exception.offset, offset)
 
     def test_texts_that_nest_too_deep(self):
         for text in ("[" * 100_000, "[" * 100_000 + "]" * 100_000, '{"a":' * 100_000,
@@ -161,7 +164,8 @@ class ErrorTest(unittest.TestCase):
         with self.assertRaises(TooDeepError) as refused:
             Document.parse("[[]]", 1)
         copy = pickle.loads(pickle.dumps(refused.exception))
-        self.assertEqual((type(copy), copy.status, str(copy)), (TooDeepError, 13, "TooDeep"))
+        self.assertEqual((type(copy), copy.status, copy.offset, str(copy)),
+                         (TooDeepError, 13, 1, str(refused.exception)))
 
 
 if __name__ == "__main__":

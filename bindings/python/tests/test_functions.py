@@ -115,11 +115,39 @@ class KeyTest(FunctionTest):
             if document.kind in ("array", "object"):
                 self.assertIs(name in document, is_there)
 
+    def test_some_and_all_of_several_keys_as_the_model(self):
+        values, counted = FewNames(seed=47), set()
+        for number in range(ROUNDS):
+            value = values.any(depth=2)
+            names = [values.text() for _ in range(number % 5)]
+            found = [has_key(value, name) for name in names]
+            document = Document.of(value)
+            self.assertIs(document.has_any_key(*names), any(found), (value, names))
+            self.assertIs(document.has_all_keys(*names), all(found), (value, names))
+            counted.add((any(found), all(found)))
+        self.assertEqual(len(counted), 4)
+
+    def test_many_keys(self):
+        names = [f"key {number}" for number in range(5_000)]
+        document = Document.of(dict.fromkeys(names))
+        for it in (document, Document.of(names)):
+            self.assertTrue(it.has_all_keys(*names, *reversed(names)))
+            self.assertFalse(it.has_all_keys(*names, "key 5000"))
+            self.assertTrue(it.has_any_key("x", "key 4999", "y"))
+            self.assertFalse(it.has_any_key("x", "key 5000", "y"))
+
     def test_what_is_no_key(self):
         self.assertFalse(Document.of({"\ufffd": 1}).has_key("\ud800"))
+        for value in ({"\ufffd": 1, "a": 1}, ["\ufffd", "a"]):
+            document = Document.of(value)
+            self.assertFalse(document.has_any_key("\ud800"))
+            self.assertTrue(document.has_any_key("\ud800", "a"))
+            self.assertFalse(document.has_all_keys("a", "\ud800"))
         for name in (None, 1, b"a", ["a"]):
-            with self.assertRaisesRegex(TypeError, "a key is a str"):
-                Document.of({"a": 1}).has_key(name)
+            document = Document.of({"a": 1})
+            for call in (document.has_key, document.has_any_key, document.has_all_keys):
+                with self.assertRaisesRegex(TypeError, "a key is a str"):
+                    call(name)
 
     def test_index_keys(self):
         values = FewNames(seed=43)
@@ -602,6 +630,7 @@ class StackTest(unittest.TestCase):
             "        assert inner.get_path(*[step] * 63).kind in ('array', 'object')\n"
             "        assert row.contains(row) and len(row.index_keys()) == 1\n"
             "        row.merge(row), row.without_nulls(), row.top_keys(), row.has_key('a')\n"
+            "        assert row.has_any_key('a', 'b') == row.has_all_keys('a') == (step == 'a')\n"
             "    print('done')\n"))
 
     def test_readme_s_1000_levels(self):

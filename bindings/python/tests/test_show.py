@@ -171,14 +171,16 @@ class CommandTest(unittest.TestCase):
                          (1, "", "kohiblad: standard input: there is no document 3\n"))
         status, _, message = run("--row", "2", "-", given=stored[:-1])
         self.assertEqual((status, message),
-                         (1, "kohiblad: standard input: document 2: the file ends within it\n"))
+                         (1, "kohiblad: standard input: document 2: InvalidEOF: the file ends "
+                             "within it\n"))
         self.assertEqual(run("--row", "0", "-")[0], 2)
 
     def test_what_cannot_be_shown(self):
         for arguments, message in (
                 (["none"], "none: there is no such file, and it is not hexadecimal"),
                 (["123"], "123: there is no such file, and it is not hexadecimal"),
-                (["--json", "[1,]"], "the text: InvalidJson: at byte 3"),
+                (["--json", "[1,]"],
+                 "the text: InvalidJson: expected a value at byte 3, found ']'"),
                 ([PAGE + "00"],
                  "the bytes: not a document: InvalidJsonb at byte 32: bytes are left over"),
                 (["-"], "standard input: not a document: InvalidEOF at byte 0: "

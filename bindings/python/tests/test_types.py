@@ -29,6 +29,7 @@ changed: Document = document.set(path, 1).insert("a", {}).without("a", 0, ("b", 
 changed = changed.without_nulls()
 other: Document = (changed | {"a": None} | document).member("a").item(0) + [changed]
 held: bool = other.contains(changed, steps=100) and other.has_key("a")
+held = other.has_any_key("a", "b") or other.has_all_keys()
 child: object = other.get_path("tags", 0, default="none")
 chosen: List[object] = [*other.select("$.tags[*]"), *other.select(b"$")]
 keys: List[int] = other.index_keys() + other.top_keys()

@@ -169,6 +169,12 @@ class WheelTest(PackageTest):
                           fields.get_all("License-File")),
                          ("kohiblad", kohiblad.__version__, "Apache-2.0", ["LICENSE"]))
 
+    def test_it_names_the_program(self):
+        self.run_python(BACKEND, self.folder)
+        contents, info = self.contents_of_wheel()
+        self.assertEqual(contents[f"{info}/entry_points.txt"].decode(),
+                         "[console_scripts]\nkohiblad = kohiblad.__main__:main\n")
+
     @unittest.skipUnless(has_pip(), "pip is not installed")
     def test_pip_builds_and_installs_it(self):
         self.run_pip("wheel", "--no-build-isolation", "--no-index", "--no-deps", TOP,
@@ -176,6 +182,11 @@ class WheelTest(PackageTest):
         self.run_pip("install", "--no-index", "--no-deps", "--target", "site", self.wheel())
         output = self.run_python("-c", PROGRAM, PYTHONPATH="site")
         self.assertTrue(output.endswith("[1.50]\n"))
+        script = os.path.join(self.folder, "site", "bin", "kohiblad")
+        self.assertTrue(os.access(script, os.X_OK))
+        for arguments, said in ((("--version",), f"kohiblad {kohiblad.__version__}"),
+                                (("sort", "--help"), "usage: kohiblad sort")):
+            self.assertIn(said, self.run_python(script, *arguments, PYTHONPATH="site"))
 
 
 class SourceTest(PackageTest):

@@ -194,7 +194,8 @@ def ask(document):
         answer(lambda it: document.get_path(*it) if type(it) is list else document.get_path(it),
                path)
     for name in ("a", "", "\ud800", 0, -1, 5, None, Text("n")):
-        for call in (document.has_key, lambda it: document.member(it),
+        for call in (document.has_key, document.has_any_key,
+                     lambda it: document.has_all_keys("a", it), lambda it: document.member(it),
                      lambda it: document.item(it)):
             answer(call, name)
 

@@ -13,6 +13,7 @@ from typing import (IO, Any, Callable, ContextManager, Dict, Iterator, List, Opt
 
 from . import Document, KohibladError, __version__
 from ._fault import fault_of
+from ._files import documents_of_lines, rest_of, stored, stored_documents
 from ._key_lines import add_key_options, add_range_options, key_line, key_row, range_lines
 from ._show import lines_of, page_of
 
@@ -27,8 +28,6 @@ Prints one document as a tree beside its bytes. Each line has an entry word, the
 to it, and what they mean, each with its place. For bytes that are not a document it says where
 their first fault is and what, and the status is 1."""
 
-_LENGTH_BYTES = 8
-_READ_AT_ONCE = 1 << 20
 _SECONDS_BETWEEN_REPORTS = 0.5
 
 # What a document takes in memory while it is sorted, beside its bytes and those of its key, which
@@ -45,13 +44,18 @@ class InputError(Exception):
 
 
 class Progress:
-    """A line on standard error that counts rows, written over itself."""
+    """A line on standard error that counts rows, written over itself. If the sources are files, it
+    has the part of them that was read, and for how long the rest will take at this pace."""
 
-    def __init__(self, is_shown: bool, unit: str) -> None:
+    def __init__(self, is_shown: bool, unit: str, sources: List[IO[bytes]]) -> None:
         self._is_shown = is_shown
         self._unit = unit
-        self._next_time = time.monotonic() + _SECONDS_BETWEEN_REPORTS
-        self._is_begun = False
+        self._sources = sources
+        sizes = list(map(rest_of, sources))
+        self._size = sum(it or 0 for it in sizes) if None not in sizes else 0
+        self._begin = time.monotonic()
+        self._next_time = self._begin + _SECONDS_BETWEEN_REPORTS
+        self._shown = ""
 
     def count(self, rows: Iterator[_Row]) -> Iterator[_Row]:
         """The same rows, counted as they pass."""
@@ -63,62 +67,26 @@ class Progress:
                 if self._is_shown and time.monotonic() >= self._next_time:
                     self._report(number)
         finally:
-            if self._is_begun:
+            if self._shown:
                 self._report(number)
                 sys.stderr.write("\n")
 
     def _report(self, number: int) -> None:
-        self._is_begun = True
         self._next_time = time.monotonic() + _SECONDS_BETWEEN_REPORTS
-        sys.stderr.write(f"\r{number:,} {self._unit}s")
+        # Blanks cover what was longer before.
+        length = len(self._shown.rstrip())
+        self._shown = f"{number:,} {self._unit}s{self._part_read()}".ljust(length)
+        sys.stderr.write(f"\r{self._shown}")
         sys.stderr.flush()
 
-
-def documents_of_lines(file: IO[bytes], name: str) -> Iterator[Document]:
-    """The documents of JSON lines; empty lines are left out."""
-    for number, line in enumerate(file, 1):
-        if line.strip():
-            yield _named(lambda: Document.parse(line), name, "line", number)
-
-
-def stored_documents(file: IO[bytes], name: str) -> Iterator[Document]:
-    """The documents of a file that has each after its length."""
-    number = 1
-    while True:
-        prefix = file.read(_LENGTH_BYTES)
-        if not prefix:
-            return
-        size = int.from_bytes(prefix, "big")
-        data = _read(file, size) if len(prefix) == _LENGTH_BYTES else b""
-        if len(prefix) < _LENGTH_BYTES or len(data) < size:
-            raise InputError(f"{name}: document {number}: the file ends within it")
-        yield _named(lambda: Document(data), name, "document", number)
-        number += 1
-
-
-def _read(file: IO[bytes], size: int) -> bytes:
-    """Up to `size` bytes. Memory is taken as they come, since a wrong length may be huge."""
-    parts = []
-    while size:
-        part = file.read(min(size, _READ_AT_ONCE))
-        if not part:
-            break
-        parts.append(part)
-        size -= len(part)
-    return b"".join(parts)
-
-
-def _named(read: Callable[[], Document], name: str, unit: str, number: int) -> Document:
-    try:
-        return read()
-    except KohibladError as error:
-        raise InputError(f"{name}: {unit} {number}: {error}") from None
-
-
-def stored(document: Document) -> bytes:
-    """The bytes of a document after their length."""
-    data = bytes(document)
-    return len(data).to_bytes(_LENGTH_BYTES, "big") + data
+    def _part_read(self) -> str:
+        if not self._size:
+            return ""
+        part = 1 - sum(rest_of(it) or 0 for it in self._sources) / self._size
+        if not 0 < part < 1:
+            return ", 100%" if part >= 1 else ""
+        left = (time.monotonic() - self._begin) * (1 - part) / part
+        return f", {int(100 * part)}%, {int(left) + 1:,} s left"
 
 
 def line_of(document: Document) -> bytes:
@@ -185,7 +153,11 @@ def in_order(documents: Iterator[Document], name: str) -> Iterator[Document]:
 
 
 def _parser() -> argparse.ArgumentParser:
-    parser = argparse.ArgumentParser(prog="python -m kohiblad", description=_DESCRIPTION)
+    # As it was called: by its own name, or as a module.
+    program = os.path.basename(sys.argv[0])
+    parser = argparse.ArgumentParser(
+        prog="python -m kohiblad" if program == "__main__.py" else program,
+        description=_DESCRIPTION)
     parser.add_argument("--version", action="version", version=f"kohiblad {__version__}")
     commands = parser.add_subparsers(dest="command", metavar="COMMAND")
     commands.required = True
@@ -268,7 +240,7 @@ def _run(options: argparse.Namespace, sources: List[IO[bytes]], target: IO[bytes
     inputs = list(map(read, sources, names))
     rows = merged(list(map(in_order, inputs, names))) if options.command == "merge" else inputs[0]
     is_shown = options.progress or sys.stderr.isatty()
-    progress = Progress(is_shown, "line" if is_encode else "document")
+    progress = Progress(is_shown, "line" if is_encode else "document", sources)
     documents = progress.count(rows)
     if options.command == "sort":
         documents = sorted_documents(documents, options.memory)
@@ -383,7 +355,7 @@ def main(arguments: Optional[List[str]] = None) -> int:
         # Nobody reads on, as after `| head`. Python would fail once more at its end.
         os.dup2(os.open(os.devnull, os.O_WRONLY), sys.stdout.fileno())
         return 1
-    except (InputError, OSError) as error:
+    except (InputError, KohibladError, OSError) as error:
         print(f"kohiblad: {error}", file=sys.stderr)
         return 1
     except KeyboardInterrupt:

@@ -2,7 +2,6 @@
 
 The library makes each copy, in the one form that is written today.
 """
-import operator
 from collections.abc import Sequence as AnySequence
 from typing import Any, Callable, Dict, Sequence, Tuple, Union
 
@@ -27,7 +26,7 @@ def step_of(step: Any) -> Step:
     if isinstance(step, str):
         return str.__str__(step)
     if hasattr(type(step), "__index__") and not isinstance(step, bool):
-        return max(-_FAR, min(int(operator.index(step)), _FAR))
+        return max(-_FAR, min(library.int_of(step), _FAR))
     raise TypeError(f"a step of a path is a str or an int, not {type(step).__name__}")
 
 

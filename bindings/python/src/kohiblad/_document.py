@@ -1,5 +1,4 @@
 """Documents: checked bytes, read in place."""
-import operator
 import re
 from decimal import Decimal
 from functools import lru_cache, total_ordering
@@ -12,8 +11,9 @@ from . import _changes as changes
 from . import _library as library
 from . import _scalars as scalars
 from ._changes import DocumentPath, Step
-from ._encode import DEPTH, bytes_of_text, encode, encode_other, fault_of, parse
-from ._errors import KohibladError
+from ._encode import DEPTH, bytes_of_text, encode, encode_other, parse
+from ._errors import KohibladError, PathError
+from ._expected import fault_of, quoted_path
 from ._library import IS_NATIVE
 from ._scalars import Scalar, scalar_of
 
@@ -22,6 +22,9 @@ if IS_NATIVE:
 
 _KINDS = ("null", "boolean", "number", "string", "extension", "array", "object")
 _MOST_SHOWN = 70
+# So many steps of `contains` take less than a tenth of a second. It begins anew with more, so that
+# an interrupt from the keyboard ends it.
+_FIRST_STEPS = 1 << 20
 # A path is followed by copies, which the extension module makes, in documents that are no longer.
 _MOST_COPIED = 4096
 
@@ -164,7 +167,7 @@ class Document:
         """
         if IS_NATIVE:
             return _of_checked(native.to_canonical(self._data))
-        return _of_checked(self._written(library.to_canonical))
+        return _of_checked(self._written(library.to_canonical, 2 * len(self._data) + 64))
 
     def contains(self, other: Any, steps: Optional[int] = None) -> bool:
         """Whether this document contains another, or a Python value.
@@ -178,13 +181,21 @@ class Document:
         what equals it; and this document, if it is an array, also a scalar among its items.
 
         For arrays in arrays this may take a step for each pair of values. TooManyStepsError: it
-        takes more than ``steps``. It never does if they are at least the product of the numbers of
-        values and keys in both.
+        takes more than ``steps``. There is a step for each pair of values that are compared, each
+        byte of two texts of one length, and each member that is passed on the way to a key, with
+        each byte of its own. ``steps`` suffice that are the product of what both documents have of
+        values, keys, and bytes in texts, keys and binary values. While it takes long, signals are
+        handled.
         """
         other_data = _data_of(other)
         size, other_size = len(self._data), len(other_data)
-        return library.is_true(library.contains(self._data, size, other_data, other_size, DEPTH,
-                                                _budget_of(steps)))
+        budget = _budget_of(steps)
+        allowed = min(_FIRST_STEPS, budget)
+        while True:
+            truth = library.contains(self._data, size, other_data, other_size, DEPTH, allowed)
+            if truth.status != library.TOO_MANY_STEPS or allowed == budget:
+                return library.is_true(truth)
+            allowed = min(4 * allowed, budget)
 
     def has_key(self, name: str) -> bool:
         """Whether an object has this key, an array this text among its items, or it is this text.
@@ -198,6 +209,31 @@ class Document:
         if data is None:
             return False
         return library.is_true(library.exists(self._data, len(self._data), data, len(data), DEPTH))
+
+    def has_any_key(self, *names: str) -> bool:
+        """Whether ``has_key`` is true of one of the names, in one walk; of no names it is not.
+
+        >>> row = Document.parse('{"id": 7, "tags": []}')
+        >>> row.has_any_key("id", "size"), row.has_any_key("size"), row.has_any_key()
+        (True, False, False)
+        """
+        listed = changes.document_of_path(_names_of_keys(names))
+        return library.is_true(library.exists_any(self._data, len(self._data), listed,
+                                                  len(listed), DEPTH))
+
+    def has_all_keys(self, *names: str) -> bool:
+        """Whether ``has_key`` is true of all the names, in one walk; of no names it is.
+
+        >>> row = Document.parse('{"id": 7, "tags": []}')
+        >>> row.has_all_keys("tags", "id"), row.has_all_keys("id", "size"), row.has_all_keys()
+        (True, False, True)
+        """
+        found = _names_of_keys(names)
+        if len(found) < len(names):
+            return False
+        listed = changes.document_of_path(found)
+        return library.is_true(library.exists_all(self._data, len(self._data), listed,
+                                                  len(listed), DEPTH))
 
     def get_path(self, *steps: Step, default: Any = None) -> Any:
         """The value at the end of a path, or the default if the path leads nowhere.
@@ -241,9 +277,12 @@ class Document:
         value if what is at the path after ``@`` compares so with a literal. PathError: it is none.
         Scalars come as Python values, and arrays and objects as documents.
         """
-        if IS_NATIVE:
-            return native.select(self._data, path)
-        places = library.places_of(self._data, bytes_of_text(path))
+        try:
+            if IS_NATIVE:
+                return native.select(self._data, path)
+            places = library.places_of(self._data, bytes_of_text(path))
+        except PathError as error:
+            raise library.error_of(error.status, quoted_path(path)) from None
         return [_child_of(type_, self._data[at:at + size]) for type_, at, size in places]
 
     def path_of(self, text: Union[str, bytes]) -> List[Step]:
@@ -261,7 +300,10 @@ class Document:
         and other digits that do not begin with ``0``, are an index, ``-1`` is the last item, and
         ``-`` is past it, as a great index. PathError: the text is none of these.
         """
-        path = library.path_of_text(self._data, bytes_of_text(text))
+        try:
+            path = library.path_of_text(self._data, bytes_of_text(text))
+        except PathError as error:
+            raise library.error_of(error.status, quoted_path(text)) from None
         return cast(List[Step], _of_checked(path).value())
 
     def _child_at(self, path: Sequence[Step], default: Any) -> Any:
@@ -279,7 +321,7 @@ class Document:
             return default
         return child
 
-    def set(self, path: DocumentPath, value: Any) -> "Document":
+    def set(self, path: DocumentPath, value: Any, *, create: bool = False) -> "Document":
         """A new document with a value, or another document, at the end of a path.
 
         >>> row = Document.parse('{"id": 7, "tags": ["a", "b"]}')
@@ -293,12 +335,20 @@ class Document:
         last leads nowhere, or the last one is of the wrong kind, nothing changes: ``get_path`` says
         whether it leads somewhere.
 
+        With ``create`` the objects and arrays that the path lacks are made: an object where a str
+        follows, and an array where an int does. An index may then be that of an item, or one past
+        the last; otherwise nothing changes.
+
+        >>> Document.of({}).set(["at", "towns", 0], "Oslo", create=True)
+        <ObjectDocument {"at":{"towns":["Oslo"]}}>
+
         The result is in the one form that is written today, as of ``canonical``. Raises as
         ``Document.of`` for the value. TypeError: a step is no str and no int; InvalidTextError: a
         step has half of a surrogate pair; TooDeepError: the result would nest more than 1,000
         deep; InvalidDocumentError: it is past a limit of the format.
         """
-        return _of_checked(changes.edited(self._data, changes.steps_of(path), library.PUT,
+        edit = library.CREATE if create else library.PUT
+        return _of_checked(changes.edited(self._data, changes.steps_of(path), edit,
                                           _data_of(value)))
 
     def insert(self, path: DocumentPath, value: Any) -> "Document":
@@ -442,18 +492,19 @@ class Document:
         """The JSON text on lines, indented by two spaces."""
         if IS_NATIVE:
             return native.to_pretty(self._data)
-        return self._written(library.to_pretty).decode()
+        # It may be hundreds of times as long as the document, so its length is counted first.
+        return self._written(library.to_pretty, 0).decode()
 
     def __str__(self) -> str:
         """The JSON text without white space; members are sorted by their keys."""
         if IS_NATIVE:
             return native.to_string(self._data)
-        return self._written(library.to_string).decode()
+        return self._written(library.to_string, 2 * len(self._data) + 64).decode()
 
-    def _written(self, call: Any) -> bytes:
+    def _written(self, call: Any, guess: int) -> bytes:
         # A document of n bytes is less than n deep, so this depth excludes none.
         size = len(self._data)
-        return library.result_of(call, 2 * size + 64, self._data, size, size)
+        return library.result_of(call, guess, self._data, size, size)
 
     def __bytes__(self) -> bytes:
         return self._data
@@ -701,23 +752,29 @@ def _expect_names(names: Sequence[Any]) -> None:
 def _utf8_of_name(name: str) -> Optional[bytes]:
     """The name in UTF-8. None: it has half of a surrogate pair, so it is no member's."""
     try:
-        return name.encode()
+        return str.encode(name)
     except UnicodeEncodeError:
         return None
+
+
+def _names_of_keys(names: Sequence[Any]) -> Tuple[str, ...]:
+    """Those of the names that a key can have: one with half of a surrogate pair has no UTF-8."""
+    _expect_names(names)
+    return tuple(str.__str__(it) for it in names if _utf8_of_name(it) is not None)
 
 
 def _budget_of(steps: Optional[int]) -> int:
     """The number of steps that the library is given, of which the greatest is no limit."""
     if steps is None:
         return library.NO_LIMIT
-    steps = operator.index(steps)
+    steps = library.int_of(steps)
     if steps < 0:
         raise ValueError("the steps are to be 0 or more")
     return min(steps, library.NO_LIMIT)
 
 
 def _checked_depth(depth: int) -> int:
-    depth = operator.index(depth)
+    depth = library.int_of(depth)
     if not 0 <= depth <= DEPTH:
         raise ValueError(f"the depth is to be from 0 to {DEPTH}")
     return depth

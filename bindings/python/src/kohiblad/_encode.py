@@ -12,7 +12,8 @@ from typing import (Any, Callable, Dict, Generator, List, Optional, Sequence, Su
 
 from . import _library as library
 from . import _scalars as scalars
-from ._errors import FloatError, InvalidTextError, KohibladError
+from ._errors import FloatError, InvalidTextError, TooDeepError
+from ._expected import fault_of, refused_str
 
 if library.IS_NATIVE:
     from . import _native as native
@@ -37,9 +38,7 @@ def parse(text: Union[str, bytes], depth: int = DEPTH, exponents: bool = True) -
     try:
         return library.result_of(library.parse, 2 * len(data) + 64, data, len(data), depth,
                                  exponents)
-    except InvalidTextError as error:
-        if error.status != library.INVALID_JSON:
-            raise
+    except (InvalidTextError, TooDeepError):
         raise fault_of(data, depth, exponents) from None
 
 
@@ -48,17 +47,6 @@ def bytes_of_text(text: Union[str, bytes]) -> bytes:
     if isinstance(text, str):
         return _utf8(text)
     return library.bytes_of(text, "a JSON text is a str or bytes")
-
-
-def fault_of(text: bytes, depth: int, exponents: bool) -> KohibladError:
-    """Why a text is no JSON, and where."""
-    fault = library.text_fault(text, len(text), depth, exponents)
-    if fault.status not in (library.INVALID_JSON, library.BAD_NUMBER):
-        return library.error_of(fault.status)
-    name = library.status_name(fault.status)
-    error = InvalidTextError(fault.status, name, f"at byte {fault.offset}")
-    error.offset = fault.offset
-    return error
 
 
 def encode(value: Any, document_type: Type[SupportsBytes]) -> bytes:
@@ -151,9 +139,9 @@ def _document_of(encoded: Encoded) -> bytes:
 
 def _utf8(text: str) -> bytes:
     try:
-        return text.encode()
+        return str.encode(text)
     except UnicodeEncodeError as error:
-        raise library.error_of(library.INVALID_UTF8, str(error)) from None
+        raise refused_str(text, error) from None
 
 
 def _refuse_float(value: float) -> Encoded:

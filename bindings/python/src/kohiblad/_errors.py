@@ -6,8 +6,13 @@ class KohibladError(ValueError):
     """A call of the library was refused.
 
     ``status`` is the number of the header's ``enum kohiblad_status``, and ``name`` the library's
-    name for it, as ``InvalidJson``.
+    name for it, as ``InvalidJson``. For a document or a line of a file ``place`` names it, as
+    ``rows.ndjson: line 3``, and ``line`` is the number of the line.
     """
+    place = ""
+    line: Optional[int] = None
+    # In a text, where there is one.
+    offset: Optional[int] = None
 
     def __init__(self, status: int, name: str, message: str = "") -> None:
         super().__init__(status, name, message)
@@ -16,7 +21,7 @@ class KohibladError(ValueError):
         self.message = message
 
     def __str__(self) -> str:
-        return f"{self.name}: {self.message}" if self.message else self.name
+        return ": ".join(it for it in (self.place, self.name, self.message) if it)
 
 
 class InvalidDocumentError(KohibladError):
@@ -31,9 +36,8 @@ class InvalidTextError(KohibladError):
 
     ``name`` is ``InvalidUtf8``, ``InvalidJson`` or ``BadNumber``: the last if the text stops being
     JSON in such a number. ``offset`` is where it stops: how many bytes of it in UTF-8 begin some
-    JSON text. It is None for ``InvalidUtf8``.
+    JSON text, or for ``InvalidUtf8`` where the first character begins that is not UTF-8.
     """
-    offset: Optional[int] = None
 
 
 class PathError(KohibladError):
@@ -49,7 +53,10 @@ class ExtensionError(KohibladError):
 
 
 class TooDeepError(KohibladError):
-    """A text or a value nests deeper than is allowed."""
+    """A text or a value nests deeper than is allowed.
+
+    Of a text ``offset`` is the place of the first bracket that is too deep.
+    """
 
 
 class TooManyStepsError(KohibladError):

@@ -7,6 +7,7 @@ The extension module ``_native`` makes the calls of most programs in C, if it wa
 handed the addresses of the same exports.
 """
 import ctypes
+import operator
 import os
 import struct
 from ctypes import c_bool, c_char_p, c_int32, c_int64, c_size_t, c_uint32, c_uint64, c_void_p
@@ -40,6 +41,7 @@ TOO_MANY_STEPS = 18
 PUT = 0
 INSERT = 1
 REMOVE = 2
+CREATE = 3
 
 # Which members `pick` keeps.
 NAMED = 0
@@ -197,6 +199,8 @@ build_array = _export("build_array", c_uint32, *_ROWS, c_size_t, *_OUT)
 build_object = _export("build_object", c_uint32, *_ROWS, c_size_t, *_OUT)
 contains = _export("contains", Truth, *_BYTES, *_BYTES, c_size_t, c_size_t)
 exists = _export("exists", Truth, *_BYTES, *_BYTES, c_size_t)
+exists_any = _export("exists_any", Truth, *_BYTES, *_BYTES, c_size_t)
+exists_all = _export("exists_all", Truth, *_BYTES, *_BYTES, c_size_t)
 concat = _export("concat", c_uint32, *_BYTES, *_BYTES, c_size_t, *_OUT)
 merge_patch = _export("merge_patch", c_uint32, *_BYTES, *_BYTES, c_size_t, *_OUT)
 strip_nulls = _export("strip_nulls", c_uint32, *_BYTES, c_size_t, *_OUT)
@@ -223,10 +227,17 @@ _next_at = _export("next", c_uint32, *_INNER, c_void_p, c_void_p, c_void_p)
 _status_name = _export("status_name", c_uint32, c_uint32, *_OUT)
 
 
+def int_of(number: Any) -> int:
+    """A whole number as a plain int: that of a subclass is what its base type says."""
+    return int.__index__(operator.index(number))
+
+
 def bytes_of(data: Any, expected: str) -> bytes:
     """The bytes of an object that has some. TypeError, with what was expected: it has none."""
     if type(data) is bytes:
         return data
+    if isinstance(data, bytes):
+        return bytes.__getitem__(data, slice(None))
     try:
         return bytes(memoryview(data))
     except TypeError:
@@ -303,11 +314,8 @@ def path_of_text(document: bytes, text: bytes) -> bytes:
 
     PathError: the text is not a path.
     """
-    try:
-        return result_of(path_in, 2 * len(text) + 64, document, len(document), text, len(text),
-                         len(document))
-    except PathError as error:
-        raise error_of(error.status, "the text is not a path") from None
+    return result_of(path_in, 2 * len(text) + 64, document, len(document), text, len(text),
+                     len(document))
 
 
 def places_of(document: bytes, path: bytes) -> List[Tuple[int, int, int]]:
@@ -324,7 +332,7 @@ def places_of(document: bytes, path: bytes) -> List[Tuple[int, int, int]]:
         status = select(document, size, path, len(path), size, room.address, room.size // each,
                         room.length_address)
     if status != OK:
-        raise error_of(status, "the text is not a path" if status == OTHER_KIND else "")
+        raise error_of(status)
     found = ctypes.string_at(room.address, each * room.length.value)
     if room.size == _Room.USUAL_SIZE:
         _spare_rooms.append(room)

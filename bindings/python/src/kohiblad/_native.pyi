@@ -12,6 +12,13 @@ VERSION: str
 def bind(exports: Dict[str, int], objects: Dict[str, Any]) -> None:
     """Takes the addresses of the library's exports, and what the package has for the module."""
 
+def releases(exported: Dict[int, Any]) -> Tuple[int, int]:
+    """The addresses of functions that release a schema and an array of Arrow.
+
+    Each takes the number that is the struct's private data out of the dict, in any thread, and
+    keeps an exception that is raised.
+    """
+
 def parse(text: Union[str, bytes], depth: int, exponents: bool) -> Document: ...
 def loads(text: Union[str, bytes]) -> Value: ...
 def check(data: Union[bytes, bytearray, memoryview], depth: int) -> Document: ...

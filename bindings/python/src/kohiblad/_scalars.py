@@ -1,8 +1,7 @@
 """Scalars: numbers, and the extension values with their Python types."""
-import operator
 from datetime import date, datetime, timedelta, timezone
 from decimal import Context, Decimal
-from typing import NamedTuple, Union
+from typing import NamedTuple, Union, cast
 
 from . import _library as library
 from ._errors import NumberError
@@ -49,7 +48,6 @@ Scalar = Union[None, bool, int, Decimal, str, bytes, date, datetime, Date, Times
 _BINARY, _DATE, _TIMESTAMP, _TIMESTAMP_TZ, _INTERVAL = 0x00, 0x10, 0x20, 0x30, 0x40
 _EPOCH = datetime(1970, 1, 1)
 _MICRO = timedelta(microseconds=1)
-_SECOND = timedelta(seconds=1)
 # Wide enough for all digits of a number, and for 255 after its point.
 _EXACT = Context(prec=300)
 _MOST_SCALE = 255
@@ -121,11 +119,16 @@ def _timestamp_tz_of(micros: int, offset: int) -> Union[datetime, TimestampTz]:
     return local.replace(tzinfo=zone)
 
 
+# What a value is, its base type says: a subclass may answer each call otherwise, as a `Decimal`
+# with a `__str__` of its own. So the calls here are those of the base types.
+
 def text_of_int(value: int) -> str:
     """The JSON text of a whole number. NumberError: it has more than 128 bits."""
-    if not _LEAST <= value <= _MOST:
-        raise _number_error(f"a whole number of {value.bit_length()} bits; the most is 128, signed")
-    return int.__repr__(value)
+    number = int.__index__(value)
+    if not _LEAST <= number <= _MOST:
+        bits = number.bit_length()
+        raise _number_error(f"a whole number of {bits} bits; the most is 128, signed")
+    return int.__repr__(number)
 
 
 def text_of_decimal(value: Decimal) -> str:
@@ -133,17 +136,18 @@ def text_of_decimal(value: Decimal) -> str:
 
     NumberError: it is not finite, or has more than 128 bits or 255 digits after its point.
     """
-    text = str(value)
-    if len(text) < 39 and "E" not in text and value.is_finite():
+    text = Decimal.__str__(value)
+    if not Decimal.is_finite(value):
+        raise _number_error(f"{text} is no number of JSON")
+    if len(text) < 39 and "E" not in text.upper():
         return text
-    _, digits, exponent = value.as_tuple()
-    if not isinstance(exponent, int):
-        raise _number_error(f"{value} is no number of JSON")
+    _, digits, exponent = Decimal.as_tuple(value)
+    exponent = cast(int, exponent)
     if exponent < -_MOST_SCALE:
         raise _number_error(f"{-exponent} digits after the point; the most are {_MOST_SCALE}")
     # A number of 40 digits has more than 128 bits, so that a huge exponent is never written out.
-    is_short = not value or len(digits) + max(exponent, 0) < 40
-    text = format(value, "f") if is_short else ""
+    is_short = not any(digits) or len(digits) + max(exponent, 0) < 40
+    text = Decimal.__format__(value, "f") if is_short else ""
     if not text or not _LEAST <= int(text.replace(".", "")) <= _MOST:
         raise _number_error("a decimal of more than 128 bits without its point")
     return text
@@ -159,7 +163,7 @@ def document_of_bytes(value: Union[bytes, bytearray, memoryview]) -> bytes:
 
 
 def document_of_date(value: date) -> bytes:
-    return _extension(_DATE, (value - _EPOCH.date()).days)
+    return _extension(_DATE, date.toordinal(value) - _EPOCH.toordinal())
 
 
 def document_of_datetime(value: datetime) -> bytes:
@@ -167,13 +171,15 @@ def document_of_datetime(value: datetime) -> bytes:
 
     ValueError: the zone's offset is no whole number of seconds.
     """
-    offset = value.utcoffset()
-    micros = (value.replace(tzinfo=None) - _EPOCH) // _MICRO
+    offset = datetime.utcoffset(value)
+    local = datetime.combine(date.fromordinal(date.toordinal(value)), datetime.time(value))
+    micros = (local - _EPOCH) // _MICRO
     if offset is None:
         return _extension(_TIMESTAMP, micros)
-    if offset.microseconds:
+    seconds, rest = divmod(timedelta.__floordiv__(offset, _MICRO), 10**6)
+    if rest:
         raise ValueError(f"the zone's offset {offset} is no whole number of seconds")
-    return _extension(_TIMESTAMP_TZ, micros - offset // _MICRO, seconds=offset // _SECOND)
+    return _extension(_TIMESTAMP_TZ, micros - seconds * 10**6, seconds=seconds)
 
 
 def document_of_raw_date(value: Date) -> bytes:
@@ -201,7 +207,7 @@ def document_of_opaque(value: Opaque) -> bytes:
 
 def _extension(tag: int, value: int = 0, months: int = 0, days: int = 0, seconds: int = 0,
                data: bytes = b"") -> bytes:
-    tag, value, months, days, seconds = map(operator.index, (tag, value, months, days, seconds))
+    tag, value, months, days, seconds = map(library.int_of, (tag, value, months, days, seconds))
     for field, bits in ((tag, 33), (value, 64), (months, 32), (days, 32), (seconds, 32)):
         if not -(1 << bits - 1) <= field < 1 << bits - 1:
             raise library.error_of(library.INVALID_JSONB_EXTENSION, f"{field} has over {bits} bits")

@@ -16,6 +16,8 @@ of the types Binary and LargeBinary, also a slice.
 import array
 import ctypes
 import itertools
+import operator
+import sys
 import weakref
 from ctypes import POINTER, byref, c_char_p, c_int32, c_int64, c_size_t, c_void_p
 from typing import (Any, Dict, Iterable, Iterator, List, Optional, Protocol, Sequence, Tuple, Type,
@@ -25,11 +27,16 @@ from . import _library as library
 from ._document import Document
 from ._encode import DEPTH
 
+if library.IS_NATIVE:
+    from . import _native as native
+
 __all__ = ["Column"]
 
 EXTENSION_NAME = b"kohiblad"
 _LARGE_BINARY, _BINARY = b"Z", b"z"
 _NULLABLE = 2
+# The offsets of so many rows, and one more, have addresses.
+_MOST_ROWS = sys.maxsize // 16
 _SCHEMA_NAME, _ARRAY_NAME = b"arrow_schema", b"arrow_array"
 
 
@@ -58,9 +65,8 @@ class HasArrow(Protocol):
     def __arrow_c_array__(self, requested_schema: Any = None) -> Tuple[Any, Any]: ...
 
 
-# What others still use, by the numbers that they have as private data; and structs, by addresses.
+# What others still use, by the numbers that they have as private data.
 _exported: Dict[int, Tuple[Any, ...]] = {}
-_structs: Dict[int, Any] = {}
 _numbers = itertools.count(1)
 
 
@@ -79,41 +85,56 @@ def _kept(function: Any) -> Any:
     return function
 
 
-_release_schema = _releaser(_Schema)
-_release_array = _releaser(_Array)
+if library.IS_NATIVE:
+    _release_schema, _release_array = map(_Release, native.releases(_exported))
+else:
+    _release_schema, _release_array = _releaser(_Schema), _releaser(_Array)
 
-_Destructor = ctypes.PYFUNCTYPE(None, c_void_p)
 _new_capsule = ctypes.PYFUNCTYPE(ctypes.py_object, c_void_p, c_char_p, c_void_p)(
     ("PyCapsule_New", ctypes.pythonapi))
 _pointer_of = ctypes.PYFUNCTYPE(c_void_p, ctypes.py_object, c_char_p)(
     ("PyCapsule_GetPointer", ctypes.pythonapi))
-# The same of a capsule that is being freed, which must not be held once more.
-_pointer_of_freed = ctypes.PYFUNCTYPE(c_void_p, c_void_p, c_char_p)(
-    ("PyCapsule_GetPointer", ctypes.pythonapi))
+
+# Capsules that were handed out, with their structs. They have no destructor: one by ctypes would
+# run Python code while an exception is raised that ends the use of the capsule, and lose it.
+_handed_out: List[Tuple[Any, Any]] = []
+# They are looked through each time that a column is made or handed out while they are so few, and
+# else when they are twice as many as were in use.
+_FEW = 64
+_bound = _FEW
 
 
-def _destructor(struct: _Struct, name: bytes) -> Any:
-    """A C function that releases the struct of a capsule, unless a consumer took it."""
-    def destroy(capsule: int) -> None:
-        address = _pointer_of_freed(capsule, name)
-        it = struct.from_address(address)
-        if it.release:
-            it.release(address)
-        _structs.pop(address, None)
-    return _kept(_Destructor(destroy))
+def _release_unused() -> None:
+    """Releases the structs of capsules that nobody has any more, unless a consumer took them."""
+    global _bound
+    for entry in list(_handed_out):
+        # One reference is that of the entry, and one that of the call.
+        if sys.getrefcount(entry[0]) > 2:
+            continue
+        try:
+            _handed_out.remove(entry)
+        except ValueError:
+            continue  # Another thread released it.
+        if entry[1].release:
+            entry[1].release(ctypes.addressof(entry[1]))
+    _bound = max(_FEW, 2 * len(_handed_out))
 
 
-_destroy_schema = _destructor(_Schema, _SCHEMA_NAME)
-_destroy_array = _destructor(_Array, _ARRAY_NAME)
+def _release_some() -> None:
+    if len(_handed_out) < _FEW or len(_handed_out) > _bound:
+        _release_unused()
+
+
 # The order of the rows, by addresses.
 _sort = library._export("sort", ctypes.c_uint32, c_void_p, c_size_t, c_void_p, c_size_t,
                         c_size_t, c_void_p, c_size_t)
 
 
-def _capsule(it: Any, name: bytes, destroy: Any) -> Any:
-    address = ctypes.addressof(it)
-    _structs[address] = it
-    return _new_capsule(address, name, ctypes.cast(destroy, c_void_p))
+def _capsule(it: Any, name: bytes) -> Any:
+    _release_some()
+    capsule = _new_capsule(ctypes.addressof(it), name, None)
+    _handed_out.append((capsule, it))
+    return capsule
 
 
 def _metadata() -> bytes:
@@ -142,6 +163,7 @@ class Column(Sequence[Optional[Document]]):
     @classmethod
     def of(cls, documents: Iterable[Optional[Document]]) -> "Column":
         """The column of documents; None is a row that is missing."""
+        _release_some()
         data, offsets, validity = bytearray(), array.array("q", [0]), bytearray()
         for row, document in enumerate(documents):
             if row % 8 == 0:
@@ -173,32 +195,32 @@ class Column(Sequence[Optional[Document]]):
     def from_arrow(cls, source: HasArrow) -> "Column":
         """The column of an array of Arrow, whose memory it keeps until it is freed.
 
-        TypeError: the array is neither Binary nor LargeBinary. Offsets of 32 bits are widened.
+        TypeError: the array is neither Binary nor LargeBinary. ValueError: it was released before,
+        or is no such array: it has other parts, lacks a buffer that its rows need, or its offsets
+        do not ascend. What is refused is left to the source. Offsets of 32 bits are widened. The
+        interface does not say how long buffers are, so that they are as long as the array says is
+        the source's word.
         """
+        _release_some()
         schema_capsule, array_capsule = source.__arrow_c_array__()
         schema = _Schema.from_address(_pointer_of(schema_capsule, _SCHEMA_NAME))
+        given = _Array.from_address(_pointer_of(array_capsule, _ARRAY_NAME))
+        if not schema.release or not given.release:
+            raise ValueError("the array was released, or taken by another")
         if schema.format not in (_LARGE_BINARY, _BINARY):
             raise TypeError(f"a column of documents is binary, not of format {schema.format!r}")
+        _check_parts(schema, given)
+        offsets, kept = _offsets_of(given, schema.format == _BINARY)
+        validity, _, data = given.buffers[:3]
         taken = _Array()
-        address = _pointer_of(array_capsule, _ARRAY_NAME)
-        ctypes.memmove(byref(taken), address, ctypes.sizeof(_Array))
-        _Array.from_address(address).release = _Release(0)
-        column = cls._of_taken(taken, schema.format == _BINARY)
+        # An empty array needs no memory, and without data no row has a byte.
+        column = cls._new(given.length, offsets, data or offsets,
+                          validity if given.null_count else None,
+                          given.offset if given.length else 0, (taken, kept))
+        ctypes.memmove(byref(taken), byref(given), ctypes.sizeof(_Array))
+        given.release = _Release(0)
         weakref.finalize(column, _end, taken)
         return column
-
-    @classmethod
-    def _of_taken(cls, taken: Any, is_narrow: bool) -> "Column":
-        length, first = taken.length, taken.offset
-        validity, offsets, data = (taken.buffers[it] for it in range(3))
-        kept: Tuple[Any, ...] = (taken,)
-        if is_narrow or offsets is None:
-            narrow = (c_int32 * (first + length + 1)).from_address(offsets) if offsets else [0]
-            wide = array.array("q", narrow)
-            kept, offsets = (taken, wide), wide.buffer_info()[0]
-        if not taken.null_count:
-            validity = None
-        return cls._new(length, offsets, data or offsets, validity, first, kept)
 
     def __len__(self) -> int:
         return self._length
@@ -255,7 +277,7 @@ class Column(Sequence[Optional[Document]]):
         schema = _Schema(_LARGE_BINARY, b"", ctypes.addressof(metadata), _NULLABLE, 0, None, None,
                          _release_schema, number)
         _exported[number] = (metadata,)
-        return _capsule(schema, _SCHEMA_NAME, _destroy_schema)
+        return _capsule(schema, _SCHEMA_NAME)
 
     def __arrow_c_array__(self, requested_schema: Any = None) -> Tuple[Any, Any]:
         """Capsules of the type and of the array, which has this column's memory.
@@ -268,7 +290,45 @@ class Column(Sequence[Optional[Document]]):
         it = _Array(self._length, nulls, self._first, 3, 0, buffers, None, None, _release_array,
                     number)
         _exported[number] = (self, buffers)
-        return self.__arrow_c_schema__(), _capsule(it, _ARRAY_NAME, _destroy_array)
+        return self.__arrow_c_schema__(), _capsule(it, _ARRAY_NAME)
+
+
+def _check_parts(schema: Any, given: Any) -> None:
+    """ValueError: an array of binary rows has not these parts."""
+    has_others = schema.n_children or schema.dictionary or given.n_children or given.dictionary
+    if has_others or given.n_buffers != 3 or not given.buffers:
+        raise ValueError("an array of binary rows has three buffers and no other part")
+    if not 0 <= given.length <= _MOST_ROWS or not 0 <= given.offset <= _MOST_ROWS - given.length:
+        raise ValueError(f"no array has {given.length} rows from the row {given.offset} on")
+    if not -1 <= given.null_count <= given.length:
+        raise ValueError(f"of {given.length} rows {given.null_count} cannot be missing")
+    if given.null_count > 0 and not given.buffers[0]:
+        raise ValueError("the array does not say which rows are missing")
+
+
+def _offsets_of(given: Any, is_narrow: bool) -> Tuple[int, Any]:
+    """The address of the offsets as words of 64 bits, and what keeps these words.
+
+    ValueError: they are missing, they do not ascend, or what they point at is missing.
+    """
+    count, address = given.offset + given.length + 1, given.buffers[1]
+    if not given.length:
+        empty = array.array("q", [0])
+        return empty.buffer_info()[0], empty
+    if not address:
+        raise ValueError("the array has rows and no offsets")
+    word: Any = c_int32 if is_narrow else c_int64
+    words: Any = memoryview((word * count).from_address(address))
+    offsets = words.cast("B").cast("i" if is_narrow else "q")
+    used = offsets[given.offset:]
+    if used[0] < 0 or not all(map(operator.le, used, used[1:])):
+        raise ValueError("the offsets of the array do not ascend")
+    if used[0] < used[-1] and not given.buffers[2]:
+        raise ValueError("the array has rows and no data")
+    if not is_narrow:
+        return address, None
+    wide = array.array("q", offsets)
+    return wide.buffer_info()[0], wide
 
 
 def _end(taken: Any) -> None:

@@ -159,7 +159,9 @@ uint32_t call_into(struct state *state, enum call call, const uint8_t *bytes, si
 {
     uint32_t status = KOHIBLAD_NO_ROOM;
     room->bytes = NULL;
-    room->length = 2 * size + 64;
+    /* An indented text may be hundreds of times as long as its document: its length is asked for
+     * first. */
+    room->length = call == CALL_TO_PRETTY ? 0 : 2 * size + 64;
     *failed = false;
     while (status == KOHIBLAD_NO_ROOM) {
         if (!open_room(room, room->length)) {
@@ -208,7 +210,8 @@ PyObject *document_of_room(struct state *state, struct room *room)
 static void refuse_text(struct state *state, const struct input *text, size_t depth,
                         bool exponents, uint32_t status)
 {
-    if (status != KOHIBLAD_INVALID_JSON) {
+    if (status != KOHIBLAD_INVALID_JSON && status != KOHIBLAD_INVALID_UTF8
+        && status != KOHIBLAD_TOO_DEEP) {
         raise_status(state, status);
         return;
     }
@@ -387,8 +390,8 @@ PyObject *native_to_string(PyObject *module, PyObject *data)
 static PyMethodDef functions[] = {
     FAST(bind), FAST(check), FAST(concat), FAST(contains), ONE(count), ONE(dumps), FAST(edit),
     FAST(item), ONE(key), ONE(kind), ONE(loads), FAST(member), FAST(merge_patch), ONE(names),
-    ONE(of), FAST(of_extension), ONE(pairs), FAST(parse), FAST(select), ONE(strip_nulls),
-    ONE(to_canonical), ONE(to_pretty), ONE(to_string), ONE(value), ONE(values),
+    ONE(of), FAST(of_extension), ONE(pairs), FAST(parse), ONE(releases), FAST(select),
+    ONE(strip_nulls), ONE(to_canonical), ONE(to_pretty), ONE(to_string), ONE(value), ONE(values),
     { NULL, NULL, 0, NULL },
 };
 

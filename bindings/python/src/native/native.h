@@ -117,6 +117,13 @@ PyObject *bytes_of_room(struct room *room);
 PyObject *str_of_room(struct room *room);
 PyObject *document_of_room(struct state *state, struct room *room);
 
+/* Counts a value in a loop over many, and lets Python handle signals from time to time. False with
+ * an exception: a handler raised it, as that of an interrupt from the keyboard does. */
+static inline bool may_go_on(size_t *count)
+{
+    return ++*count % 4096 || PyErr_CheckSignals() == 0;
+}
+
 /* Raises the exception of a status, and returns NULL. */
 PyObject *raise_status(struct state *state, uint32_t status);
 /* Raises an exception that a function of the package returns, and returns NULL. */
@@ -156,6 +163,7 @@ PyObject *native_of(PyObject *module, PyObject *value);
 PyObject *native_of_extension(PyObject *module, PyObject *const *arguments, Py_ssize_t count);
 PyObject *native_pairs(PyObject *module, PyObject *data);
 PyObject *native_parse(PyObject *module, PyObject *const *arguments, Py_ssize_t count);
+PyObject *native_releases(PyObject *module, PyObject *exported);
 PyObject *native_select(PyObject *module, PyObject *const *arguments, Py_ssize_t count);
 PyObject *native_strip_nulls(PyObject *module, PyObject *data);
 PyObject *native_to_canonical(PyObject *module, PyObject *data);

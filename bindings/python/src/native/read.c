@@ -250,8 +250,9 @@ PyObject *value_of(struct state *state, const uint8_t *bytes, size_t size)
     levels.count = 0;
     levels.room = NEAR_LEVELS;
     PyObject *value = push_level(state, &levels, bytes, size);
+    size_t count = 0;
     while (value && levels.count)
-        if (!read_child(state, &levels)) Py_CLEAR(value);
+        if (!read_child(state, &levels) || !may_go_on(&count)) Py_CLEAR(value);
     while (levels.count)
         Py_DECREF(levels.at[--levels.count].made);
     if (levels.at != levels.near) PyMem_Free(levels.at);
@@ -399,8 +400,9 @@ PyObject *native_select(PyObject *module, PyObject *const *arguments, Py_ssize_t
     Py_DECREF(path.owner);
     if (!is_found) return NULL;
     PyObject *list = PyList_New((Py_ssize_t)places.count);
+    size_t seen = 0;
     for (size_t i = 0; list && i < places.count; i++) {
-        PyObject *child = child_of(state, input.at, &places.at[i]);
+        PyObject *child = may_go_on(&seen) ? child_of(state, input.at, &places.at[i]) : NULL;
         if (child) PyList_SET_ITEM(list, (Py_ssize_t)i, child);
         else Py_CLEAR(list);
     }

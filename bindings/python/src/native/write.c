@@ -212,6 +212,7 @@ struct mark {
 /* What is being written. */
 struct writing {
     struct state *state;
+    size_t values; /* that were seen so far */
     struct written text;
     struct opened *opened; /* the containers, the innermost last */
     size_t count, room;
@@ -367,7 +368,7 @@ static PyObject *build(struct writing *writing)
     if (!is_fit) PyErr_NoMemory();
     else rows.offsets[0] = 0;
     for (size_t i = opened->first; is_fit && i < writing->mark_count; i++)
-        is_fit = write_rows(writing, &rows, &writing->marks[i]);
+        is_fit = may_go_on(&writing->values) && write_rows(writing, &rows, &writing->marks[i]);
     PyObject *built = NULL;
     size_t length = rows.bytes.size + 4 * rows.count + 8;
     uint32_t status = KOHIBLAD_NO_ROOM;
@@ -476,7 +477,8 @@ static enum outcome write_value(struct writing *writing, PyObject *value)
     if (writing->has_marks && !push_mark(writing, NULL)) return FAILED;
     Py_INCREF(value);
     while (outcome == OPENED) {
-        outcome = write_scalar(writing->state, &writing->text, value);
+        outcome = may_go_on(&writing->values)
+            ? write_scalar(writing->state, &writing->text, value) : FAILED;
         if (outcome == OPENED)
             outcome = open_container(writing, value);
         else if (outcome == WRITTEN && writing->has_marks)
@@ -494,6 +496,7 @@ static enum outcome document_into(struct state *state, PyObject *value, struct r
 {
     struct writing writing;
     writing.state = state;
+    writing.values = 0;
     writing.text.at = writing.text.near;
     writing.text.size = 0;
     writing.text.room = sizeof writing.text.near;

@@ -1,0 +1,66 @@
+/* The ends of what Arrow's C data interface hands out. A consumer may call them in any thread, and
+ * while an exception is raised that Python code, by ctypes, would lose. */
+#include "native.h"
+
+/* As the interface has them. */
+struct arrow_schema {
+    const char *format, *name, *metadata;
+    int64_t flags, n_children;
+    void *children, *dictionary;
+    void (*release)(struct arrow_schema *);
+    void *private_data;
+};
+
+struct arrow_array {
+    int64_t length, null_count, offset, n_buffers, n_children;
+    void *buffers, *children, *dictionary;
+    void (*release)(struct arrow_array *);
+    void *private_data;
+};
+
+/* The dict of the package in which what others use is kept, by numbers. */
+static PyObject *exported;
+
+/* Lets go of what is kept by a number. After Python has ended there is nothing. */
+static void let_go(void *number)
+{
+    if (!Py_IsInitialized()) return;
+    PyGILState_STATE lock = PyGILState_Ensure();
+    PyObject *type, *value, *traceback;
+    PyErr_Fetch(&type, &value, &traceback);
+    PyObject *key = PyLong_FromVoidPtr(number);
+    if (!key || PyDict_DelItem(exported, key)) PyErr_Clear();
+    Py_XDECREF(key);
+    PyErr_Restore(type, value, traceback);
+    PyGILState_Release(lock);
+}
+
+static void release_schema(struct arrow_schema *it)
+{
+    it->release = NULL;
+    let_go(it->private_data);
+}
+
+static void release_array(struct arrow_array *it)
+{
+    it->release = NULL;
+    let_go(it->private_data);
+}
+
+/* releases(exported): the addresses of both functions, which take keys out of that dict. */
+PyObject *native_releases(PyObject *module, PyObject *given)
+{
+    (void)module;
+    if (!PyDict_CheckExact(given)) {
+        PyErr_SetString(PyExc_TypeError, "a dict is needed");
+        return NULL;
+    }
+    Py_XDECREF(exported);
+    exported = Py_NewRef(given);
+    PyObject *schema = PyLong_FromVoidPtr((void *)(uintptr_t)release_schema);
+    PyObject *array = PyLong_FromVoidPtr((void *)(uintptr_t)release_array);
+    PyObject *both = schema && array ? PyTuple_Pack(2, schema, array) : NULL;
+    Py_XDECREF(schema);
+    Py_XDECREF(array);
+    return both;
+}
