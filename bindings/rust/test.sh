@@ -48,6 +48,11 @@ need gcc "${CC:-cc}" --version
 need pkg-config "${PKG_CONFIG:-pkg-config}" --version
 "${PKG_CONFIG:-pkg-config}" --exists 'kohiblad >= 0.6' || fail 'pkg-config finds no kohiblad >= 0.6'
 cargo=(--offline --locked --quiet)
+for name_of_stack in CALL_STACK LEVEL_STACK EDIT_LEVEL_STACK; do
+    bytes=$(sed -n "s/^pub const $name_of_stack: usize = \([0-9]*\);$/\1/p" src/lib.rs)
+    grep -q "^#define KOHIBLAD_$name_of_stack $bytes$" ../kohiblad.h ||
+        fail "$name_of_stack is not that of kohiblad.h"
+done
 
 if cargo fmt --version > "$scratch/found" 2>&1; then
     run cargo fmt --check

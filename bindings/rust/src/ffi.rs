@@ -116,6 +116,9 @@ type OfTwo = unsafe extern "C" fn(
     *mut usize,
 ) -> u32;
 
+/// An export that says whether something is true of a document and other bytes, within a depth.
+type Asking = unsafe extern "C" fn(*const u8, usize, *const u8, usize, usize) -> Truth;
+
 /// An export that builds a document of rows, within a depth.
 type Building = unsafe extern "C" fn(
     *const u8,
@@ -324,6 +327,20 @@ extern "C" {
         size: usize,
         key: *const u8,
         key_size: usize,
+        depth: usize,
+    ) -> Truth;
+    fn kohiblad_exists_any(
+        bytes: *const u8,
+        size: usize,
+        names: *const u8,
+        names_size: usize,
+        depth: usize,
+    ) -> Truth;
+    fn kohiblad_exists_all(
+        bytes: *const u8,
+        size: usize,
+        names: *const u8,
+        names_size: usize,
         depth: usize,
     ) -> Truth;
     fn kohiblad_concat(
@@ -990,13 +1007,27 @@ pub(crate) fn contains(left: &[u8], right: &[u8], steps: usize) -> Result<bool, 
 }
 
 pub(crate) fn exists(bytes: &[u8], key: &str) -> Result<bool, Error> {
-    // SAFETY: as above, of the bytes and the key.
+    asked(kohiblad_exists, bytes, key.as_bytes())
+}
+
+/// Whether one of the names in a document of them is a key.
+pub(crate) fn exists_any(bytes: &[u8], names: &[u8]) -> Result<bool, Error> {
+    asked(kohiblad_exists_any, bytes, names)
+}
+
+/// Whether all of the names in a document of them are keys.
+pub(crate) fn exists_all(bytes: &[u8], names: &[u8]) -> Result<bool, Error> {
+    asked(kohiblad_exists_all, bytes, names)
+}
+
+fn asked(export: Asking, left: &[u8], right: &[u8]) -> Result<bool, Error> {
+    // SAFETY: as above, of both.
     let truth = unsafe {
-        kohiblad_exists(
-            bytes.as_ptr(),
-            bytes.len(),
-            key.as_ptr(),
-            key.len(),
+        export(
+            left.as_ptr(),
+            left.len(),
+            right.as_ptr(),
+            right.len(),
             MAX_DEPTH,
         )
     };
@@ -1077,18 +1108,7 @@ pub(crate) fn array_except(left: &[u8], right: &[u8]) -> Result<Vec<u8>, Error> 
 }
 
 pub(crate) fn array_overlap(left: &[u8], right: &[u8]) -> Result<bool, Error> {
-    // SAFETY: as above, of both.
-    let truth = unsafe {
-        kohiblad_array_overlap(
-            left.as_ptr(),
-            left.len(),
-            right.as_ptr(),
-            right.len(),
-            MAX_DEPTH,
-        )
-    };
-    tested(truth.status)?;
-    Ok(truth.value != 0)
+    asked(kohiblad_array_overlap, left, right)
 }
 
 /// What is done at the end of a path.

@@ -70,9 +70,33 @@ pub use raw::RawJsonb;
 /// How deep a document or a text may nest. A scalar has depth 0, an array or object one more than
 /// its deepest child, and at least 1.
 ///
-/// Calls on documents of this depth need less than 1,010 KB of stack, and those that change them
-/// less than 1.9 MB. A parse needs none for the depth of its text.
+/// Documents of this depth fit a thread of 2 MiB, which is what Rust gives a thread: calls on them
+/// take at most 1,008 KB of its stack, and [`set`](RawJsonb::set), [`insert`](RawJsonb::insert) and
+/// [`remove`](RawJsonb::remove) 2,008 KB, which leaves 40 KB for the frames of the program. Where
+/// less is left, give [`RawJsonb::within`] and [`OwnedJsonb::parse`] the depth that fits: for each
+/// level calls take [`LEVEL_STACK`], or [`EDIT_LEVEL_STACK`], and beside them [`CALL_STACK`].
+///
+/// ```
+/// use kohiblad::{CALL_STACK, EDIT_LEVEL_STACK, LEVEL_STACK, MAX_DEPTH};
+///
+/// assert!(CALL_STACK + MAX_DEPTH * LEVEL_STACK < 1 << 20);
+/// assert!(CALL_STACK + MAX_DEPTH * EDIT_LEVEL_STACK < 2 << 20);
+/// let left = 512 << 10;
+/// assert_eq!((left - CALL_STACK) / LEVEL_STACK, 504);
+/// assert_eq!((left - CALL_STACK) / EDIT_LEVEL_STACK, 252);
+/// ```
 pub const MAX_DEPTH: usize = 1000;
+
+/// How many bytes of stack a call takes at most, beside those for each level of its documents. A
+/// parse takes no more than this.
+pub const CALL_STACK: usize = 8192;
+
+/// How many bytes of stack a call takes at most for each level that its documents nest.
+pub const LEVEL_STACK: usize = 1024;
+
+/// The same of [`RawJsonb::set`], [`RawJsonb::insert`] and [`RawJsonb::remove`], for each level of
+/// the document and of the result.
+pub const EDIT_LEVEL_STACK: usize = 2048;
 
 /// The version of the library: millions, thousands and ones. 7000 is 0.7.0.
 ///

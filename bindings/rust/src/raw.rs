@@ -354,9 +354,10 @@ impl<'a> RawJsonb<'a> {
         known(ffi::contains(self.bytes, other.bytes, usize::MAX))
     }
 
-    /// The same, or `None` if it takes more than so many steps, one for each pair of values that
-    /// are compared and each member that is passed over. The product of the numbers of values and
-    /// keys in both is always enough.
+    /// The same, or `None` if it takes more than so many steps: one for each pair of values that
+    /// are compared, each byte of two texts of one length, and each member that is passed on the
+    /// way to a key, with each byte of its own. Enough is the product of what both documents have
+    /// of values, keys and bytes in texts, keys and binary values.
     ///
     /// ```
     /// use kohiblad::OwnedJsonb;
@@ -384,6 +385,41 @@ impl<'a> RawJsonb<'a> {
     /// ```
     pub fn exists(&self, key: &str) -> bool {
         known(ffi::exists(self.bytes, key))
+    }
+
+    /// Whether one of several keys [`exists`](Self::exists), in one walk; of no keys none does.
+    ///
+    /// ```
+    /// let row = kohiblad::OwnedJsonb::parse(r#"{"id": 7, "city": "Oslo"}"#, 64)?;
+    /// assert!(row.as_raw().exists_any(["size", "city"])?);
+    /// assert!(!row.as_raw().exists_any(["size", "Oslo"])?);
+    /// # Ok::<(), kohiblad::Error>(())
+    /// ```
+    ///
+    /// # Errors
+    ///
+    /// - [`Error::InvalidJsonb`]: the keys are past a limit of the format.
+    /// - [`Error::OutOfMemory`]: an allocation failed.
+    pub fn exists_any<'n>(&self, keys: impl IntoIterator<Item = &'n str>) -> Result<bool, Error> {
+        let keys = OwnedJsonb::array_of(keys)?;
+        ffi::exists_any(self.bytes, keys.as_bytes())
+    }
+
+    /// Whether all of several keys [`exist`](Self::exists), in one walk; of no keys all do.
+    ///
+    /// ```
+    /// let row = kohiblad::OwnedJsonb::parse(r#"{"id": 7, "city": "Oslo"}"#, 64)?;
+    /// assert!(row.as_raw().exists_all(["city", "id"])?);
+    /// assert!(!row.as_raw().exists_all(["city", "size"])?);
+    /// # Ok::<(), kohiblad::Error>(())
+    /// ```
+    ///
+    /// # Errors
+    ///
+    /// Those of [`exists_any`](Self::exists_any).
+    pub fn exists_all<'n>(&self, keys: impl IntoIterator<Item = &'n str>) -> Result<bool, Error> {
+        let keys = OwnedJsonb::array_of(keys)?;
+        ffi::exists_all(self.bytes, keys.as_bytes())
     }
 
     /// The document of both put together: of two objects all members, with the value of `other` for

@@ -1,6 +1,8 @@
 //! Deep nesting, in threads with the stack that `std::thread` gives, which is where tests run.
 
-use kohiblad::{bytes, Error, OwnedJsonb, RawJsonb, MAX_DEPTH};
+use kohiblad::{bytes, Error, OwnedJsonb, Path, RawJsonb, CALL_STACK, MAX_DEPTH};
+use kohiblad::{EDIT_LEVEL_STACK, LEVEL_STACK};
+use std::thread;
 
 /// The text of arrays, or of objects, inside one another.
 fn text(levels: usize, open: &str, close: &str) -> String {
@@ -32,6 +34,78 @@ fn the_greatest_depth_fits_the_stack_of_a_thread() {
         assert!(raw.is_canonical());
         assert!(raw.key().is_ok());
         assert_eq!(bytes::sorted_order([raw, raw]), Ok(vec![0, 1]));
+    }
+}
+
+/// What the tests take of a stack beside the calls.
+const OWN_FRAMES: usize = 64 << 10;
+
+/// Runs in a thread that has so much stack, and for this depth.
+fn in_thread(stack: usize, depth: usize, run: fn(usize)) {
+    let thread = thread::Builder::new().stack_size(stack);
+    thread.spawn(move || run(depth)).unwrap().join().unwrap();
+}
+
+/// Each call that recurses and changes nothing at a path, on documents of a depth.
+fn read(depth: usize) {
+    for (open, close) in [("[", "]"), ("{\"a\":", "}"), ("[{\"a\":", "}]")] {
+        let text = text(depth / open.matches(['[', '{']).count(), open, close);
+        let document = OwnedJsonb::parse(&text, depth).unwrap();
+        let raw = RawJsonb::within(document.as_bytes(), depth).unwrap();
+        let other = OwnedJsonb::parse(text.replace('0', "0.0"), depth).unwrap();
+        let other = other.as_raw();
+        assert_eq!(raw.to_string(), text);
+        assert!(raw.pretty_text().is_ok() && raw.key().is_ok() && raw.is_canonical());
+        assert_eq!(raw, other);
+        assert!(raw.contains(other) && !raw.exists("b"));
+        assert_eq!(raw.exists_any(["b", "c"]), Ok(false));
+        assert_eq!(raw.to_canonical().unwrap(), document);
+        assert_eq!(raw.index_keys().unwrap().len(), 1);
+        assert_eq!(raw.strip_nulls().unwrap(), document);
+        assert_eq!(raw.merge_patch(other).unwrap(), document);
+        assert_eq!(raw.array_overlap(other), Ok(true));
+        assert!(raw.concat(other).is_ok());
+        assert_eq!(bytes::sorted_order([raw, other]), Ok(vec![0, 1]));
+        assert!(bytes::compare(raw.as_bytes(), other.as_bytes()).is_eq());
+    }
+}
+
+/// The calls that change a document of a depth at a path: above it, at its bottom and half-way.
+fn change(depth: usize) {
+    for (open, close) in [("[", "]"), ("{\"a\":", "}")] {
+        let document = OwnedJsonb::parse(text(depth, open, close), depth).unwrap();
+        let raw = document.as_raw();
+        for steps in [1, depth / 2, depth] {
+            let path = (0..steps).fold(Path::new(), |path, _| match open {
+                "[" => path.index(0),
+                _ => path.key("a"),
+            });
+            let value = OwnedJsonb::parse(text(depth - steps, open, close), depth).unwrap();
+            assert_eq!(raw.set(&path, &value).unwrap(), document);
+            assert!(raw.insert(&path, &value).is_ok());
+            assert!(raw.remove(&path).is_ok());
+        }
+    }
+}
+
+#[test]
+fn the_greatest_depth_fits_2_mib() {
+    in_thread(2 << 20, MAX_DEPTH, read);
+    in_thread(2 << 20, MAX_DEPTH, change);
+}
+
+#[test]
+fn less_stack_holds_the_depths_of_the_page() {
+    for (left, depth, depth_of_changes) in [
+        (1 << 20, 1000, 508),
+        (512 << 10, 504, 252),
+        (256 << 10, 248, 124),
+        (64 << 10, 56, 28),
+    ] {
+        assert_eq!(MAX_DEPTH.min((left - CALL_STACK) / LEVEL_STACK), depth);
+        assert_eq!((left - CALL_STACK) / EDIT_LEVEL_STACK, depth_of_changes);
+        in_thread(left + OWN_FRAMES, depth, read);
+        in_thread(left + OWN_FRAMES, depth_of_changes, change);
     }
 }
 

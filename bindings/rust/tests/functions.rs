@@ -46,6 +46,34 @@ fn existence_is_of_keys_and_texts() {
     assert!(exists(r#"{"":0,"é":1}"#, "é") && exists(r#"{"":0}"#, ""));
 }
 
+#[test]
+fn some_and_all_of_several_keys() {
+    let names = ["", "a", "b", "é", "zz"];
+    for text in [
+        r#"{"a":1,"b":"zz","é":[]}"#,
+        r#"["a",["b"],"",1,"a"]"#,
+        r#""b""#,
+        "{}",
+        "null",
+        r#"{"":0,"a":0,"b":0,"é":0,"zz":0}"#,
+    ] {
+        let document = parsed(text);
+        let row = document.as_raw();
+        for chosen in 0..1 << names.len() {
+            let some = || {
+                let asked = names.iter().enumerate();
+                let asked = asked.filter(move |(place, _)| chosen >> place & 1 == 1);
+                asked.map(|(_, name)| *name).rev()
+            };
+            let any = some().any(|name| row.exists(name));
+            let all = some().all(|name| row.exists(name));
+            assert_eq!(row.exists_any(some()), Ok(any), "{text} {chosen}");
+            assert_eq!(row.exists_all(some()), Ok(all), "{text} {chosen}");
+            assert_eq!(row.exists_all(some().chain(some())), Ok(all));
+        }
+    }
+}
+
 fn text_of(node: Node<'_>) -> String {
     OwnedJsonb::of(node).unwrap().to_string()
 }
