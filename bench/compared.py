@@ -4,9 +4,9 @@
     PREFIX=/usr/local bench/compared.py [--rows N] [--rounds N] [--write]
 
 PREFIX is where the library is installed. It prints the tables of the page, and with --write puts
-them into it; `tools/pictures --write` then draws the bars. N rows (100000) are loaded, searched,
-sorted and printed in a PostgreSQL server of its own, in SQLite and in Python. Each time is the
-least of N rounds (7), in which all take turns. Of Debian's packages it takes python3-cbor2,
+them into it; `tools/pages --write pictures` then draws the bars. N rows (100000) are loaded,
+searched, sorted and printed in a PostgreSQL server of its own, in SQLite and in Python. Each time
+is the least of N rounds (7), in which all take turns. Of Debian's packages it takes python3-cbor2,
 python3-msgpack, python3-dev, libsqlite3-dev, postgresql-15, postgresql-server-dev-15, gcc and make.
 """
 import argparse

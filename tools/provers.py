@@ -1,11 +1,4 @@
-#!/usr/bin/env python3
-"""The command `rt` of the kit as a module, and how many provers run side by side.
-
-    tools/provers.py
-
-prints that number: one a processor, as far as the free memory goes. `rt ci` takes it from the
-variable RT_JOBS; its own estimate of what a prover takes is two to three times what it does.
-"""
+"""The command `rt` of the kit as a module, and how many provers run side by side."""
 import importlib.machinery
 import importlib.util
 import os
@@ -31,9 +24,5 @@ rtlib = rt.rtlib
 
 
 def lanes():
-    """How many provers run side by side."""
+    """How many provers run side by side: one a processor, as far as the free memory goes."""
     return max(1, min(rt.processors(), rt.free() // MEMORY))
-
-
-if __name__ == "__main__":
-    print(lanes())

@@ -1,22 +1,16 @@
-#!/usr/bin/env python3
 """Compares the paths and file names of all pages with the tree.
-
-    tools/page_paths
 
 It takes each page (`*.md`) and bindings/kohiblad.h. Each relative link must lead to a file, and its
 anchor to a heading of that page. Each path that a page names, and each name of a file by its
 extension, must be in the tree: `jsonb/text.rt` is crates/jsonb/src/text.rt, and a path may begin
 below the top, as `specs/Doc.antt` does. CRATE, FILE, NAME, PATH and PROGRAM match any name. After
 `CRATE/specs/FILE.antt` and a colon each name in backticks must be a word of that file, and a
-function on a line before `CRATE/FILE.rt` must be one of that file. The status is 1 if one is
-missing.
+function on a line before `CRATE/FILE.rt` must be one of that file.
 """
-import glob
 import os
 import re
-import sys
 
-from public_names import TOP, text_of
+from rattle import TOP, has_function, text_of
 
 PARTS = ("crates", "docs", "tools", "bench", "bindings", "tests", ".ci", "src", "specs", "proofs",
          "wrong", "must-fail")
@@ -91,27 +85,21 @@ def faults_of_names(text, tree, crates):
     for call, path in CALLED.findall(text):
         name = call.split("::")[-1]
         for it in places_of(path, tree, crates):
-            if not re.search(rf"\bfn {name}\b", text_of(f"{TOP}/{it}")):
+            if not has_function(f"{TOP}/{it}", name):
                 yield f"{path} has no function {name}"
 
 
-def main():
+def compare(_):
+    """The faults, and how many pages were compared."""
     tree = paths_in(TOP)
     crates = set(os.listdir(f"{TOP}/crates"))
     pages = [it for it in tree if it.endswith(".md")] + ["bindings/kohiblad.h"]
-    count = 0
+    found = []
     for page in sorted(pages):
         text = text_of(f"{TOP}/{page}")
         faults = list(faults_of_links(f"{TOP}/{page}", text))
         shown = re.sub(r"\]\([^)]*\)|\w+://\S+|^#include <.*", "", text, flags=re.M)
         faults += faults_of_paths(shown, tree, crates)
         faults += faults_of_names(shown, tree, crates)
-        for fault in faults:
-            print(f"{page}: {fault}")
-        count += len(faults)
-    print(f"{len(pages)} pages: {count} paths or names are missing")
-    return 1 if count or len(pages) < 2 else 0
-
-
-if __name__ == "__main__":
-    sys.exit(main())
+        found += [f"{page}: {fault}" for fault in faults]
+    return found, f"paths and names of {len(pages)} pages"

@@ -1,23 +1,20 @@
-#!/usr/bin/env python3
 """Compares bindings/kohiblad.h with the exports of crates/kohiblad: the same names, and for each
 the same number and width of arguments and the same result; the same statuses and version; and above
 each declaration the export's `///` comment in C's terms. Then it compares bindings/kohiblad_cffi.h,
 the header's types and exports in the form that Python's cffi reads, with what it makes of the
-header.
-
-    tools/c_header           # compare
-    tools/c_header --write   # write the comments of the header, and kohiblad_cffi.h
+header; and docs/C.md has to list each status. The signatures in docs/C.md are those of the header,
+and its recipes are programs of bindings/examples. The comments of the header, kohiblad_cffi.h, the
+signatures and the recipes can be written.
 
 A declaration of a new export is written by hand, as are its inline function and the header's first
-comment, which has what is true of all calls. The status is 1 where they differ.
+comment, which has what is true of all calls.
 """
-import glob
-import os
 import re
-import sys
 import textwrap
 
-TOP = os.path.dirname(os.path.dirname(os.path.abspath(__file__)))
+import rattle
+from rattle import TOP, text_of
+
 # How a type crosses: a slice as a pointer and a length, the allocator as nothing.
 CROSSES = {
     "Global": [], "&[u8]": ["const uint8_t *", "size_t"], "&mut [u8]": ["uint8_t *", "size_t"],
@@ -81,30 +78,25 @@ ALSO = {
 DECLARED = re.compile(r'(?:/\*(?:(?!\*/).)*\*/\n)?^(static inline [^;{]*?'
                       r'KOHIBLAD_INLINE\("(\w+)"\);)', re.M | re.S)
 
+# The blocks of docs/C.md that are made, below what names them.
+SIGNATURES = re.compile(r"(^## Signatures\n.*?^```c\n).*?(^```$)", re.M | re.S)
+RECIPE = re.compile(r"(\]\(\.\./bindings/examples/(\w+\.\w+)\):\n\n```\w+\n).*?(^```$)",
+                    re.M | re.S)
 
-def text_of(path):
-    with open(path, encoding="utf-8") as file:
-        return file.read()
 
-
-def exported(code):
+def exported():
     """The exports, each as its result and its arguments in C."""
     found = {}
-    head = r'#\[unsafe\(no_mangle\)\]\npub extern "C" fn (\w+)\(([^)]*)\) -> (\w+)'
-    for name, listed, result in re.findall(head, code):
-        types = re.findall(r"\w+: ([^,\n]+)", listed)
-        arguments = [it for kind in types for it in CROSSES[kind]]
-        found[name] = (CROSSES[result][0], arguments)
+    for _, it in rattle.exports_for_c():
+        types, result = rattle.arguments_of(it)
+        found[it.name] = (CROSSES[result][0], [at for kind in types for at in CROSSES[kind]])
     return found
 
 
-def comments(code):
+def comments():
     """The `///` comment of each export."""
-    found = {}
-    head = r'((?:^///.*\n)+)(?:#\[(?!unsafe).*\n)*#\[unsafe\(no_mangle\)\]\npub extern "C" fn (\w+)'
-    for lines, name in re.findall(head, code, re.M):
-        found[name] = " ".join(line[4:] for line in lines.rstrip("\n").split("\n"))
-    return found
+    return {it.name: " ".join(rattle.comment_above(it.lines, it.at)[0])
+            for _, it in rattle.exports_for_c()}
 
 
 def in_c(name, comment, declaration, statuses):
@@ -125,13 +117,15 @@ def in_c(name, comment, declaration, statuses):
         if pointer and not re.search(r"\b\w*room$", after):
             comment = comment.replace(f"`{pointer[1]}`", f"`*{pointer[1]}`")
     text = " ".join([comment, ALSO.get(name, "")]).strip()
-    return textwrap.fill(f"/* {text} */", 100, subsequent_indent=" * ", break_long_words=False,
-                         break_on_hyphens=False)
+    # The comment's end stays with its last word.
+    lines = textwrap.fill(f"/* {text}\0*/", 100, subsequent_indent=" * ", break_long_words=False,
+                          break_on_hyphens=False)
+    return lines.replace("\0", " ")
 
 
-def with_comments(header, code):
+def with_comments(header):
     """The header with the comments that the exports have."""
-    found = comments(code)
+    found = comments()
     listed = re.findall(r"KOHIBLAD_(\w+) = \d+", re.search(r"enum kohiblad_status \{.*?\}", header,
                                                            re.S)[0])
     statuses = {name.replace("_", "").lower(): name for name in listed}
@@ -177,64 +171,94 @@ def for_cffi(header, written):
     version = re.search(r"#define KOHIBLAD_VERSION \d+", header)[0]
     kinds = re.findall(r"^(?:enum|struct) \w+ \{.*?^\};", header, re.M | re.S)
     kinds = [re.sub(r" +$", "", it, flags=re.M) for it in kinds]
-    note = "/* The exports, for cffi's cdef: tools/c_header makes this file of kohiblad.h. */"
+    note = "/* The exports, for cffi's cdef: tools/pages makes this file of kohiblad.h. */"
     return "\n\n".join([note, version, *kinds, "\n".join(written.values())]) + "\n"
 
 
-def main():
-    files = glob.glob(f"{TOP}/crates/kohiblad/src/**/*.rt", recursive=True)
-    code = "".join(map(text_of, sorted(files)))
+def write(name, text, folder="bindings"):
+    with open(f"{TOP}/{folder}/{name}", "w", encoding="utf-8") as file:
+        file.write(text)
+
+
+def with_blocks(page, written):
+    """The page of C with the header's signatures, and the recipes as the programs are."""
+    def recipe(it):
+        return it[1] + text_of(f"{TOP}/bindings/examples/{it[2]}") + it[3]
+
+    page = SIGNATURES.sub(lambda it: it[1] + "\n".join(written.values()) + "\n" + it[2], page)
+    return RECIPE.sub(recipe, page)
+
+
+def compare(is_to_write):
+    """The faults, and how many exports there are."""
     header = text_of(f"{TOP}/bindings/kohiblad.h")
-    commented = with_comments(header, code)
-    if "--write" in sys.argv[1:] and commented != header:
-        with open(f"{TOP}/bindings/kohiblad.h", "w", encoding="utf-8") as file:
-            file.write(commented)
+    commented = with_comments(header)
+    if is_to_write and commented != header:
+        write("kohiblad.h", commented)
         header = commented
     bare = re.sub(r"/\*.*?\*/", "", header, flags=re.S)
-    left = exported(code)
     right, written = declared(
         bare, r'^((?:struct )?\w+) kohiblad_(export_\w+)\(([^)]*)\)\s*KOHIBLAD_EXPORT\("(\w+)"\)')
-    inline, _ = declared(
+    inline, signatures = declared(
         bare,
         r'^static inline ((?:struct )?\w+) kohiblad_(\w+)\(([^)]*)\)\s*KOHIBLAD_INLINE\("(\w+)"\)')
+    made = for_cffi(bare, written)
+    if is_to_write:
+        write("kohiblad_cffi.h", made)
     faults = [f"{name}: the inline function and its export differ"
               for name in sorted(right.keys() | inline.keys())
               if right.get(name) != inline.get(name)]
-    made = for_cffi(bare, written)
-    if "--write" in sys.argv[1:]:
-        with open(f"{TOP}/bindings/kohiblad_cffi.h", "w", encoding="utf-8") as file:
-            file.write(made)
     if header != commented:
-        faults.append("kohiblad.h has not the comments of the code: tools/c_header --write")
+        faults.append("kohiblad.h has not the comments of the code: tools/pages --write")
     if text_of(f"{TOP}/bindings/kohiblad_cffi.h") != made:
-        faults.append("kohiblad_cffi.h is not that of the header: tools/c_header --write")
+        faults.append("kohiblad_cffi.h is not that of the header: tools/pages --write")
+    page = text_of(f"{TOP}/docs/C.md")
+    right_page = with_blocks(page, signatures)
+    if is_to_write and right_page != page:
+        write("C.md", right_page, "docs")
+        page = right_page
+    if page != right_page:
+        faults.append("docs/C.md has other signatures or recipes: tools/pages --write header")
+    if not SIGNATURES.search(page) or len(RECIPE.findall(page)) < 3:
+        faults.append("docs/C.md lacks signatures or recipes")
+    left = exported()
     for name in sorted(left.keys() | right.keys()):
         if left.get(name) != right.get(name):
             faults.append(f"{name}: the code has {left.get(name)}, the header {right.get(name)}")
+    code = "".join(map(text_of, rattle.files_of("kohiblad")))
+    faults += [*faults_of_structs(header, code), *faults_of_numbers(header, code)]
+    if not left:
+        faults.append("the library has no exports")
+    return faults, f"{len(left)} exports with {len(right)} declarations"
+
+
+def faults_of_structs(header, code):
+    """Where the fields of a struct differ."""
     for kind, struct in STRUCTS.items():
         there = re.search(rf"{struct} \{{(.*?)\n\}};", header, re.S)[1]
-        here = re.search(rf"pub struct {kind} \{{(.*?)\n\}}", code, re.S)[1]
         wide = [(sign or "i", bits) for sign, bits in re.findall(r"(u?)int(\d+)_t \w+;", there)]
-        if wide != re.findall(r"pub \w+: ([ui])(\d+)", here):
-            faults.append(f"{struct}: the fields differ")
+        if wide != rattle.widths_of_fields(code, kind):
+            yield f"{struct}: the fields differ"
+
+
+def faults_of_numbers(header, code):
+    """Where a status or the version differs."""
     numbers = {re.sub("_", "", name).lower(): number
                for name, number in re.findall(r"KOHIBLAD_(\w+) = (\d+)[,\s]", header)}
-    body = code[code.index("pub fn code(error"):]
-    for name, number in re.findall(r"Error::(\w+) => (\d+),", body):
+    for name, number in rattle.codes_of_errors(code).items():
         there = numbers.get(name.lower())
         if there != number:
-            faults.append(f"status {name}: the code has {number}, the header {there}")
-    for name, number in re.findall(r"pub const (\w+): u32 = (\d+);", code):
+            yield f"status {name}: the code has {number}, the header {there}"
+    for name, number in rattle.numbers_in(code, "pub const").items():
         if numbers.get(re.sub("_", "", name).lower()) != number:
-            faults.append(f"status {name}: the header has another number than {number}")
+            yield f"status {name}: the header has another number than {number}"
+    listed = re.search(r"enum kohiblad_status \{.*?\}", header, re.S)[0]
+    page = text_of(f"{TOP}/docs/C.md")
+    for name, number in re.findall(r"KOHIBLAD_(\w+) = (\d+)", listed):
+        if f"| {number} | `{name}` |" not in page:
+            yield f"docs/C.md does not list the status {number}, {name}"
+        if header.count(f"case KOHIBLAD_{name}:") != 2:
+            yield f"the header has no name or no reason of the status {name}"
     version = re.search(r"#define KOHIBLAD_VERSION (\d+)", header)[1]
-    if f"const VERSION: u32 = {version};" not in code:
-        faults.append("the version differs")
-    for fault in faults:
-        print(fault)
-    print(f"{len(left)} exports, {len(right)} declarations: {len(faults)} differences")
-    return 1 if faults or not left else 0
-
-
-if __name__ == "__main__":
-    sys.exit(main())
+    if rattle.numbers_in(code, "const").get("VERSION") != version:
+        yield "the version differs"

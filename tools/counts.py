@@ -1,11 +1,6 @@
-#!/usr/bin/env python3
 """Compares the counts and limits in the pages with the tree, and the shares of time that sentences
-name with bench/results.txt, as the tables of bench/tables.py have them.
-
-    tools/counts            prints the counts that differ
-    tools/counts --write    writes the right ones into the pages
-
-The status is 1 if a count differs, or a page does not have its sentence once.
+name with bench/results.txt, as the tables of bench/tables.py have them, or writes the right ones
+into the pages. Each page must have its sentences once.
 """
 import glob
 import pathlib
@@ -13,7 +8,8 @@ import re
 import statistics
 import sys
 
-from public_names import TOP, text_of
+import definitions
+from rattle import TOP, constant, text_of
 
 sys.path.insert(0, f"{TOP}/bench")
 import tables  # noqa: E402
@@ -53,14 +49,9 @@ def spread(*names, digits=2):
     return tuple(f"{it:.{digits}f}" for it in shares(*names))
 
 
-def constant(path, name):
-    """The value of a constant in a source file."""
-    return int(re.search(rf"const {name}: usize = ([\d_]+);", text_of(f"{TOP}/{path}"))[1])
-
-
-LINE_DEPTH = constant("crates/jsonb_cli/src/command.rt", "MAX_WORD_DEPTH")
-ROW_DEPTH = constant("crates/jsonb_column_cli/src/answer.rt", "MAX_ROW_DEPTH")
-TEXT_DEPTH = constant("crates/jsonb_column_cli/src/answer.rt", "MAX_TEXT_DEPTH")
+LINE_DEPTH = constant(f"{TOP}/crates/jsonb_cli/src/command.rt", "MAX_WORD_DEPTH")
+ROW_DEPTH = constant(f"{TOP}/crates/jsonb_column_cli/src/answer.rt", "MAX_ROW_DEPTH")
+TEXT_DEPTH = constant(f"{TOP}/crates/jsonb_column_cli/src/answer.rt", "MAX_TEXT_DEPTH")
 KEYS = "tests/lines/jsonb_probe/comparable-keys.in"
 NEIGHBOURS = commands(KEYS, "cmp")
 ALIKE = r"(?:middle|last) of \d+ numbered"
@@ -75,6 +66,8 @@ PAGES = {
         (rf"a binary tree, at {NUMBER} times the crate's encoder", share("halves 17 canon", 1)),
     ],
     "docs/PROOFS.md": [
+        (r"rests on ([\d,]+) definitions, ([\d,]+) lines in ([\d,]+) files",
+         definitions.of_headline()),
         # Each line asks one of the two readers.
         (r"run on ([\d,]+) byte strings", lines("tests/lines/jsonb_probe/reader_faults.in") // 2),
         (r"([\d,]+) lines of `jsonb_cli`", lines("tests/lines/jsonb_cli/*.in")),
@@ -95,8 +88,8 @@ PAGES = {
     ],
     "docs/DECISIONS.md": [
         (r"A text of a line nests at most ([\d,]+) deep", TEXT_DEPTH),
-        (r"A document of a line nests at most ([\d,]+) deep", LINE_DEPTH),
-        (r"a row at most ([\d,]+) in `jsonb_column_cli`", ROW_DEPTH),
+        (r"than ([\d,]+) levels on a line of `jsonb_cli`", LINE_DEPTH),
+        (r"a row of more than ([\d,]+) in `jsonb_column_cli`", ROW_DEPTH),
     ],
     "docs/COMPARABLE.md": [
         (r"have ([\d,]+) byte strings with their keys", commands(KEYS, "key")),
@@ -132,34 +125,25 @@ PAGES = {
 }
 
 
-def main(words):
-    if words not in ([], ["--write"]):
-        sys.exit(__doc__)
-    faults, written = 0, 0
+def compare(is_to_write):
+    """The faults, and how many pages have counts."""
+    faults = []
     for page, counts in PAGES.items():
         text = was = text_of(f"{TOP}/{page}")
         for sentence, count in counts:
             # A sentence may be broken into lines.
             found = [*re.finditer(sentence.replace(" ", r"\s+"), text)]
             if len(found) != 1:
-                print(f"{page}: {sentence} is there {len(found)} times, and not once")
-                faults += 1
+                faults.append(f"{page}: {sentence} is there {len(found)} times, and not once")
                 continue
             wanted = count if isinstance(count, tuple) else (count,)
             wanted = [it if isinstance(it, str) else f"{it:,}" for it in wanted]
-            if list(found[0].groups()) != wanted and not words:
-                print(f"{page}: {found[0].groups()} is now {wanted}: {sentence}")
-                faults += 1
+            if list(found[0].groups()) != wanted and not is_to_write:
+                faults.append(f"{page}: {found[0].groups()} is now {wanted}: {sentence}")
             for group, right in reversed(list(enumerate(wanted, 1))):
                 begin, end = found[0].span(group)
                 text = f"{text[:begin]}{right}{text[end:]}"
-        if words and text != was:
-            written += 1
+        if is_to_write and text != was:
             with open(f"{TOP}/{page}", "w", encoding="utf-8") as file:
                 file.write(text)
-    print(f"counts of {len(PAGES)} pages: {faults} differ, {written} pages written")
-    return 1 if faults else 0
-
-
-if __name__ == "__main__":
-    sys.exit(main(sys.argv[1:]))
+    return faults, f"counts of {len(PAGES)} pages"

@@ -1,0 +1,266 @@
+"""Lists the definitions that a reader of the public contracts must believe, in reading order:
+compares docs/DEFINITIONS.md with the list, or writes that page.
+
+Public are the functions and the methods of the types that the roots of the crates export, and their
+trait impls; the functions of the programs and their loop that PROGRAM names; and the exports for C.
+Their clauses cite definitions of `specs/`, and these cite others: all of them must be believed. All
+else in `specs/` is cited by the contracts of inner functions alone, and counts as a helper: a
+mistake in it can make a proof fail, and no public contract say less. A name that a file passes on
+by `pub use`, as `Words` does, is a name of the file that defines it, and a file that only passes
+names on is not listed.
+"""
+import os
+import re
+import textwrap
+
+from rattle import (TOP, cited, exported, facts_of, files_of, functions_of, imports_of, specs_of,
+                    text_of)
+
+CRATES = [
+    "jsonb_value", "json_fault", "jsonb_codec", "jsonb", "jsonb_comparable", "jsonb_functions",
+    "uses", "answer_lines", "jsonb_cli", "jsonb_column", "jsonb_column_cli", "kohiblad",
+]
+PROGRAM = {"run", "answer", "answer_lines", "ask"}
+PAGE = f"{TOP}/docs/DEFINITIONS.md"
+HEAD = """# What must be believed
+
+The proofs are checked, so nobody has to read them. A reader has to believe that the definitions say
+what this page says of them. The page begins with the promise that all others build on, and then has
+for each promise what its clauses reach: the definitions that they cite, and those that these cite,
+through all crates. All other words in them are the library's (`List`, `≡`, `All` ..), or types and
+constants that the code declares (`Number` ..). At the end are all definitions by notion and by
+file. `tools/pages --write` makes this page of the code.
+
+"""
+IN_WORDS = """In words: if the bytes b are a document of the tree t and a document of the tree u,
+then t and u are the same tree."""
+BEYOND = """## Each promise
+
+After each promise come the clauses that carry it, how much they reach, the definitions that they
+cite themselves, which is where to begin, and how many lines of which files they reach beyond those
+of the headline. That every call returns needs no definition: the prover requires it of each
+function.
+
+"""
+EVERY = """## Every file
+
+The number after a file of `specs/` is how many of its lines must be believed, without comments,
+imports and empty lines; the number after a `+` is how many lines of helpers it has, which are
+definitions that no public contract cites. Each file cites only those above it.
+
+"""
+
+
+def public_contracts(crate):
+    """The clauses of the public functions of a crate, each with the imports of its file."""
+    public = exported().get(crate, set())
+    is_program = crate.endswith("_cli") or crate == "answer_lines"
+    for path in files_of(crate):
+        text = text_of(path)
+        imports = imports_of(text)
+        is_module = os.path.basename(path)[:-3] in public
+        for it in functions_of(path):
+            is_asked = it.is_export or is_program and it.name in PROGRAM
+            is_free = it.is_public and (is_module or not it.owner and it.name in public)
+            is_method = it.owner and it.owner.name in public and not it.owner.is_trait \
+                and (it.is_public or it.owner.trait)
+            if is_asked or is_free or is_method:
+                yield "\n".join(it.contract), imports
+        for kind, facts in facts_of(text).items():
+            if kind in public:
+                yield "\n".join(facts), imports
+
+
+def believed(files):
+    """The paragraphs that the public contracts cite, through all that these cite themselves."""
+    return reached(files, set().union(*(
+        cited(contract, names, aliases)
+        for crate in CRATES for contract, (names, aliases) in public_contracts(crate)
+    )))
+
+
+def reached(files, wanted):
+    """The paragraphs that define these names, and those that these cite themselves."""
+    seen, parts, wanted = set(), set(), set(wanted)
+    while wanted:
+        where, name = wanted.pop()
+        if (where, name) in seen or where not in files or name not in files[where].defined:
+            continue
+        seen.add((where, name))
+        part = files[where].defined[name]
+        if (where, part) not in parts:
+            parts.add((where, part))
+            wanted |= files[where].cited(files[where].parts[part])
+    return parts
+
+
+class Promise:
+    """A promise, the clauses that carry it, and the definitions that these reach."""
+
+    def __init__(self, files, sentence, lines):
+        self.sentence, self.carried, self.wanted, self.clauses = sentence, [], set(), []
+        for line in lines:
+            crate, call, *names = line.split()
+            path, function = self.function(crate, call)
+            found = [it for it in function.clauses if it[0] == "ensures"]
+            found = [it for it in found if it[1] in names or not names]
+            if not found or len({name for _, name, _ in found}) < len(set(names)):
+                raise LookupError(f"tools/data/promises: {line.strip()}")
+            self.carried.append((crate, call, [name for _, name, _ in found]))
+            self.clauses += [code for _, _, code in found]
+            imports = imports_of(text_of(path))
+            for _, _, code in found:
+                self.wanted |= cited("\n".join(code), *imports)
+        self.parts = reached(files, self.wanted)
+
+    @staticmethod
+    def function(crate, call):
+        for path in files_of(crate):
+            for it in functions_of(path):
+                if it.title == call and it.names_of("ensures"):
+                    return path, it
+        raise LookupError(f"tools/data/promises: {crate} has no {call} with clauses")
+
+
+def promises(files):
+    """The promises of tools/data/promises."""
+    text = re.sub(r"^#.*\n", "", text_of(f"{TOP}/tools/data/promises"), flags=re.M)
+    return [Promise(files, it[1], it[2].strip("\n").split("\n"))
+            for it in re.finditer(r"^(\S.*)\n((?: +.*\n)+)", text, re.M)]
+
+
+def in_order(files):
+    """The files, each after those that it imports."""
+    placed = []
+
+    def place(where):
+        if where in placed or where not in files:
+            return
+        file = files[where]
+        for other in sorted({it for it, _ in file.names.values()} | set(file.files.values())):
+            if other != where:
+                place(other)
+        if where not in placed:
+            placed.append(where)
+
+    for crate in CRATES:
+        for where in sorted(files):
+            if where[0] == crate:
+                place(where)
+    return placed
+
+
+def by_file(files, parts):
+    """The files of these paragraphs in reading order, each with the places of its paragraphs."""
+    for where in in_order(files):
+        if places := sorted(at for it, at in parts if it == where):
+            yield where, places
+
+
+def lines_of(files, parts):
+    return sum(lines_in(files[where].parts[at]) for where, at in parts)
+
+
+def counts_of(files, parts):
+    """How many definitions these are, their lines and their files."""
+    return len(parts), lines_of(files, parts), len({where for where, _ in parts})
+
+
+def counted(files, parts):
+    return "{:,} definitions, {:,} lines in {} files".format(*counts_of(files, parts))
+
+
+def of_headline():
+    """How many definitions, lines and files the first promise rests on."""
+    files = specs_of(CRATES)
+    return counts_of(files, promises(files)[0].parts)
+
+
+def item(text, mark="-"):
+    return textwrap.fill(f"{mark} {text}", 100, subsequent_indent="  ", break_long_words=False,
+                         break_on_hyphens=False)
+
+
+def headline(files, promise):
+    """What must be believed of the first promise, definition by definition."""
+    made = f"## {promise.sentence.rstrip('.')}\n\n"
+    code = "\n".join(line.strip() for it in promise.clauses for line in it)
+    _, call, _ = promise.carried[0]
+    made += filled(f"This is a clause of the law `{call}`:") + f"\n\n```text\n{code}\n```\n\n"
+    made += filled(f"{IN_WORDS} It rests on {counted(files, promise.parts)} of `specs/`. In "
+                   "reading order, each with its number of lines:") + "\n\n"
+    for where, places in by_file(files, promise.parts):
+        path = f"{where[0]}/specs/{where[1]}.antt"
+        lines = lines_of(files, [(where, at) for at in places])
+        names = ", ".join(f"`{' '.join(files[where].heads[at])}` {lines_in(files[where].parts[at])}"
+                          for at in places)
+        made += item(f"[{path}](../crates/{path}), {lines} lines. {files[where].about} "
+                     f"{names}.") + "\n"
+    return made + "\n"
+
+
+def other(files, promise, first):
+    """What must be believed of a promise: where to begin, and how much is beyond the first."""
+    clauses = "; ".join(
+        f"`{call}`" + (": " + ", ".join(f"`{it}`" for it in names) if names != ["_"] else "")
+        for _, call, names in promise.carried)
+    begins = [(where, files[where].defined[name]) for where, name in promise.wanted
+              if where in files and name in files[where].defined]
+    begins = [f"`{name}`" for where, places in by_file(files, begins) for at in places
+              for name in files[where].heads[at] if (where, name) in promise.wanted]
+    is_beyond = first.parts <= promise.parts
+    parts = promise.parts - first.parts if is_beyond else promise.parts
+    rest = {}
+    for where, places in by_file(files, parts):
+        lines = lines_of(files, [(where, at) for at in places])
+        rest.setdefault(where[0], []).append(f"`{where[1]}` {lines}")
+    rest = "; ".join(f"{crate} {', '.join(it)}" for crate, it in rest.items())
+    beyond = "beyond the headline" if is_beyond else "in all, not all of the headline among them"
+    return filled(f"**{promise.sentence}** {clauses}. {counted(files, promise.parts)}. Cited: "
+                  f"{', '.join(begins)}. Lines {beyond}: {rest}.") + "\n\n"
+
+
+def filled(text):
+    return textwrap.fill(text, 100, break_long_words=False, break_on_hyphens=False)
+
+
+def lines_in(part):
+    return sum(1 for line in part.split("\n") if re.match(r"\s*(?!--)[^\s-]", line))
+
+
+def listing():
+    files = specs_of(CRATES)
+    parts = believed(files)
+    listed, total, helpers = {}, 0, 0
+    for where in in_order(files):
+        file = files[where]
+        lines = sum(lines_in(it) for at, it in enumerate(file.parts) if (where, at) in parts)
+        others = sum(map(lines_in, file.parts)) - lines
+        total, helpers = total + lines, helpers + others
+        if lines:
+            counts = f"{lines} + {others}" if others else f"{lines}"
+            listed.setdefault(where[0], []).append(f"`{where[1]}` ({counts}): {file.about}")
+    alone = [f"`{where[0]}/specs/{where[1]}`" for where in in_order(files)
+             if not any(it == where for it, _ in parts)]
+    count = f"{total:,} lines must be believed, in {sum(map(len, listed.values()))} files"
+    first, *others = promises(files)
+    made = HEAD + headline(files, first) + BEYOND
+    made += "".join(other(files, it, first) for it in others)
+    notions = text_of(f"{TOP}/tools/data/notions").partition("\n")[2]
+    made += f"## By notion\n\n{notions}\n{EVERY}{count}; {helpers:,} more lines are helpers.\n\n"
+    for crate, items in listed.items():
+        items = [textwrap.fill(f"- {it}", 100, subsequent_indent="  ") for it in items]
+        made += f"### In {crate}\n\n" + "\n".join(items) + "\n\n"
+    helpers = textwrap.fill("Files of helpers alone: " + ", ".join(alone) + ".", 100)
+    return f"{made}### Helpers\n\n{helpers}\n"
+
+
+def compare(is_to_write):
+    """The faults, and how many lines must be believed."""
+    made, faults = listing(), []
+    if is_to_write:
+        with open(PAGE, "w", encoding="utf-8") as file:
+            file.write(made)
+    elif text_of(PAGE) != made:
+        faults.append("docs/DEFINITIONS.md is not what tools/pages --write makes of the code")
+    return faults, re.search(r"^[\d,]+ lines must be believed, in \d+ files", made, re.M)[0]
