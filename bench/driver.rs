@@ -649,6 +649,36 @@ fn texts() {
     drop(value);
 }
 
+// The texts of the folder that TEXTS names. Short ones are read many times in a row.
+fn kinds_of_text() {
+    let folder = std::env::var("TEXTS").expect("TEXTS names the folder of texts.py");
+    let mut paths: Vec<_> = std::fs::read_dir(folder)
+        .unwrap()
+        .map(|entry| entry.unwrap().path())
+        .collect();
+    paths.sort();
+    for path in paths {
+        let text = std::fs::read_to_string(&path).unwrap();
+        let times = 1 + 300_000 / text.len();
+        let ours = || {
+            (0..times)
+                .map(|_| unsafe { measured_parse(black_box(text.as_ptr()), text.len()) })
+                .sum()
+        };
+        let theirs = || {
+            (0..times)
+                .map(|_| serde_json::from_str::<serde_json::Value>(black_box(&text)).is_ok())
+                .filter(|is_read| *is_read)
+                .count()
+        };
+        let document = encoded(&value_of_json(serde_json::from_str(&text).unwrap()));
+        assert_eq!(ours(), times * document.len());
+        let (our_time, their_time) = fastest(ours, theirs);
+        let name = path.file_stem().unwrap().to_str().unwrap();
+        report(name, "parse", times * text.len(), our_time, their_time);
+    }
+}
+
 // What ten times the size costs, up to 100 MB. The encoder's time includes the build.
 fn sizes() {
     let mut before = [0.0; 4];
@@ -798,7 +828,7 @@ fn column() {
 }
 
 fn main() {
-    let parts: [(&str, fn()); 9] = [
+    let parts: [(&str, fn()); 10] = [
         ("documents", documents),
         ("look_ups", look_ups),
         ("sorts", sorts),
@@ -806,6 +836,7 @@ fn main() {
         ("builders", builders),
         ("nested", nested),
         ("texts", texts),
+        ("kinds_of_text", kinds_of_text),
         ("sizes", sizes),
         ("column", column),
     ];

@@ -14,10 +14,11 @@ mkdir -p "$scratch/crates/measured/src" "$baseline/examples"
 cp "$here/measured.rt.in" "$scratch/crates/measured/src/lib.rt"
 cp "$here/driver.rs" "$baseline/examples/driver.rs"
 (cd "$scratch" && git init -q && cd crates/measured && rt check && rt lib)
+"$here/texts.py" "$scratch/texts"
 cd "$baseline"
 flags="-C target-cpu=x86-64-v2"
 for archive in "$scratch/crates/measured/out/libmeasured.a" \
     "$kit/c/liblibc_c.a" "$kit/c/libos_c.a"; do
     flags="$flags -C link-arg=$archive"
 done
-RUSTFLAGS=$flags cargo run --release --offline --example driver
+TEXTS=$scratch/texts RUSTFLAGS=$flags cargo run --release --offline --example driver

@@ -30,7 +30,8 @@ CHOICE = [
     ("numbers sort once", "sort 100,000 numbers, checked once"),
     ("arrays sort", "sort 100,000 arrays, not checked before"),
     ("objects print", "print a document (serde_json)"),
-    ("text parse", "read a JSON text (serde_json)"),
+    ("text parse", "read a JSON text of records (serde_json)"),
+    ("services parse", "read a text as services send them (serde_json)"),
 ]
 
 # What bench/README.md shows first, in the same form.
@@ -50,10 +51,26 @@ SPEEDS = [
     ("arrays sort by keys", "the same, by comparable keys, which are made first"),
     ("objects array", "build an array of 100,000 documents"),
     ("objects array checked", "the same, of checked documents"),
-    ("text parse", "read a JSON text (serde_json)"),
+    ("text parse", "read a JSON text of records (serde_json)"),
+    ("services parse", "read a text as services send them (serde_json)"),
     ("objects print", "print a document (serde_json)"),
     ("objects text", "the same of a checked `Document`"),
     ("column load", "read a stored column of 100,000 rows"),
+]
+
+# The texts of texts.py, and what they hold.
+KINDS = [
+    ("any_order", "records of 4 to 20 members, keys in any order"),
+    ("services", "messages of a service, strings with some beyond ASCII"),
+    ("seats", "small numbers under long keys"),
+    ("seats_indented", "the same, indented"),
+    ("integers", "100,000 integers below 1,000"),
+    ("prices", "50,000 decimals with two digits after the point"),
+    ("decimals", "40,000 decimals with 14"),
+    ("escapes", "strings with escapes"),
+    ("beyond_ascii", "strings beyond ASCII"),
+    ("row", "a row of ten members"),
+    ("short", "a text of 46 bytes"),
 ]
 
 
@@ -123,6 +140,7 @@ def tables(found):
              ["parse, against `from_str` and the crate's encoder", cell(found["text document"])],
              ["`to_string` of a view, against `to_string`", cell(found["objects print"])],
              ["`to_string` of a `Document`, the same", cell(found["objects text"])]]
+    kinds = [[name, cell(found[f"{row} parse"])] for row, name in KINDS]
     column = [[call, cell(found[f"column {call}"])]
               for call in ["load", "sort", "search", "select"]]
     return "\n".join([
@@ -135,6 +153,7 @@ def tables(found):
                "of checked ones"], builders),
         table(["containers in one another, levels", "encoder", "canonical form"], nested),
         table(["texts, against serde_json", ""], texts),
+        table(["reading texts, against `from_str`", ""], kinds),
         table(["a column of 100,000 rows", ""], column),
     ])
 
