@@ -1,7 +1,7 @@
 """Compares bindings/kohiblad.h with the exports of crates/kohiblad: the same names, and for each
-the same number and width of arguments and the same result; the same statuses and version; and above
-each declaration the export's `///` comment in C's terms. Then it compares bindings/kohiblad_cffi.h,
-the header's types and exports in the form that Python's cffi reads, with what it makes of the
+the same number and width of arguments and the same result; the same statuses; and above each
+declaration the export's `///` comment in C's terms. Then it compares bindings/kohiblad_cffi.h, the
+header's types and exports in the form that Python's cffi reads, with what it makes of the
 header; and docs/C.md has to list each status. The signatures in docs/C.md are those of the header,
 and its recipes are programs of bindings/examples. The comments of the header, kohiblad_cffi.h, the
 signatures and the recipes can be written.
@@ -242,7 +242,7 @@ def faults_of_structs(header, code):
 
 
 def faults_of_numbers(header, code):
-    """Where a status or the version differs."""
+    """Where a status differs."""
     numbers = {re.sub("_", "", name).lower(): number
                for name, number in re.findall(r"KOHIBLAD_(\w+) = (\d+)[,\s]", header)}
     for name, number in rattle.codes_of_errors(code).items():
@@ -259,6 +259,3 @@ def faults_of_numbers(header, code):
             yield f"docs/C.md does not list the status {number}, {name}"
         if header.count(f"case KOHIBLAD_{name}:") != 2:
             yield f"the header has no name or no reason of the status {name}"
-    version = re.search(r"#define KOHIBLAD_VERSION (\d+)", header)[1]
-    if rattle.numbers_in(code, "const").get("VERSION") != version:
-        yield "the version differs"

@@ -8,7 +8,7 @@ use std::path::Path;
 use std::process::Command;
 
 const ARCHIVE: &str = "libkohiblad.a";
-const NEEDED: &str = "kohiblad >= 0.6";
+const NEEDED: &str = "kohiblad >= 0.7";
 
 fn main() {
     for variable in [

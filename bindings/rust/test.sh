@@ -46,7 +46,8 @@ need cargo cargo --version
 need rustc rustc --version
 need gcc "${CC:-cc}" --version
 need pkg-config "${PKG_CONFIG:-pkg-config}" --version
-"${PKG_CONFIG:-pkg-config}" --exists 'kohiblad >= 0.6' || fail 'pkg-config finds no kohiblad >= 0.6'
+needed=$(sed -n 's|^const NEEDED: &str = "\(.*\)";$|\1|p' build.rs)
+"${PKG_CONFIG:-pkg-config}" --exists "$needed" || fail "pkg-config finds no $needed"
 cargo=(--offline --locked --quiet)
 for name_of_stack in CALL_STACK LEVEL_STACK EDIT_LEVEL_STACK; do
     bytes=$(sed -n "s/^pub const $name_of_stack: usize = \([0-9]*\);$/\1/p" src/lib.rs)

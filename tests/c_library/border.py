@@ -135,7 +135,6 @@ def rows(parts):
 def known_answers():
     """Answers that the format's pages give."""
     array = bytes.fromhex("8000000330000000200000025000000e500a4000000110000001100000016b76")
-    assert tell("version") == 7000
     names = ("Ok InvalidEOF InvalidJsonb InvalidJsonbHeader InvalidJsonbJEntry InvalidJsonbNumber "
              "InvalidJsonbExtension InvalidUtf8 ObjectDuplicateKey InvalidJson OutOfMemory NoRoom "
              "None TooDeep OtherKind PastRange Overlap BadNumber TooManySteps Unknown").split()
