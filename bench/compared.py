@@ -342,7 +342,7 @@ def build(folder, prefix):
     subprocess.run([sys.executable, "build_backend/kohiblad_build.py", "--extension",
                     "src/kohiblad"], cwd=folder / "python", check=True, stdout=subprocess.DEVNULL,
                    env=dict(os.environ, KOHIBLAD_NATIVE="1", PREFIX=prefix))
-    os.environ.update(KOHIBLAD_LIBRARY=f"{prefix}/lib/libkohiblad.so.0", KOHIBLAD_NATIVE="1")
+    os.environ.update(KOHIBLAD_LIBRARY=f"{prefix}/lib/libkohiblad.so", KOHIBLAD_NATIVE="1")
     sys.path.insert(0, str(folder / "python" / "src"))
     subprocess.run(["make", "-s", "-C", TOP / "bindings" / "sqlite", f"OUT={folder / 'sqlite'}"],
                    check=True)

@@ -10,6 +10,7 @@ from rattle import TOP, text_of
 # How each word of PLACES looks in a file.
 FORMS = {"<version>": r"\d+\.\d+\.\d+", "<minor>": r"\d+\.\d+", "<number>": r"\d+",
          "<first>": r"\d+"}
+SONAME = "libkohiblad.so.<minor>"
 # The places by their files. A place may be there more than once.
 PLACES = {
     "README.md": ["This is version <version> of"],
@@ -24,8 +25,11 @@ PLACES = {
     "bindings/postgresql/README.md": ["the version of the library, as `<version>`"],
     "bindings/postgresql/kohiblad.control": ["default_version = '<minor>'"],
     "bindings/postgresql/kohiblad_compat.control": ["default_version = '<minor>'"],
+    "bindings/python/.gitignore": [SONAME],
+    "bindings/python/README.md": [SONAME],
+    "bindings/python/build_backend/kohiblad_build.py": [SONAME],
     "bindings/python/src/kohiblad/__init__.py": ['__version__ = "<version>"'],
-    "bindings/python/src/kohiblad/_library.py": ["OLDEST_VERSION = <first>"],
+    "bindings/python/src/kohiblad/_library.py": [SONAME, "OLDEST_VERSION = <first>"],
     "bindings/python/src/native/native.h": ["KOHIBLAD_VERSION < <first>",
                                             "of version <first> or newer"],
     "bindings/rust/Cargo.lock": ['name = "kohiblad"\nversion = "<version>"'],
@@ -33,6 +37,7 @@ PLACES = {
     "bindings/rust/build.rs": ["kohiblad >= <minor>"],
     "bindings/rust/src/lib.rs": ["<number> is <version>.", "kohiblad::version() >= <first>"],
     "bindings/sqlite/FUNCTIONS.md": ["the version of the library, as `<version>`"],
+    "docs/C.md": [SONAME, "`KOHIBLAD_<minor>`"],
 }
 
 

@@ -1,6 +1,6 @@
 /* Loads the library while the program runs, stores a JSON text, looks a key up and prints.
  *
- *     load libkohiblad.so.0
+ *     load libkohiblad.so
  *
  * The header does not guard calls of what is loaded so: no argument of them may be null. */
 #define _POSIX_C_SOURCE 200809L
@@ -32,7 +32,7 @@ int main(int count, char **words) {
 
     void *library = count == 2 ? dlopen(words[1], RTLD_NOW | RTLD_LOCAL) : NULL;
     if (!library) {
-        fprintf(stderr, "%s\n", count == 2 ? dlerror() : "usage: load libkohiblad.so.0");
+        fprintf(stderr, "%s\n", count == 2 ? dlerror() : "usage: load libkohiblad.so");
         return 1;
     }
     if (!find_call(library, "kohiblad_parse", &parse)

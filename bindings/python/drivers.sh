@@ -17,7 +17,7 @@ binding=bindings/python/drivers.sh
 open_server
 psql -c 'CREATE EXTENSION kohiblad'
 export PATH=$bin:$PATH PYTHONPATH=$here/src${PYTHONPATH:+:$PYTHONPATH} PYTHONDONTWRITEBYTECODE=1
-KOHIBLAD_LIBRARY=$(pkg-config --variable=libdir kohiblad)/libkohiblad.so.0
+KOHIBLAD_LIBRARY=$(pkg-config --variable=libdir kohiblad)/libkohiblad.so
 export KOHIBLAD_LIBRARY KOHIBLAD_DRIVERS=1
 note 'the lines of DRIVERS.md'
 cd "$here/tests"

@@ -35,10 +35,10 @@ else
     command -v pkg-config > /dev/null || pass_over pkg-config
     folder=$(pkg-config --variable=libdir kohiblad) || fail "pkg-config finds no kohiblad"
 fi
-library=$folder/libkohiblad.so.0
-[ -e "$library" ] || fail "there is no $library"
-
 top=$(cd "$(dirname "$0")/../.." && pwd)
+library=$folder/$(sed -n 's/^FILE_NAME = "\(.*\)"$/\1/p' "$top/$name/src/kohiblad/_library.py")
+[ -f "$library" ] || fail "there is no $library"
+
 cmp "$top/LICENSE" "$top/$name/LICENSE" || fail "LICENSE is not that of the repository"
 scratch=$(mktemp -d)
 trap 'rm -rf "$scratch"' EXIT

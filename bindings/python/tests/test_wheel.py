@@ -62,6 +62,7 @@ class PackageTest(unittest.TestCase):
         self.addCleanup(folder.cleanup)
         self.folder = folder.name
         self.path = os.environ["KOHIBLAD_LIBRARY"]
+        self.library = os.path.basename(self.path)
         prefix = os.path.dirname(os.path.dirname(self.path))
         self.environment = {name: value for name, value in os.environ.items()
                             if name not in ("KOHIBLAD_LIBRARY", "KOHIBLAD_NATIVE", "PYTHONPATH",
@@ -100,7 +101,7 @@ class WheelTest(PackageTest):
         self.assertRegex(wheel, r"kohiblad-[\d.]+-py3-none-linux_\w+\.whl$")
         with zipfile.ZipFile(wheel) as files:
             with open(self.path, "rb") as library:
-                self.assertEqual(files.read("kohiblad/libkohiblad.so.0"), library.read())
+                self.assertEqual(files.read(f"kohiblad/{self.library}"), library.read())
             self.assertIn("kohiblad/py.typed", files.namelist())
             info = re.search(r"\S+\.dist-info", " ".join(files.namelist())).group().split("/")[0]
             recorded = files.read(f"{info}/RECORD").decode()
@@ -120,7 +121,7 @@ class WheelTest(PackageTest):
         with zipfile.ZipFile(wheel) as files:
             suffix = sysconfig.get_config_var("EXT_SUFFIX")
             self.assertIn(f"kohiblad/_native{suffix}", files.namelist())
-            self.assertIn("kohiblad/libkohiblad.so.0", files.namelist())
+            self.assertIn(f"kohiblad/{self.library}", files.namelist())
             files.extractall(os.path.join(self.folder, "site"))
         self.assertEqual(self.run_python("-c", PRINTS_NATIVE, PYTHONPATH="site"), "True\n")
         self.run_python("-c", PROGRAM, PYTHONPATH="site", KOHIBLAD_NATIVE="1")
@@ -140,7 +141,7 @@ class WheelTest(PackageTest):
         wheel = self.wheel()
         self.assertTrue(wheel.endswith("-py3-none-any.whl"), wheel)
         with zipfile.ZipFile(wheel) as files:
-            self.assertNotIn("kohiblad/libkohiblad.so.0", files.namelist())
+            self.assertNotIn(f"kohiblad/{self.library}", files.namelist())
             files.extractall(os.path.join(self.folder, "site"))
         self.run_python("-c", PROGRAM, PYTHONPATH="site",
                         LD_LIBRARY_PATH=os.path.dirname(self.path))
@@ -231,7 +232,7 @@ class EditableTest(PackageTest):
         # A copy, since the library is linked into it.
         self.clone = os.path.join(self.folder, "clone")
         shutil.copytree(TOP, self.clone)
-        self.link = os.path.join(self.clone, "src", "kohiblad", "libkohiblad.so.0")
+        self.link = os.path.join(self.clone, "src", "kohiblad", self.library)
 
     def build(self, **more):
         """Builds the editable wheel by its hook and puts its files into site."""

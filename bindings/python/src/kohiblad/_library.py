@@ -19,7 +19,7 @@ from . import __version__
 from ._errors import (ExtensionError, InvalidDocumentError, InvalidTextError, KohibladError,
                       NumberError, OutOfMemoryError, PathError, TooDeepError, TooManyStepsError)
 
-FILE_NAME = "libkohiblad.so.0"
+FILE_NAME = "libkohiblad.so.0.7"
 OLDEST_VERSION = 7000
 
 OK = 0
