@@ -217,6 +217,23 @@ run_replication() {
     expect "the rows replicated" "$(query "$rows")" "$(query "$rows" replica)"
 }
 
+# Earlier versions made the same hashes, by which hash indexes and partitions find rows, and sorted
+# rows in the same order.
+run_stored() {
+    note "rows that earlier versions stored"
+    local stored
+    for stored in "$folder"/../../tests/stored/*/; do
+        query "DROP TABLE IF EXISTS stored"
+        query "CREATE TABLE stored (id serial, bytes text, hash int, extended bigint)"
+        psql -c "COPY stored (bytes, hash, extended) FROM STDIN" < "${stored}hashes.tsv"
+        expect "the hashes of $stored" "$(grep -c '' "${stored}hashes.tsv")" \
+            "$(query "SELECT count(*) FROM stored, LATERAL kohiblad(decode(bytes, 'hex')) d
+                WHERE hash = kohiblad_hash(d) AND extended = kohiblad_hash_extended(d, 1)")"
+        expect "the order of $stored" t "$(query "SELECT array_agg(id ORDER BY id) =
+            array_agg(id ORDER BY kohiblad(decode(bytes, 'hex')), id) FROM stored")"
+    done
+}
+
 # The owner of a database, who is no superuser, makes the extension and updates it.
 run_trusted() {
     note "an owner's extension"
@@ -226,30 +243,37 @@ run_trusted() {
     expect "a member" 7 "$("$bin/psql" -XAt -U owner -d owned -c "SELECT '[7]'::kohiblad -> 0")"
 }
 
-# An extension of version 0.6 that is updated has the catalogue of a new one.
-run_update() {
-    note "an update"
-    psql -c "CREATE DATABASE updated"
-    query "CREATE EXTENSION kohiblad VERSION '0.6'" updated
+catalogue_of() { psql -At -d "$1" -f "$folder/tests/catalogue.sql"; }
+
+# An extension of version $1 that is updated has the catalogue of a new one, in the file $2.
+update_from() {
+    local version
+    version=$(pkg-config --modversion kohiblad)
+    psql -c "DROP DATABASE IF EXISTS updated" -c "CREATE DATABASE updated"
+    query "CREATE EXTENSION kohiblad VERSION '$1'" updated
     query "CREATE TABLE goods AS SELECT '[7]'::kohiblad AS doc" updated
     query "CREATE VIEW shown AS SELECT doc::json FROM goods" updated
     query "ALTER EXTENSION kohiblad UPDATE" updated
-    local version
-    version=$(pkg-config --modversion kohiblad)
     expect "the version" "${version%.*}" "$(query "SELECT extversion FROM pg_extension
         WHERE extname = 'kohiblad'" updated)"
-    expect "the version in META.json" "$version" \
-        "$(sed -n 's/^    "version": "\(.*\)",$/\1/p' "$folder/META.json")"
     expect "the library's version" "$version" \
         "$(query "SELECT kohiblad_version()" updated)"
     expect "a row" '{"doc":[7]}' "$(query "SELECT row_to_json(goods) FROM goods" updated)"
     expect "a view" '[7]' "$(query "TABLE shown" updated)"
-    local database
-    for database in "$PGDATABASE" updated; do
-        psql -At -d "$database" -f "$folder/tests/catalogue.sql" > "$scratch/$database.catalogue"
+    catalogue_of updated | diff -u "$2" - >&2 || fail "the update from $1"
+    passed "$(wc -l < "$2")"
+}
+
+run_updates() {
+    note "updates"
+    expect "the version in META.json" "$(pkg-config --modversion kohiblad)" \
+        "$(sed -n 's/^    "version": "\(.*\)",$/\1/p' "$folder/META.json")"
+    catalogue_of "$PGDATABASE" > "$scratch/catalogue"
+    local script
+    for script in "$folder"/kohiblad--*--*.sql; do
+        script=${script##*/kohiblad--}
+        update_from "${script%%--*}" "$scratch/catalogue"
     done
-    diff -u "$scratch/$PGDATABASE.catalogue" "$scratch/updated.catalogue" >&2 || fail "the update"
-    passed "$(wc -l < "$scratch/updated.catalogue")"
 }
 
 # Several servers, with the programs and the extension that are installed.
@@ -281,8 +305,9 @@ run_latin
 run_dump
 run_servers
 run_replication
+run_stored
 run_trusted
-run_update
+run_updates
 run_cluster
 ! grep -E 'PANIC|terminated by signal' "$scratch/server.log" || fail "the server broke down"
 echo "$binding: $tests tests passed"

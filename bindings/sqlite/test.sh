@@ -62,6 +62,23 @@ run_script json1 UTF-8
 run_script many UTF-8
 run_script steps UTF-8
 
+# A database that an earlier version wrote, by store.sh: the integrity of an index by a function is
+# checked by calling it for each row.
+for stored in ../../tests/stored/*/; do
+    echo "the rows of $(basename "$stored")"
+    cp "${stored}rows.db" "$scratch/stored.db"
+    sqlite3 -batch -cmd ".load $scratch/out/kohiblad" "$scratch/stored.db" > "$scratch/printed" \
+        "SELECT jb_text(doc) FROM rows INDEXED BY by_key ORDER BY jb_key(doc);
+        SELECT count(*) FROM rows a, rows b INDEXED BY by_key
+            WHERE a.id = b.id AND jb_key(a.doc) = jb_key(b.doc);
+        SELECT jb_value(doc, '\$.id') FROM rows INDEXED BY by_town
+            WHERE jb_key(jb_at(doc, '\$.town')) = jb_key(jb_of('Oslo'));
+        PRAGMA integrity_check"
+    { cut -f 2 "${stored}rows.tsv"; grep -c '' "${stored}rows.tsv"; printf '3\n2\nok\n'; } |
+        diff - "$scratch/printed" || fail "the rows of $stored"
+    tests=$((tests + $(grep -c '' "$scratch/printed")))
+done
+
 echo 'tests/deepest.sql with 2.5 MB of stack'
 # shellcheck disable=SC3045 # dash and bash have ulimit -s
 (ulimit -s 2560 && run_script deepest UTF-8) || fail 'the stack'
