@@ -4,7 +4,7 @@ from drawing import Drawing
 # Where each crate is: its column and its row, counted from below, and its kind.
 PLACES = {
     "jsonb_value": (2, 0, "green"), "jsonb_codec": (2, 1, "green"), "jsonb": (2, 2, "green"),
-    "answer_lines": (0.5, 2, "green"),
+    "answer_lines": (0.5, 2, "green"), "typed_vector": (5.5, 2, "green"),
     "jsonb_cli": (0, 3, "blue"), "jsonb_column": (0.5, 4, "green"), "uses": (2.9, 3, "plain"),
     "jsonb_comparable": (4.05, 3, "green"),
     "jsonb_column_cli": (1.4, 5, "blue"), "jsonb_rows": (2.9, 4, "plain"),

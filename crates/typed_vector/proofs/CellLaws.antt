@@ -1,0 +1,191 @@
+-- A row that is appended to the stored form is one more row.
+use Rattle.std.proofs.Common.{◌≡◌, ℕ, suc, Bool, ◌+◌, ◌-◌, ◌≤◌, List, [], ◌∷◌, ◌++◌, take, drop}
+use Rattle.std.proofs.Common.{zero, false, Some, ◌<◌, get_or, length, refl, sym, ap, ap₂}
+use Rattle.std.proofs.Common.{subst, ◌∙◌, arith}
+use Rattle.std.proofs.Math.Seq.{drop-append_seam, take-length}
+use Rattle.std.proofs.lemmas.List.{take-append-le, drop-append-le, length-drop, length-append}
+use Rattle.std.specs.Prelude.{slice_get}
+use Rattle.typed_vector.specs.Cells.{Cell, cell, cells, rows_from, rows}
+use Rattle.typed_vector.specs.Cells.{AreEnds, AreOffsets, AreAlike}
+
+-- The first end is at most the size.
+start-le : (size start : ℕ) (ends : List ℕ) → AreEnds size start ends → start ≤ size
+start-le size start [] h = omega arith
+start-le size start (e ∷ es) h =
+    let later = start-le size e es h.1 in omega (arith, h.0, later)
+
+AreEnds-push : (size more start : ℕ) (ends : List ℕ) → AreEnds size start ends → size ≤ more
+    → AreEnds more start (ends ++ more ∷ [])
+AreEnds-push size more start [] h le = (omega (arith, h), refl)
+AreEnds-push size more start (e ∷ es) h le = (h.0, AreEnds-push size more e es h.1 le)
+
+rows_from-push : (b c : List ℕ) (start end : ℕ) (ends : List ℕ) → AreEnds (length b) start ends
+    → end ≡ length b + length c
+    → rows_from (b ++ c) start (ends ++ end ∷ []) ≡ rows_from b start ends ++ c ∷ []
+rows_from-push b c start end [] h is =
+    let size : end - start ≡ length c = omega (arith, h, is) in
+    ap (λ (x : List ℕ). x ∷ [])
+    (ap₂ (λ (n m : ℕ). take n (drop m (b ++ c))) size h
+    ∙ ap (take (length c)) (drop-append_seam b c) ∙ take-length c)
+rows_from-push b c start end (e ∷ es) h is =
+    let last = start-le (length b) e es h.1 in
+    ap₂ (λ (x : List ℕ) (xs : List (List ℕ)). x ∷ xs)
+    (ap (take (e - start)) (drop-append-le start b c (omega (arith, h.0, last)))
+    ∙ take-append-le (e - start) (drop start b) c (omega (arith, length-drop start b, last, h.0)))
+    (rows_from-push b c e end es h.1 is)
+
+pub rows-push : (b c : List ℕ) (end : ℕ) (offsets : List ℕ) → AreOffsets (length b) offsets
+    → end ≡ length b + length c
+    → rows (b ++ c) (offsets ++ end ∷ []) ≡ rows b offsets ++ c ∷ []
+rows-push b c end [] h is = absurd h
+rows-push b c end (s ∷ es) h is = rows_from-push b c s end es h.1 is
+
+pub AreOffsets-push : (size more : ℕ) (offsets : List ℕ) → AreOffsets size offsets → size ≤ more
+    → AreOffsets more (offsets ++ more ∷ [])
+AreOffsets-push size more [] h le = absurd h
+AreOffsets-push size more (s ∷ es) h le = (h.0, AreEnds-push size more s es h.1 le)
+
+length-rows_from : (b : List ℕ) (start : ℕ) (ends : List ℕ)
+    → length (rows_from b start ends) ≡ length ends
+length-rows_from b start [] = refl
+length-rows_from b start (e ∷ es) = ap (λ n. suc n) (length-rows_from b e es)
+
+pub length-rows : (b : List ℕ) (offsets : List ℕ) → AreOffsets (length b) offsets
+    → length (rows b offsets) + 1 ≡ length offsets
+length-rows b [] h = absurd h
+length-rows b (s ∷ es) h = omega (arith, length-rows_from b s es)
+
+-- The row at an index lies between two offsets, which are inside the bytes.
+pub record IsRowAt (b offsets : List ℕ) (i : ℕ) : Type 0 where
+  pub low : get_or offsets i 0 ≤ get_or offsets (suc i) 0
+  pub high : get_or offsets (suc i) 0 ≤ length b
+  pub row : get_or (rows b offsets) i []
+      ≡ take (get_or offsets (suc i) 0 - get_or offsets i 0) (drop (get_or offsets i 0) b)
+
+row_from-at : (b : List ℕ) (start : ℕ) (ends : List ℕ) (i : ℕ) → AreEnds (length b) start ends
+    → i < length ends → IsRowAt b (start ∷ ends) i
+row_from-at b start [] i h low = absurd (omega (arith, low))
+row_from-at b start (e ∷ es) zero h low =
+    record { low = h.0; high = start-le (length b) e es h.1; row = refl }
+row_from-at b start (e ∷ es) (suc i) h low =
+    let later = row_from-at b e es i h.1 (omega (arith, low)) in
+    record { low = later.low; high = later.high; row = later.row }
+
+pub row-at : (b offsets : List ℕ) (i : ℕ) → AreOffsets (length b) offsets
+    → i + 1 < length offsets → IsRowAt b offsets i
+row-at b [] i h low = absurd h
+row-at b (s ∷ es) i h low = row_from-at b s es i h.1 (omega (arith, low))
+
+cells-push : {A : Type 0} (vs : List A) (bs : List Bool) (rs : List (List ℕ)) (v : A) (b : Bool)
+    (r : List ℕ)
+    → length bs ≡ length vs → length rs ≡ length vs
+    → cells (vs ++ v ∷ []) (bs ++ b ∷ []) (rs ++ r ∷ []) ≡ cells vs bs rs ++ cell v b r ∷ []
+cells-push [] [] [] v b r hb hr = refl
+cells-push [] [] (x ∷ rs) v b r hb hr = absurd (omega (arith, hr))
+cells-push [] (x ∷ bs) rs v b r hb hr = absurd (omega (arith, hb))
+cells-push (x ∷ vs) [] rs v b r hb hr = absurd (omega (arith, hb))
+cells-push (x ∷ vs) (y ∷ bs) [] v b r hb hr = absurd (omega (arith, hr))
+cells-push {A = A} (x ∷ vs) (y ∷ bs) (z ∷ rs) v b r hb hr =
+    ap (λ (cs : List (Cell A)). cell x y z ∷ cs)
+    (cells-push vs bs rs v b r (omega (arith, hb)) (omega (arith, hr)))
+
+pub length-cells : {A : Type 0} (vs : List A) (bs : List Bool) (rs : List (List ℕ))
+    → length bs ≡ length vs
+    → length rs ≡ length vs → length (cells vs bs rs) ≡ length vs
+length-cells [] bs rs hb hr = refl
+length-cells (x ∷ vs) [] rs hb hr = absurd (omega (arith, hb))
+length-cells (x ∷ vs) (y ∷ bs) [] hb hr = absurd (omega (arith, hr))
+length-cells (x ∷ vs) (y ∷ bs) (z ∷ rs) hb hr =
+    ap (λ n. suc n) (length-cells vs bs rs (omega (arith, hb)) (omega (arith, hr)))
+
+pub cells-at : {A : Type 0} (vs : List A) (bs : List Bool) (rs : List (List ℕ)) (i : ℕ) (v : A)
+    → length bs ≡ length vs → length rs ≡ length vs → i < length vs
+    → slice_get (cells vs bs rs) i
+    ≡ Some (cell (get_or vs i v) (get_or bs i false) (get_or rs i []))
+cells-at [] bs rs i v hb hr low = absurd (omega (arith, low))
+cells-at (x ∷ vs) [] rs i v hb hr low = absurd (omega (arith, hb))
+cells-at (x ∷ vs) (y ∷ bs) [] i v hb hr low = absurd (omega (arith, hr))
+cells-at (x ∷ vs) (y ∷ bs) (z ∷ rs) zero v hb hr low = refl
+cells-at (x ∷ vs) (y ∷ bs) (z ∷ rs) (suc i) v hb hr low =
+    cells-at vs bs rs i v (omega (arith, hb)) (omega (arith, hr)) (omega (arith, low))
+
+pub pushed : {A : Type 0} (vs : List A) (bs : List Bool) (b es : List ℕ) (v : A) (is : Bool)
+    (c : List ℕ) → AreAlike vs bs b es → (end : ℕ) → end ≡ length b + length c
+    → AreAlike (vs ++ v ∷ []) (bs ++ is ∷ []) (b ++ c) (es ++ end ∷ [])
+    × (cells (vs ++ v ∷ []) (bs ++ is ∷ []) (rows (b ++ c) (es ++ end ∷ []))
+    ≡ cells vs bs (rows b es) ++ cell v is c ∷ [])
+pushed vs bs b es v is c alike end size = (
+  record {
+    flags = omega (
+      arith,
+      alike.flags,
+      length-append bs (is ∷ []),
+      length-append vs (v ∷ []),
+    );
+    counted = omega (
+      arith,
+      alike.counted,
+      length-append es (end ∷ []),
+      length-append vs (v ∷ []),
+    );
+    ascending = subst (λ (n : ℕ). AreOffsets n (es ++ end ∷ []))
+        (size ∙ sym (length-append b c))
+        (AreOffsets-push (length b) end es alike.ascending (omega (arith, size)));
+  },
+  ap (cells (vs ++ v ∷ []) (bs ++ is ∷ [])) (rows-push b c end es alike.ascending size)
+      ∙ cells-push vs bs (rows b es) v is c alike.flags
+      (omega (arith, length-rows b es alike.ascending, alike.counted)),
+)
+
+-- The same by what each part has become.
+pub pushed_to : {A : Type 0} (vs vs' : List A) (bs bs' : List Bool) (b b' es es' : List ℕ) (v : A)
+    (is : Bool) (c : List ℕ) (end : ℕ) → AreAlike vs bs b es → vs' ≡ vs ++ v ∷ []
+    → bs' ≡ bs ++ is ∷ [] → b' ≡ b ++ c → es' ≡ es ++ end ∷ [] → end ≡ length b'
+    → AreAlike vs' bs' b' es'
+    × (cells vs' bs' (rows b' es') ≡ cells vs bs (rows b es) ++ cell v is c ∷ [])
+pushed_to vs vs' bs bs' b b' es es' v is c end alike pv pb pr pe size =
+    let same = pushed vs bs b es v is c alike end
+    (size ∙ ap length pr ∙ length-append b c) in
+    rw (pv, pb, pr, pe) same
+
+-- What is there of the row at an index.
+pub record IsThere {A : Type 0} (vs : List A) (bs : List Bool) (rest offsets : List ℕ) (i : ℕ)
+    : Type 0 where
+  pub value : i < length vs
+  pub flag : i < length bs
+  pub next : i + 1 < length offsets
+  pub between : IsRowAt rest offsets i
+  pub is : (v : A) → slice_get (cells vs bs (rows rest offsets)) i
+      ≡ Some (cell (get_or vs i v) (get_or bs i false)
+      (take (get_or offsets (suc i) 0 - get_or offsets i 0) (drop (get_or offsets i 0) rest)))
+
+pub is_there : {A : Type 0} (vs : List A) (bs : List Bool) (rest offsets : List ℕ) (i : ℕ)
+    → AreAlike vs bs rest offsets → i < length (cells vs bs (rows rest offsets))
+    → IsThere vs bs rest offsets i
+is_there vs bs rest offsets i alike low =
+    let many : length (rows rest offsets) ≡ length vs =
+    omega (arith, length-rows rest offsets alike.ascending, alike.counted) in
+    let value : i < length vs =
+    omega (arith, low, length-cells vs bs (rows rest offsets) alike.flags many) in
+    let at = row-at rest offsets i alike.ascending (omega (arith, value, alike.counted)) in
+    record {
+      value = value;
+      flag = omega (arith, value, alike.flags);
+      next = omega (arith, value, alike.counted);
+      between = at;
+      is = λ v. cells-at vs bs (rows rest offsets) i v alike.flags many value
+          ∙ ap (λ (r : List ℕ). Some (cell (get_or vs i v) (get_or bs i false) r)) at.row;
+    }
+
+-- What is shown of the row at an index is what the row has.
+pub shown : {A : Type 0} (vs : List A) (bs : List Bool) (rest offsets : List ℕ) (i : ℕ)
+    → IsThere vs bs rest offsets i → (v : A) (is : Bool) (start end : ℕ) (bytes : List ℕ)
+    → v ≡ get_or vs i v → is ≡ get_or bs i false → start ≡ get_or offsets i 0
+    → end ≡ get_or offsets (suc i) 0 → bytes ≡ rest
+    → slice_get (cells vs bs (rows rest offsets)) i
+    ≡ Some (cell v is (take (end - start) (drop start bytes)))
+shown vs bs rest offsets i there v is start end bytes pv pb ps pe pr =
+    rw (ps, pe, pr) (there.is v ∙ ap₂ (λ x y. Some
+    (cell x y (take (get_or offsets (suc i) 0 - get_or offsets i 0)
+    (drop (get_or offsets i 0) rest))))
+    (sym pv) (sym pb))
