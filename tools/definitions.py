@@ -18,8 +18,8 @@ from rattle import (TOP, cited, exported, facts_of, files_of, functions_of, impo
 
 CRATES = [
     "jsonb_value", "json_fault", "jsonb_codec", "jsonb", "jsonb_comparable", "jsonb_functions",
-    "uses", "typed_vector", "answer_lines", "jsonb_cli", "jsonb_column", "jsonb_column_cli",
-    "kohiblad",
+    "uses", "typed_vector", "jsonb_typed", "answer_lines", "jsonb_cli", "jsonb_column",
+    "jsonb_column_cli", "kohiblad",
 ]
 PROGRAM = {"run", "answer", "answer_lines", "ask"}
 PAGE = f"{TOP}/docs/DEFINITIONS.md"

@@ -13,7 +13,7 @@ import textwrap
 TOP = os.path.dirname(os.path.dirname(os.path.abspath(__file__)))
 # The crates that callers name: `jsonb` exports what the two below it do.
 CRATES = ("jsonb", "jsonb_functions", "jsonb_comparable", "jsonb_column", "json_fault",
-          "typed_vector", "uses")
+          "typed_vector", "jsonb_typed", "uses")
 # The modules of a library that have names for proofs, and for the libraries above.
 MODULES = ("laws", "layer")
 WIDTH = 100

@@ -1,0 +1,4 @@
+pub mod DocumentLaws
+pub mod NumberLaws
+pub mod RowLaws
+pub mod TypeLaws

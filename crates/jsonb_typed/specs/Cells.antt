@@ -1,0 +1,23 @@
+-- What the rows of a typed column have, by the members that they had.
+use Rattle.std.specs.Prelude.{⊤, List, Option, None, Some}
+use Rattle.jsonb_value.specs.Tree.{Tree}
+use Rattle.jsonb_codec.specs.Doc.{Doc}
+use Rattle.jsonb.specs.declared.document.Document.{Document}
+use Rattle.jsonb.specs.Document.{document_tree}
+use Rattle.jsonb_functions.specs.declared.path.Step.{Step}
+use Rattle.jsonb_functions.specs.Found.{found_at}
+use Rattle.typed_vector.specs.Cells.{Cell, absent, value, other}
+
+-- A row without the member has nothing. One with it has a value that stands for the member, or, if
+-- no value does, a document of it.
+abbrev pub IsCellOf : {V : Type 0} → (V → Tree → Type 0) → Option Tree → Cell V → Type 0
+IsCellOf Stands None absent = ⊤
+IsCellOf Stands None (value v) = ⊥
+IsCellOf Stands None (other bytes) = ⊥
+IsCellOf Stands (Some t) absent = ⊥
+IsCellOf Stands (Some t) (value v) = Stands v t
+IsCellOf {V = V} Stands (Some t) (other bytes) = Doc bytes t × ((v : V) → Stands v t → ⊥)
+
+-- The same of the member of a row at the end of a path.
+abbrev pub IsCellAt : {V : Type 0} → (V → Tree → Type 0) → List Step → Document → Cell V → Type 0
+IsCellAt Stands path row c = IsCellOf Stands (found_at path (document_tree row)) c

@@ -1,0 +1,4 @@
+pub mod Cells
+pub mod Numbers
+pub mod Types
+pub mod Words

@@ -1,0 +1,32 @@
+-- Which values of a column stand for which members.
+use Rattle.std.specs.Prelude.{◌≡◌, ◌<◌, ◌^◌, List, ℕ, ℤ, pos, FitsSigned, Option, None, Some}
+use Rattle.std.specs.Int.{w64, w128}
+use Rattle.jsonb_value.specs.Tree.{Tree, number, text, extension}
+use Rattle.jsonb_typed.specs.declared.numbers.Fit.{Fit}
+use Rattle.jsonb_typed.specs.Numbers.{IsNumberAt}
+
+-- The value / 10^scale is this member, a number, as the fit says.
+abbrev pub IsNumber : Fit → ℕ → ℤ → Tree → Type 0
+IsNumber fit scale v (number x) = IsNumberAt fit scale v x
+IsNumber fit scale v t = ⊥
+
+-- The same of a whole number of 64 bits with a sign.
+abbrev pub IsInt64 : Fit → ℤ → Tree → Type 0
+IsInt64 fit v t = FitsSigned w64 v × IsNumber fit 0 v t
+
+-- The same of a whole number of 64 bits without a sign.
+abbrev pub IsUInt64 : Fit → ℕ → Tree → Type 0
+IsUInt64 fit n t = (n < 2 ^ 64) × IsNumber fit 0 (pos n) t
+
+-- The same of a value of 128 bits.
+abbrev pub IsDecimal : Fit → ℕ → ℤ → Tree → Type 0
+IsDecimal fit scale v t = FitsSigned w128 v × IsNumber fit scale v t
+
+-- The tree of an extension value; no other has one.
+abbrev pub extension_tree : Tree → Option Tree
+extension_tree (extension e) = Some (extension e)
+extension_tree t = None
+
+-- The member is the text of these bytes.
+abbrev pub IsText : List ℕ → Tree → Type 0
+IsText s t = t ≡ text s

@@ -1,0 +1,63 @@
+//! The members of rows as a column of one type.
+
+ghost use Rattle.std.specs.Prelude.{◌≡◌, ◌∷◌, ◌++◌, [], OnOk, OnErr, IfOk, IfErr, option_map};
+ghost use Rattle.std.specs.List.{AllZip};
+ghost use Rattle.jsonb_typed.specs.Words.{Cell, IsCellAt, IsCellOf, node_tree};
+
+use crate::column_type::ColumnType;
+use crate::keeping::{document_of, opened};
+use crate::member::member_of;
+use jsonb::{Document, Error, Node};
+use jsonb_functions::Step;
+use std::alloc::Global;
+use typed_vector::Typed;
+
+/// The members of all rows at the end of a path, as a column of one type. Each member that is no
+/// value of it is kept as a document. `OutOfMemory` is the only error.
+pub fn extract<T: ColumnType>(
+    alloc: Global,
+    rows: &[Document<'_>],
+    path: &[Step<'_>],
+    column_type: &T,
+) -> Result<Typed<T::Value>, Error>
+    ensures cells { IfOk result
+        (λ column. AllZip (IsCellAt (T.stands column_type.now) path.now) rows.now column) }
+    ensures memory { IfErr result (λ e. e ≡ Error.OutOfMemory) }
+{
+    let mut column = Typed::new(alloc, column_type.blank())?;
+    column.reserve(rows.len())?;
+    for row in rows {
+        push_member(alloc, &mut column, member_of(*row, path), column_type)?;
+    }
+    Ok(column)
+}
+
+/// Appends the member of one more row; `None` if the row has no such member. After an error, which
+/// is `OutOfMemory`, the column is as before. It is so refused also if no document holds the
+/// member, which is never so of a member of a document.
+#[tactic(auto, using(crate::proofs::DocumentLaws::some_bytes))]
+pub fn push_member<T: ColumnType>(
+    alloc: Global,
+    column: &mut Typed<T::Value>,
+    member: Option<Node<'_>>,
+    column_type: &T,
+) -> Result<(), Error>
+    ensures pushed { OnOk result ((c : Cell T.Value) × ((column.new ≡ column.old ++ c ∷ [])
+        × IsCellOf (T.stands column_type.now) (option_map node_tree member.entry) c)) }
+    ensures kept { OnErr result (column.new ≡ column.old) }
+    ensures memory { IfErr result (λ e. e ≡ Error.OutOfMemory) }
+{
+    let Some(member) = member else {
+        column.push_absent()?;
+        return Ok(());
+    };
+    let member = opened(member);
+    match column_type.value_of(member) {
+        Some(value) => column.push_value(value)?,
+        None => {
+            let document = document_of(alloc, member)?;
+            column.push_other(document.as_bytes())?;
+        }
+    }
+    Ok(())
+}

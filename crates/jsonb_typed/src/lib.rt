@@ -1,0 +1,17 @@
+//! Typed columns: a member of all rows as a vector of one type, and beside it the members that do
+//! not fit the type.
+#![tactic(auto)]
+
+mod column_type;
+mod columns;
+mod keeping;
+mod member;
+mod numbers;
+mod texts;
+mod types;
+
+pub use column_type::ColumnType;
+pub use columns::{extract, push_member};
+pub use numbers::{Fit, value_at_scale};
+pub use texts::{extract_texts, push_text};
+pub use types::{Boolean, Dates, Decimal, Int64, Intervals, Timestamps, UInt64, ZonedTimestamps};
