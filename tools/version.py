@@ -37,6 +37,7 @@ PLACES = {
     "bindings/rust/build.rs": ["kohiblad >= <minor>"],
     "bindings/rust/src/lib.rs": ["<number> is <version>.", "kohiblad::version() >= <first>"],
     "bindings/sqlite/FUNCTIONS.md": ["the version of the library, as `<version>`"],
+    "docs/RELEASE.md": ["libkohiblad<minor>_*.deb", "need `libkohiblad<minor>`"],
     "docs/C.md": [SONAME, "`KOHIBLAD_<minor>`"],
 }
 
