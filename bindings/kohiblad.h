@@ -48,10 +48,10 @@
  *
  *     256 bytes: check, is_canonical, build_array, build_object, exists, object_keys, top_keys,
  *                get_path, path_in
- *     320 bytes: print, pretty, key, key_cut, member_key, select
+ *     320 bytes: print, pretty, key, key_cut, member_key, select, compare, sort,
+ *                array_intersection, array_overlap
  *     448 bytes: canonical, strip_nulls, index_keys
- *     768 bytes: compare, sort, pick, array_distinct, array_intersection, array_except,
- *                array_overlap
+ *     576 bytes: pick, array_distinct, array_except
  *
  * kohiblad_edit takes KOHIBLAD_EDIT_LEVEL_STACK bytes for each level of its result, which may nest
  * as deep as the path is long and the value nests together, also where these are within the depth;
