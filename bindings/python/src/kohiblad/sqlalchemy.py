@@ -4,28 +4,30 @@ In PostgreSQL it is the extension's type ``kohiblad``, whose operators its expre
 other databases it is a column of the documents' bytes. A value that is written is a document or a
 Python value, and one that is read a document. None is NULL, and ``Document.of(None)`` JSON's null.
 """
+# Whether SQLAlchemy has types depends on its version and on the stubs that are installed.
+# mypy: ignore-errors
 from typing import Any, Optional
 
-from sqlalchemy import Integer, LargeBinary, Text, literal  # type: ignore
-from sqlalchemy.dialects.postgresql.base import ischema_names  # type: ignore
-from sqlalchemy.types import TypeDecorator, UserDefinedType  # type: ignore
+from sqlalchemy import Integer, LargeBinary, Text, literal
+from sqlalchemy.dialects.postgresql.base import ischema_names
+from sqlalchemy.types import TypeDecorator, UserDefinedType
 
 from ._document import Document
 from .sql import read_text, write_text
 
 
-class _PostgresType(UserDefinedType):  # type: ignore
+class _PostgresType(UserDefinedType):
     cache_ok = True
 
     def get_col_spec(self, **_: Any) -> str:
         return "kohiblad"
 
 
-class KohibladType(TypeDecorator):  # type: ignore
+class KohibladType(TypeDecorator):
     impl = LargeBinary
     cache_ok = True
 
-    class comparator_factory(TypeDecorator.Comparator):  # type: ignore
+    class comparator_factory(TypeDecorator.Comparator):
         def __getitem__(self, key: Any) -> Any:
             return self.expr.op("->", return_type=KohibladType())(_step(key))
 
