@@ -22,6 +22,10 @@ pub is_some_found : {A : Type 0} (o : Option A) → is_some o ≡ true → (x : 
 is_some_found None e = absurd (let h : ⊥ = cc in h)
 is_some_found (Some x) e = (x, refl)
 
+pub some_if : {A : Type 0} (o : Option A) → (o ≡ None → ⊥) → is_some o ≡ true
+some_if None h = absurd (h refl)
+some_if (Some x) h = refl
+
 pub either_found : {A : Type 0} (x y : Option A) (z : A) → option_or x y ≡ Some z → (x ≡ Some z)
     ⊎ ((x ≡ None) × (y ≡ Some z))
 either_found None y z e = inr (refl, e)

@@ -1,8 +1,8 @@
 -- The scan of a text, character by character.
 use Rattle.std.proofs.Common.{◌≡◌, ℕ, ◌+◌, ◌-◌, ◌*◌, ◌<◌, ◌≤◌, inl, inr, Bool, true, false, cond}
-use Rattle.std.proofs.Common.{refl, sym, ap, ◌∙◌, subst, lit<, arith, List, [], ◌∷◌, ◌++◌}
+use Rattle.std.proofs.Common.{◌↔◌, refl, sym, ap, ◌∙◌, subst, lit<, arith, List, [], ◌∷◌, ◌++◌}
 use Rattle.std.proofs.Common.{append_assoc, length, length-append, Option, Some, None, eqb-true}
-use Rattle.std.specs.Prelude.{◌/◌, ◌||◌, ◌==◌, nat_lt, nat_le, min, option_map}
+use Rattle.std.specs.Prelude.{◌/◌, ◌||◌, ◌==◌, nat_lt, nat_le, min, option_map, is_some}
 use Rattle.std.specs.Char.{digit_value, is_digit}
 use Rattle.jsonb_value.specs.Json.Characters.{quote, comma, colon, open_bracket, close_bracket}
 use Rattle.jsonb_value.specs.Json.Characters.{open_brace, close_brace, is_blank, minus, zero_digit}
@@ -36,7 +36,7 @@ use Rattle.json_fault.specs.Scan.{mark_begun, rest_begun, rest_followed, word_co
 use Rattle.json_fault.specs.Scan.{string_continued, scale_of, log10, raising, without_digits}
 use Rattle.json_fault.specs.Scan.{reaches, exponent_continued, exponent_begun, mark_after}
 use Rattle.json_fault.specs.Scan.{takes_exponent, is_end}
-use Rattle.json_fault.proofs.Conditions.{less_from, less_test, most_test, either_found}
+use Rattle.json_fault.proofs.Conditions.{either_found, is_some_found, less_from, less_test, most_test, some_if}
 use Rattle.json_fault.proofs.Endings.{Completes}
 use Rattle.json_fault.proofs.ExponentBack.{exponent_at}
 use Rattle.json_fault.proofs.StepBack.{can_end, is_live, exponent_taken, viable_magnitude}
@@ -453,6 +453,28 @@ pub refused : (rule : Exponents) (front : List ℕ) (x : Position) (c : ℕ)
 refused rule front x c arrived none begins =
     stuck rule x.0 x.1 c begins.0 none (text_goes_on rule front (c ∷ begins.0) x arrived
     (subst (IsJsonUnder rule) (append_assoc front (c ∷ []) begins.0) begins.1))
+
+-- a character may come exactly if what was read begins a JSON text with it
+pub next_comes : (rule : Exponents) {text front rest : List ℕ} {e : Expected} {bs : List Bracket}
+    → IsReached rule text front rest e bs → (c : ℕ)
+    → (is_some (followed rule e (innermost_bracket bs) c) ≡ true) ↔ Begins rule (front ++ c ∷ [])
+next_comes rule {text} {front} {rest} {e} {bs} reached c = (
+  λ some.
+      let found = is_some_found (followed rule e (innermost_bracket bs) c) some in
+      let here : IsReached rule (front ++ c ∷ []) front (c ∷ []) e bs =
+      record {
+        is_split = refl;
+        arrived = reached.arrived;
+        completed = reached.completed;
+        sound = reached.sound;
+      } in
+      let next = moved rule found.0 here refl found.1 in
+      begins_at rule (front ++ c ∷ []) (found.0.0, changed found.0.1 bs) next.sound.live
+      next.completed,
+  λ begins.
+      some_if (followed rule e (innermost_bracket bs) c)
+      (λ none. refused rule front (e, bs) c reached.arrived none begins),
+)
 
 -- the text ends here
 pub ended : (rule : Exponents) {text front rest : List ℕ} {e : Expected} {bs : List Bracket}

@@ -1,6 +1,10 @@
 -- The names that the clauses of this crate cite, passed on from one place.
 pub use Rattle.jsonb_value.specs.Json.Characters.{is_blank, is_exponent_mark}
 pub use Rattle.jsonb_value.specs.Json.Piece.{escape_value}
+pub use Rattle.json_fault.specs.Classes.{any_digit, class_bit, class_bits, digit_comes}
+pub use Rattle.json_fault.specs.Classes.{escape_comes, exponent_comes, followed_by}
+pub use Rattle.json_fault.specs.Classes.{hex_digit_comes, key_comes, letter_bits, number_bits}
+pub use Rattle.json_fault.specs.Classes.{outside, string_bits, structure_bits, value_comes}
 pub use Rattle.json_fault.specs.Fault.{IsFaultAt, IsFaultAtWithExponents, IsFaultUnder, IsJson}
 pub use Rattle.json_fault.specs.Fault.{IsJsonUnder, IsJsonWithExponents}
 pub use Rattle.json_fault.specs.Scan.{after_backslash, after_digit, after_digit_of_d}
@@ -16,3 +20,4 @@ pub use Rattle.json_fault.specs.Scan.{token_begun, value_begun, viable_only, wit
 pub use Rattle.json_fault.specs.Scan.{with_value, without_digits, word_continued, zeros}
 pub use Rattle.json_fault.specs.Scan.{part_goes_on, is_unfinished, goes_on, stops_in_number}
 pub use Rattle.json_fault.specs.Scan.{reason_at}
+pub use Rattle.json_fault.specs.Stop.{IsExpected, IsStop}

@@ -3,9 +3,9 @@
 ghost use Rattle.std.specs.Prelude.{◌≡◌, ◌↔◌, chars, reverse, OnOk, IfOk, IfErr, IfSome};
 ghost use Rattle.json_fault.specs.Words.{IsJson, IsFaultAt, IsJsonWithExponents, IsJsonUnder};
 ghost use Rattle.json_fault.specs.Words.{IsFaultAtWithExponents, IsFaultUnder, innermost_bracket};
-ghost use Rattle.json_fault.specs.Words.{changed};
-ghost use Rattle.json_fault.specs.Words.{reason_at};
+ghost use Rattle.json_fault.specs.Words.{changed, IsExpected, IsStop, reason_at};
 
+use crate::classes::Next;
 use crate::expected::{Bracket, Change, Expected, followed, stops_in_number};
 use jsonb_value::{Error, Exponents, is_json};
 use std::alloc::Global;
@@ -65,25 +65,50 @@ fn reason_at(expected: Expected, next: Option<char>) -> FaultReason
     }
 }
 
-// The fault of a text that is not JSON under this rule for exponents; of JSON, the end of the text.
-fn scanned(alloc: Global, text: &str, exponents: Exponents) -> Result<Fault, Error>
-    ensures ok { IfOk result (IsFaultUnder exponents (chars text.now)) }
+// Where the scan of a text stops: behind its longest beginning that begins a JSON text.
+#[derive(Clone, Copy)]
+struct Stop {
+    // The length of that beginning.
+    offset: usize,
+    // What is expected there.
+    next: Next,
+    // What is there: a character, or the end of the text.
+    character: Option<char>,
+}
+
+// Where a text is not JSON under this rule for exponents; of JSON, the end of the text.
+fn scanned(alloc: Global, text: &str, exponents: Exponents) -> Result<Stop, Error>
+    ensures ok { IfOk result (IsStop exponents text.now) }
     ensures memory { IfErr result (λ e. e ≡ Error.OutOfMemory) }
 {
     let mut brackets = Vec::new(alloc);
     let mut expected = Expected::Value;
     'scan: for (offset, character) in text.char_indices() {
         let top = innermost(&brackets);
-        let Some((next, bracket)) = followed(exponents, expected, top, character) else {
-            let reason = reason_at(expected, Some(character));
-            return Ok(Fault { offset, reason });
+        let next = Next {
+            exponents,
+            expected,
+            top,
+        };
+        let Some((follows, bracket)) = followed(exponents, expected, top, character) else {
+            let character = Some(character);
+            return Ok(Stop {
+                offset,
+                next,
+                character,
+            });
         };
         change(&mut brackets, bracket)?;
-        expected = next;
+        expected = follows;
     }
-    Ok(Fault {
+    Ok(Stop {
         offset: text.len(),
-        reason: reason_at(expected, None),
+        next: Next {
+            exponents,
+            expected,
+            top: innermost(&brackets),
+        },
+        character: None,
     })
 }
 
@@ -98,7 +123,11 @@ fn fault_under(alloc: Global, text: &str, exponents: Exponents) -> Result<Option
     if is_json(alloc, text, exponents)? {
         return Ok(None);
     }
-    Ok(Some(scanned(alloc, text, exponents)?))
+    let stop = scanned(alloc, text, exponents)?;
+    Ok(Some(Fault {
+        offset: stop.offset,
+        reason: reason_at(stop.next.expected, stop.character),
+    }))
 }
 
 /// Where a text is not JSON, and why; `None` if it is JSON, as `parse_value` reads it.
@@ -136,4 +165,22 @@ pub fn text_fault_with_exponents(alloc: Global, text: &str) -> Result<Option<Fau
     ensures memory { IfErr result (λ e. e ≡ Error.OutOfMemory) }
 {
     fault_under(alloc, text, Exponents::Allowed)
+}
+
+/// What may come after the longest beginning of a text that begins a JSON text, with exponents if
+/// they are allowed: of JSON the whole text, and of other texts what is before their fault.
+///
+/// The result is the sum of those of the classes `EXPECTED_VALUE`, `EXPECTED_COMMA` and so on that
+/// may come. A class may come exactly if that beginning with one of its characters after it begins
+/// a JSON text, where a quote is a key only if no value may begin, and a digit one of a number only
+/// if neither a value nor a hexadecimal digit may come; in a string the one class is the rest of
+/// the string. `EXPECTED_END` exactly if that beginning is JSON. White space has no class.
+/// `OutOfMemory` if an allocation fails. The text is read once, and its beginning a second time.
+pub fn text_expected(alloc: Global, text: &str, exponents: Exponents) -> Result<u32, Error>
+    ensures ok { IfOk result (IsExpected exponents (chars text.now)) }
+    ensures memory { IfErr result (λ e. e ≡ Error.OutOfMemory) }
+{
+    let stop = scanned(alloc, text, exponents)?;
+    let ends = is_json(alloc, &text[..stop.offset], exponents)?;
+    Ok(stop.next.classes(ends))
 }
