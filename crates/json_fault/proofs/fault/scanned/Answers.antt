@@ -1,7 +1,5 @@
-use Rattle.std.proofs.Common.{rules, ◌≡◌, sym, ap, ◌∙◌, subst, Option, Some, None, arith}
-use Rattle.json_fault.specs.declared.expected.Bracket.{Bracket}
+use Rattle.std.proofs.Common.{rules, ◌≡◌, sym, ap, ◌∙◌, None, arith}
 use Rattle.json_fault.specs.Scan.{followed}
-use Rattle.json_fault.specs.Stop.{IsStop}
 use Rattle.json_fault.proofs.Offsets.{at_next, count_within, stops_here, stops_at_end}
 use Rattle.json_fault.proofs.fault.scanned.Goals as goal
 
