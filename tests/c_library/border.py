@@ -335,6 +335,19 @@ def faults():
         assert (name_of(fault.status), fault.offset) == (name, offset), text
 
 
+def spaced_paths():
+    """Spaces around a filter, and names that have to be between quotes."""
+    rows = '{"total":9001,"a":[{"b":"x","c d":1},{"b":"y","c d":2}],"f()":3,"g ":4}'
+    for path, answer in (
+            ("$ ? (@.total > 9000).total", "9001"), ("$ ? (@.total > 9001).total", ""),
+            ('$.a[*]  ?  (  @.b == "x"  )."c d"', "1"), ('$.a[*]?( @.b == "y" ).c d', "2"),
+            ("$.total ? (@ > 9000) ?(@ < 9002)", "9001"), ('$."f()"', "3"), ('$."g "', "4")):
+        assert "".join(selected(rows, path)) == answer, path
+    for path in ("$.f()", "$.a.size()", "$.g ", "$.total .x", "$?(@.f() == 1)",
+                 "$ ?(@.total > 1) ", "$ ? (@.total>1)", "$.total ? @ > 1"):
+        assert selected(rows, path) == "OtherKind", path
+
+
 def walks():
     """What a walk gives where it begins, ends and is refused."""
     def begun(text):
@@ -473,6 +486,7 @@ def agreement(folder):
         print(f"{asked} lines of {program} are answered alike")
 
 
-for test in (known_answers, path_texts, edits, refusals, faults, walks, index_keys):
+for test in (known_answers, path_texts, spaced_paths, edits, refusals, faults, walks,
+             index_keys):
     test()
 agreement(sys.argv[2])

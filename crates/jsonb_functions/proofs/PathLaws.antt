@@ -1,15 +1,17 @@
 -- A path of which some steps were read.
 use Rattle.std.proofs.Common.{◌≡◌, ℕ, List, [], ◌∷◌, ◌++◌, map, refl, sym, Bool, true, false}
-use Rattle.std.proofs.Common.{ap, ◌∙◌, subst, arith, Bor, append_assoc, inl, inr}
+use Rattle.std.proofs.Common.{ap, ◌∙◌, subst, arith, Bor, append_assoc, inl, inr, zero, suc}
 use Rattle.std.proofs.lemmas.List.{append-nil}
 use Rattle.std.specs.Prelude.{Option, None, Some, ◌↔◌}
 use Rattle.std.specs.Global.{Vec}
 use Rattle.jsonb_functions.specs.declared.selection.Selector.{Selector}
 use Rattle.jsonb_functions.specs.PathText.{SelectorView, selector_view, AreSteps, BeginsWith}
 use Rattle.jsonb_functions.specs.PathText.{IsFilterPath, IsStep, IsWrittenStep, PathText, Reads}
-use Rattle.jsonb_functions.specs.PathText.{ReadsStep, StopsAt, is_in_name, path_view}
+use Rattle.jsonb_functions.specs.PathText.{EndsName, ReadsStep, StopsAt, filter_bytes, is_in_name}
+use Rattle.jsonb_functions.specs.PathText.{path_view, spaces}
 use Rattle.jsonb_functions.proofs.HashLaws.{map_joined}
 use Rattle.jsonb_functions.proofs.PathStepLaws.{written_begins}
+use Rattle.jsonb_functions.proofs.PathTextLaws.{after_them}
 
 -- What may come after all steps.
 abbrev pub EndsAs : Bool → List ℕ → Type 0
@@ -26,18 +28,18 @@ pub record IsRead (IsOne : List ℕ → SelectorView → Type 0) (in_filter : Bo
       → (q : List SelectorView) × ((p ≡ map selector_view path ++ q) × AreSteps IsOne end left q)
 
 end_stops : (in_filter : Bool) (end : List ℕ) → EndsAs in_filter end
-    → StopsAt (is_in_name in_filter) end
-end_stops true end (rest, e) = subst (StopsAt (is_in_name true)) (sym e) refl
-end_stops false end e = subst (StopsAt (is_in_name false)) (sym e) tt
+    → EndsName in_filter end
+end_stops true end (rest, e) = subst (EndsName true) (sym e) refl
+end_stops false end e = subst (EndsName false) (sym e) tt
 
 -- Steps that begin as steps do.
 module _ (IsOne : List ℕ → SelectorView → Type 0) (in_filter : Bool)
     (begins : (text : List ℕ) (s : SelectorView) (rest : List ℕ) → BeginsWith IsOne text s rest
-    → StopsAt (is_in_name in_filter) text × (EndsAs in_filter text → ⊥)) where
+    → EndsName in_filter text × (EndsAs in_filter text → ⊥)) where
   steps_stop : (end rest : List ℕ) (path : List SelectorView) → EndsAs in_filter end
-      → AreSteps IsOne end rest path → StopsAt (is_in_name in_filter) rest
+      → AreSteps IsOne end rest path → EndsName in_filter rest
   steps_stop end rest [] ends steps =
-      subst (StopsAt (is_in_name in_filter)) (sym steps) (end_stops in_filter end ends)
+      subst (EndsName in_filter) (sym steps) (end_stops in_filter end ends)
   steps_stop end rest (s ∷ path) ends steps =
       (begins rest s steps.1 (steps.0, steps.2, steps.3)).0
 
@@ -129,16 +131,16 @@ module _ (IsOne : List ℕ → SelectorView → Type 0) (in_filter : Bool)
 -- A byte that begins a step.
 written_step_begins : (in_filter : Bool) (text : List ℕ) (s : SelectorView) (rest : List ℕ)
     → BeginsWith (IsWrittenStep in_filter) text s rest
-    → StopsAt (is_in_name in_filter) text
+    → EndsName in_filter text
 written_step_begins true text s rest h =
     elim (written_begins true text s rest h) [
-      | inl e ↦ subst (StopsAt (is_in_name true)) (sym e.1) refl
-      | inr e ↦ subst (StopsAt (is_in_name true)) (sym e.1) refl
+      | inl e ↦ subst (EndsName true) (sym e.1) refl
+      | inr e ↦ subst (EndsName true) (sym e.1) refl
     ]
 written_step_begins false text s rest h =
     elim (written_begins false text s rest h) [
-      | inl e ↦ subst (StopsAt (is_in_name false)) (sym e.1) refl
-      | inr e ↦ subst (StopsAt (is_in_name false)) (sym e.1) refl
+      | inl e ↦ subst (EndsName false) (sym e.1) refl
+      | inr e ↦ subst (EndsName false) (sym e.1) refl
     ]
 
 other_bytes : (c d : ℕ) (text xs ys : List ℕ) → text ≡ c ∷ xs → text ≡ d ∷ ys → (c ≡ d → ⊥) → ⊥
@@ -150,7 +152,7 @@ no_bytes_begin c text xs x y = let both : c ∷ xs ≡ [] = sym x ∙ y in absur
 
 pub path_begins : (text : List ℕ) (s : SelectorView) (rest : List ℕ)
     → BeginsWith (IsWrittenStep true) text s rest
-    → StopsAt (is_in_name true) text × (EndsAs true text → ⊥)
+    → EndsName true text × (EndsAs true text → ⊥)
 path_begins text s rest h = (
   written_step_begins true text s rest h,
   λ ends. elim (written_begins true text s rest h) [
@@ -159,8 +161,12 @@ path_begins text s rest h = (
   ],
 )
 
+spaced_some : (n : ℕ) (xs : List ℕ) → (xs ≡ [] → ⊥) → spaces n ++ xs ≡ [] → ⊥
+spaced_some zero xs some e = some e
+spaced_some (suc n) xs some e = absurd (let h : ⊥ = cc in h)
+
 step_begins_by : (text front : List ℕ) (s : SelectorView) (rest : List ℕ) → text ≡ front ++ rest
-    → IsStep front s → StopsAt (is_in_name false) text × (text ≡ [] → ⊥)
+    → IsStep front s → EndsName false text × (text ≡ [] → ⊥)
 step_begins_by text front s rest e (inl is) =
     let h : BeginsWith (IsWrittenStep false) text s rest = (front, e, is) in (
       written_step_begins false text s rest h,
@@ -169,15 +175,17 @@ step_begins_by text front s rest e (inl is) =
         | inr w ↦ no_bytes_begin 91 text w.0 w.1 none
       ],
     )
-step_begins_by text front s rest e (inr (f, is, means)) =
-    let first = e ∙ ap (λ b. b ++ rest) is in (
-      subst (StopsAt (is_in_name false)) (sym first) refl,
-      λ none. no_bytes_begin 63 text _ first none,
+step_begins_by text front s rest e (inr (n, f, is, means)) =
+    let first = e ∙ ap (λ b. b ++ rest) is ∙ append_assoc (spaces n) (filter_bytes f) rest in (
+      subst (EndsName false) (sym first)
+          (subst (StopsAt (is_in_name false)) (sym (after_them n (filter_bytes f ++ rest))) refl),
+      λ none. spaced_some n (filter_bytes f ++ rest)
+          (no_bytes_begin 63 (filter_bytes f ++ rest) _ refl) (sym first ∙ none),
     )
 
 pub step_begins : (text : List ℕ) (s : SelectorView) (rest : List ℕ)
     → BeginsWith IsStep text s rest
-    → StopsAt (is_in_name false) text × (EndsAs false text → ⊥)
+    → EndsName false text × (EndsAs false text → ⊥)
 step_begins text s rest h = step_begins_by text h.0 s rest h.1 h.2
 
 -- The path of a text.

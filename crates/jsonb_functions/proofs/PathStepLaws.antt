@@ -4,16 +4,17 @@ use Rattle.std.proofs.Common.{ap, ◌∙◌, arith, true, false, Bool, Bor, appe
 use Rattle.std.proofs.Common.{inl, inr, ne_eqb}
 use Rattle.std.proofs.Math.Dec.{eqb-suc-zero}
 use Rattle.std.proofs.lemmas.List.{append-nil}
-use Rattle.std.specs.Prelude.{Option, None, Some, ◌⊎◌, ◌==◌, ◌&&◌, if◌then◌else◌}
+use Rattle.std.specs.Prelude.{Option, None, Some, ◌⊎◌, ◌==◌, ◌&&◌, not, if◌then◌else◌}
 use Rattle.jsonb_functions.specs.declared.selection.Selector.{Selector}
 use Rattle.jsonb_functions.specs.declared.selection.Selector.TheVariants as selectors
 use Rattle.jsonb_functions.specs.PathText.{SelectorView, step, selector_view, Written, plain}
 use Rattle.jsonb_functions.specs.PathText.{quoted, bracketed, written_bytes, all_are, is_in_name}
 use Rattle.jsonb_functions.specs.PathText.{is_not, is_unquoted_key, member_step, place_in}
 use Rattle.jsonb_functions.specs.PathText.{written_step, StopsAt, BeginsWith, IsWrittenStep}
-use Rattle.jsonb_functions.specs.PathText.{ReadsStep}
+use Rattle.jsonb_functions.specs.PathText.{EndsName, ReadsStep, ends_in_space}
 use Rattle.jsonb_functions.specs.StoredPath.{key}
 use Rattle.jsonb_functions.proofs.IndexLaws.{both}
+use Rattle.jsonb_functions.proofs.PathTextLaws.{one_name}
 
 -- There is one way to split bytes where a test first fails.
 pub split_once : (q : ℕ → Bool) (k r j s : List ℕ) → all_are q k ≡ true → all_are q j ≡ true
@@ -40,6 +41,10 @@ if_some : (b : Bool) (x : Option SelectorView) (s : SelectorView)
 if_some true x s e = (refl, e)
 if_some false x s e = absurd (cc)
 
+not_true : (b : Bool) → not b ≡ true → b ≡ false
+not_true true e = absurd (cc)
+not_true false e = refl
+
 -- A step that is no filter, as a text begins with it.
 pub written_from : (in_filter : Bool) (text : List ℕ) (s : SelectorView) (rest : List ℕ)
     → BeginsWith (IsWrittenStep in_filter) text s rest
@@ -56,9 +61,8 @@ module _ (in_filter : Bool) where
   quoted_from text s rest (plain []) spelled meant = absurd (cc)
   quoted_from text s rest (plain (c ∷ name)) spelled meant =
       let first : 34 ≡ c = cc in
-      let is : (is_not 34 c && all_are (is_in_name in_filter) (c ∷ name)) ≡ true =
-      (if_some _ _ s meant).0 in
-      let other : is_not 34 c ≡ true = (both _ _ is).0 in
+      let is : is_unquoted_key in_filter (c ∷ name) ≡ true = (if_some _ _ s meant).0 in
+      let other : is_not 34 c ≡ true = (both _ _ (both _ _ is).0).0 in
       let none : false ≡ is_not 34 c = ap (is_not 34) first in
       absurd (cc)
   quoted_from text s rest (quoted name) spelled meant =
@@ -134,42 +138,49 @@ module _ (in_filter : Bool) where
   plain_all [] h = absurd (cc)
   plain_all (c ∷ name) h = (both _ _ h).1
 
+  plain_last : (name : List ℕ) → is_unquoted_key in_filter name ≡ true
+      → ends_in_space name ≡ false
+  plain_last [] h = absurd (cc)
+  plain_last (c ∷ name) h = not_true (ends_in_space (c ∷ name)) (both _ _ (both _ _ h).0).1
+
   is_plain_name : (text name rest : List ℕ) → ((later : List ℕ) → text ≡ 34 ∷ later → ⊥)
       → text ≡ name ++ rest → (name ≡ [] → ⊥) → all_are (is_in_name in_filter) name ≡ true
-      → is_unquoted_key in_filter name ≡ true
-  is_plain_name text [] rest other e some all = absurd (some refl)
-  is_plain_name text (c ∷ name) rest other e some all =
+      → ends_in_space name ≡ false → is_unquoted_key in_filter name ≡ true
+  is_plain_name text [] rest other e some all last = absurd (some refl)
+  is_plain_name text (c ∷ name) rest other e some all last =
       let first : (c == 34) ≡ false =
       ne_eqb c 34 (λ same. other (name ++ rest) (e ∙ ap (λ d. d ∷ (name ++ rest)) same)) in
-      rw first all
+      ap (λ b. not b && not (ends_in_space (c ∷ name))
+      && all_are (is_in_name in_filter) (c ∷ name)) first
+      ∙ ap (λ b. not b && all_are (is_in_name in_filter) (c ∷ name)) last ∙ all
 
   pub plain_read : (text name : List ℕ) (rest : Bor (List ℕ)) (selector : Selector)
       → ((later : List ℕ) → text ≡ 34 ∷ later → ⊥) → text ≡ name ++ rest.now
-      → all_are (is_in_name in_filter) name ≡ true
-      → StopsAt (is_in_name in_filter) rest.now → (name ≡ [] → ⊥)
+      → all_are (is_in_name in_filter) name ≡ true → ends_in_space name ≡ false
+      → EndsName in_filter rest.now → (name ≡ [] → ⊥)
       → selector_view selector ≡ member_step name
       → ReadsStep (IsWrittenStep in_filter) in_filter (46 ∷ text) (Some (selector, rest))
-  plain_read text name rest selector other e all stops some view =
-      let ok = is_plain_name text name rest.now other e some all in record {
+  plain_read text name rest selector other e all last stops some view =
+      let ok = is_plain_name text name rest.now other e some all last in record {
         is = (46 ∷ name, ap (λ xs. 46 ∷ xs) e, (plain name, refl, rw (ok, view) refl));
         only = λ s later h goes.
             let t = written_from in_filter _ s later h in
             let w = plain_from text s later t.0 other t.1 t.2 in
-            let same = split_once (is_in_name in_filter) name rest.now w.0 later all
-            (plain_all w.0 w.1.1.0) stops goes (sym e ∙ w.1.0) in
+            let same = one_name in_filter name rest.now w.0 later all (plain_all w.0 w.1.1.0)
+            last (plain_last w.0 w.1.1.0) stops goes (sym e ∙ w.1.0) in
             (view ∙ ap member_step same.0 ∙ w.1.1.1, same.1);
       }
 
   pub plain_none : (text rest : List ℕ) → ((later : List ℕ) → text ≡ 34 ∷ later → ⊥)
-      → text ≡ rest → StopsAt (is_in_name in_filter) rest
+      → text ≡ rest → EndsName in_filter rest
       → ReadsStep (IsWrittenStep in_filter) in_filter (46 ∷ text) None
   plain_none text rest other e stops = record {
     is = tt;
     only = λ s later h goes.
         let t = written_from in_filter _ s later h in
         let w = plain_from text s later t.0 other t.1 t.2 in
-        let same = split_once (is_in_name in_filter) [] rest w.0 later refl
-        (plain_all w.0 w.1.1.0) stops goes (sym e ∙ w.1.0) in
+        let same = one_name in_filter [] rest w.0 later refl (plain_all w.0 w.1.1.0) refl
+        (plain_last w.0 w.1.1.0) stops goes (sym e ∙ w.1.0) in
         let none : false ≡ true = ap (is_unquoted_key in_filter) same.0 ∙ w.1.1.0 in
         absurd (cc);
   }

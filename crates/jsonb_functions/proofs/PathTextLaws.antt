@@ -1,7 +1,7 @@
 -- Numbers, names and steps in the text of a path.
 use Rattle.std.proofs.Common.{◌≡◌, ◌<◌, ◌≤◌, ◌+◌, ◌*◌, ◌-◌, ◌^◌, ℕ, suc, List, [], ◌∷◌, ◌++◌}
 use Rattle.std.proofs.Common.{length, min, take, drop, get_or, refl, sym, ap, ◌∙◌, arith}
-use Rattle.std.proofs.Common.{true, false, Bool, one-add, Bor, ne_eqb}
+use Rattle.std.proofs.Common.{true, false, Bool, one-add, Bor, ne_eqb, eqb-true, subst, zero}
 use Rattle.std.specs.Prelude.{slice_range, Option, None, Some, MatchOption, ◌==◌, ◌&&◌}
 use Rattle.std.specs.Prelude.{if◌then◌else◌}
 use Rattle.std.specs.List.{prefix_len}
@@ -14,7 +14,9 @@ use Rattle.std.proofs.lemmas.Bool.Decides.{nat_tests}
 use Rattle.std.proofs.lemmas.List.Sums.{prefix_len-le-length, prefix_len_stops}
 use Rattle.jsonb_value.specs.Json.Characters.{all_digits}
 use Rattle.jsonb_functions.specs.PathText.{all_are, is_in_name, is_in_word, is_not, capped_number}
-use Rattle.jsonb_functions.specs.PathText.{StopsAt}
+use Rattle.jsonb_functions.specs.PathText.{EndsName, StopsAt, after_spaces, ends_in_space}
+use Rattle.jsonb_functions.specs.PathText.{is_space, longer_name, name_len, spaces}
+use Rattle.jsonb_functions.proofs.IndexLaws.{both}
 
 -- The bytes after the first one, as a pattern gives them.
 abbrev pub later_bytes : List ℕ → List ℕ
@@ -138,3 +140,260 @@ pub split_is : (c : ℕ) (text : List ℕ) (r : Option (Bor (List ℕ) × Bor (L
     (λ x. (text ≡ x.0.now ++ (c ∷ x.1.now)) × (all_are (is_not c) x.0.now ≡ true))
 split_is c text None h = none_there c text h
 split_is c text (Some x) h = (h.0, none_there c x.0.now h.1)
+
+-- ---- spaces
+
+space_is : (c : ℕ) → is_space c ≡ true → c ≡ 32
+space_is c e = eqb-true c 32 e
+
+split_more : (c : ℕ) (cs : List ℕ) (b : Bool) → is_space c ≡ b
+    → (n : ℕ) × (cs ≡ spaces n ++ after_spaces cs)
+    → (n : ℕ) × (c ∷ cs ≡ spaces n ++ after_spaces (c ∷ cs))
+split_more c cs true e h = (
+  suc h.0,
+  ap (λ d. d ∷ cs) (space_is c e) ∙ ap (λ xs. 32 ∷ xs) h.1
+      ∙ ap (λ b. 32 ∷ (spaces h.0 ++ (if b then after_spaces cs else c ∷ cs))) (sym e),
+)
+split_more c cs false e h = (0, ap (λ b. if b then after_spaces cs else c ∷ cs) (sym e))
+
+pub spaces_split : (text : List ℕ) → (n : ℕ) × (text ≡ spaces n ++ after_spaces text)
+spaces_split [] = (0, refl)
+spaces_split (c ∷ cs) = split_more c cs (is_space c) refl (spaces_split cs)
+
+pub after_them : (n : ℕ) (xs : List ℕ) → after_spaces (spaces n ++ xs) ≡ after_spaces xs
+after_them zero xs = refl
+after_them (suc n) xs = after_them n xs
+
+pub more_spaces : (n m : ℕ) (xs : List ℕ)
+    → spaces n ++ (spaces m ++ xs) ≡ spaces (n + m) ++ xs
+more_spaces zero m xs =
+    let same : m ≡ 0 + m = omega arith in ap (λ k. spaces k ++ xs) same
+more_spaces (suc n) m xs =
+    let same : suc (n + m) ≡ suc n + m = omega arith in
+    ap (λ ys. 32 ∷ ys) (more_spaces n m xs) ∙ ap (λ k. spaces k ++ xs) same
+
+-- one space was passed
+pub a_space : (text left rest : List ℕ) → left ≡ 32 ∷ rest
+    → after_spaces text ≡ after_spaces left → after_spaces text ≡ after_spaces rest
+a_space text left rest e h = h ∙ ap after_spaces e
+
+first_no_space : (c : ℕ) (cs : List ℕ) (b : Bool) → is_space c ≡ b
+    → ((rest : List ℕ) → c ∷ cs ≡ 32 ∷ rest → ⊥) → c ∷ cs ≡ after_spaces (c ∷ cs)
+first_no_space c cs true e other = absurd (other cs (ap (λ d. d ∷ cs) (space_is c e)))
+first_no_space c cs false e other = ap (λ b. if b then after_spaces cs else c ∷ cs) (sym e)
+
+pub no_space : (left : List ℕ) → ((rest : List ℕ) → left ≡ 32 ∷ rest → ⊥)
+    → left ≡ after_spaces left
+no_space [] other = refl
+no_space (c ∷ cs) other = first_no_space c cs (is_space c) refl other
+
+-- ---- names as they are
+
+longer_zero : (c : ℕ) (b d : Bool) → is_space c ≡ true
+    → (if b then longer_name c 0 else 0) ≡ 0
+longer_zero c true d e = ap (λ (x : Bool). if x then 0 else 1) e
+longer_zero c false d e = refl
+
+name_first : (in_filter : Bool) (c : ℕ) (cs : List ℕ) (b : Bool) (n : ℕ)
+    → is_in_name in_filter c ≡ b → name_len in_filter cs ≡ n
+    → name_len in_filter (c ∷ cs) ≡ (if b then longer_name c n else 0)
+name_first in_filter c cs b n is more =
+    ap (λ k. if is_in_name in_filter c then longer_name c k else 0) more
+    ∙ ap (λ (x : Bool). if x then longer_name c n else 0) is
+
+one_byte : (c : ℕ) (b : Bool) → is_space c ≡ b → longer_name c 0 ≡ (if b then 0 else 1)
+one_byte c b e = ap (λ (x : Bool). if x then 0 else 1) e
+
+zero_more : (c : ℕ) (cs : List ℕ) (b : Bool) → is_space c ≡ b
+    → (EndsName false cs → name_len false cs ≡ 0) → EndsName false (c ∷ cs)
+    → name_len false (c ∷ cs) ≡ 0
+zero_more c cs true e h ends =
+    let later : EndsName false cs =
+    subst (λ (b : Bool). StopsAt (is_in_name false) (if b then after_spaces cs else c ∷ cs)) e
+    ends in
+    name_first false c cs (is_in_name false c) 0 refl (h later)
+    ∙ longer_zero c (is_in_name false c) true e
+zero_more c cs false e h ends =
+    let stops : is_in_name false c ≡ false =
+    subst (λ (b : Bool). StopsAt (is_in_name false) (if b then after_spaces cs else c ∷ cs)) e
+    ends in
+    name_first false c cs false (name_len false cs) stops refl
+
+no_name : (in_filter : Bool) (cs : List ℕ) → EndsName in_filter cs → name_len in_filter cs ≡ 0
+no_name true [] ends = refl
+no_name true (c ∷ cs) ends = name_first true c cs false (name_len true cs) ends refl
+no_name false [] ends = refl
+no_name false (c ∷ cs) ends = zero_more c cs (is_space c) refl (no_name false cs) ends
+
+name_is : (in_filter : Bool) (name rest : List ℕ)
+    → all_are (is_in_name in_filter) name ≡ true → ends_in_space name ≡ false
+    → EndsName in_filter rest → name_len in_filter (name ++ rest) ≡ length name
+name_is in_filter [] rest all last ends = no_name in_filter rest ends
+name_is in_filter (c ∷ []) rest all last ends =
+    name_first in_filter c rest true 0 (both _ _ all).0 (no_name in_filter rest ends)
+    ∙ one_byte c false last
+name_is in_filter (c ∷ (d ∷ name)) rest all last ends =
+    name_first in_filter c (d ∷ (name ++ rest)) true (suc (length name)) (both _ _ all).0
+    (name_is in_filter (d ∷ name) rest (both _ _ all).1 last ends)
+
+same_split : (k r j s : List ℕ) → length k ≡ length j → k ++ r ≡ j ++ s → (k ≡ j) × (r ≡ s)
+same_split [] r [] s n e = (refl, e)
+same_split [] r (c ∷ j) s n e = absurd (omega (arith, n))
+same_split (c ∷ k) r [] s n e = absurd (omega (arith, n))
+same_split (c ∷ k) r (d ∷ j) s n e =
+    let first : c ≡ d = cc in
+    let rest : k ++ r ≡ j ++ s = cc in
+    let fewer : length k ≡ length j = omega (arith, n) in
+    let same = same_split k r j s fewer rest in
+    (ap (λ x. x ∷ k) first ∙ ap (λ xs. d ∷ xs) same.0, same.1)
+
+-- There is one way to split bytes where a name as it is ends.
+pub one_name : (in_filter : Bool) (k r j s : List ℕ) → all_are (is_in_name in_filter) k ≡ true
+    → all_are (is_in_name in_filter) j ≡ true → ends_in_space k ≡ false
+    → ends_in_space j ≡ false → EndsName in_filter r → EndsName in_filter s
+    → k ++ r ≡ j ++ s → (k ≡ j) × (r ≡ s)
+one_name in_filter k r j s all_k all_j last_k last_j ends_r ends_s e =
+    same_split k r j s
+    (sym (name_is in_filter k r all_k last_k ends_r) ∙ ap (name_len in_filter) e
+    ∙ name_is in_filter j s all_j last_j ends_s) e
+
+-- What is known of the first bytes of a text, of which this many are a name.
+pub record IsName (in_filter : Bool) (cs : List ℕ) (n : ℕ) : Type 0 where
+  pub within : n ≤ length cs
+  pub all : all_are (is_in_name in_filter) (take n cs) ≡ true
+  pub last : ends_in_space (take n cs) ≡ false
+  pub ends : EndsName in_filter (drop n cs)
+  pub low : n < length cs → get_or cs n 0 < 128
+
+stops_low : (in_filter : Bool) (c : ℕ) → is_in_name in_filter c ≡ false → c < 128
+stops_low in_filter c e = name_low in_filter c e
+
+no_stop_space : (c : ℕ) (b : Bool) → is_space c ≡ b → is_in_name false c ≡ false → b ≡ false
+no_stop_space c true e stops =
+    let none : is_in_name false 32 ≡ false =
+    subst (λ (d : ℕ). is_in_name false d ≡ false) (space_is c e) stops in
+    absurd (let h : ⊥ = cc in h)
+no_stop_space c false e stops = refl
+
+stops_first : (in_filter : Bool) (c : ℕ) (cs : List ℕ) → is_in_name in_filter c ≡ false
+    → EndsName in_filter (c ∷ cs)
+stops_first true c cs stops = stops
+stops_first false c cs stops =
+    subst (λ (b : Bool). StopsAt (is_in_name false) (if b then after_spaces cs else c ∷ cs))
+    (sym (no_stop_space c (is_space c) refl stops)) stops
+
+no_filter_space : (c : ℕ) → is_in_name true c ≡ true → is_space c ≡ true → ⊥
+no_filter_space c is e =
+    let none : is_in_name true 32 ≡ true =
+    subst (λ (d : ℕ). is_in_name true d ≡ true) (space_is c e) is in
+    let h : ⊥ = cc in h
+
+space_first : (in_filter : Bool) (c : ℕ) (cs : List ℕ) → is_in_name in_filter c ≡ true
+    → is_space c ≡ true → EndsName in_filter cs → EndsName in_filter (c ∷ cs)
+space_first true c cs is e ends = absurd (no_filter_space c is e)
+space_first false c cs is e ends =
+    subst (λ (b : Bool). StopsAt (is_in_name false) (if b then after_spaces cs else c ∷ cs))
+    (sym e) ends
+
+-- no name begins here
+nothing_named : (in_filter : Bool) (c : ℕ) (cs : List ℕ) → EndsName in_filter (c ∷ cs) → c < 128
+    → IsName in_filter (c ∷ cs) 0
+nothing_named in_filter c cs ends low = record {
+  within = omega arith;
+  all = refl;
+  last = refl;
+  ends = ends;
+  low = λ some. low;
+}
+
+-- a name has one more byte at its front
+name_by : (in_filter : Bool) (c : ℕ) (cs : List ℕ) (b d : Bool) (n : ℕ)
+    → is_in_name in_filter c ≡ b → is_space c ≡ d → IsName in_filter cs n
+    → IsName in_filter (c ∷ cs) (if b then longer_name c n else 0)
+name_by in_filter c cs false d n stops e more =
+    nothing_named in_filter c cs (stops_first in_filter c cs stops)
+    (stops_low in_filter c stops)
+name_by in_filter c cs true true zero is e more =
+    let here : c ≡ 32 = space_is c e in
+    subst (IsName in_filter (c ∷ cs)) (sym (one_byte c true e))
+    (nothing_named in_filter c cs (space_first in_filter c cs is e more.ends)
+    (omega (arith, here)))
+name_by in_filter c cs true false zero is e more =
+    subst (IsName in_filter (c ∷ cs)) (sym (one_byte c false e)) (record {
+      within = omega arith;
+      all = ap (λ (x : Bool). x && true) is;
+      last = e;
+      ends = more.ends;
+      low = λ some. more.low (omega (arith, some));
+    })
+name_by in_filter c [] true d (suc n) is e more =
+    let within = more.within in absurd (omega (arith, within))
+name_by in_filter c (x ∷ cs) true d (suc n) is e more = record {
+  within = let within = more.within in omega (arith, within);
+  all =
+      ap (λ (y : Bool). y && all_are (is_in_name in_filter) (take (suc n) (x ∷ cs))) is
+      ∙ more.all;
+  last = more.last;
+  ends = more.ends;
+  low = λ some. more.low (omega (arith, some));
+}
+
+pub is_name : (in_filter : Bool) (cs : List ℕ) → IsName in_filter cs (name_len in_filter cs)
+is_name true [] = record {
+  within = omega arith;
+  all = refl;
+  last = refl;
+  ends = tt;
+  low = λ some. absurd (omega (arith, some));
+}
+is_name false [] = record {
+  within = omega arith;
+  all = refl;
+  last = refl;
+  ends = tt;
+  low = λ some. absurd (omega (arith, some));
+}
+is_name in_filter (c ∷ cs) =
+    name_by in_filter c cs (is_in_name in_filter c) (is_space c) (name_len in_filter cs) refl refl
+    (is_name in_filter cs)
+
+pub name_boundary : (in_filter : Bool) (text : List ℕ) (n : ℕ) → n ≡ name_len in_filter text
+    → IsCharBoundary text n
+name_boundary in_filter text n e =
+    let name = subst (IsName in_filter text) (sym e) (is_name in_filter text) in (
+      name.within,
+      λ here high. let low = name.low here in absurd (omega (arith, high, low)),
+    )
+
+pub name_split : (in_filter : Bool) (text front back : List ℕ) (n : ℕ)
+    → n ≡ name_len in_filter text → front ≡ slice_range text 0 n → back ≡ drop n text
+    → (all_are (is_in_name in_filter) front ≡ true) × (ends_in_space front ≡ false)
+    × EndsName in_filter back
+name_split in_filter text front back n e first second =
+    let name = subst (IsName in_filter text) (sym e) (is_name in_filter text) in
+    let taken : front ≡ take n text = first ∙ ap (λ k. take k text) (sub-zero n) in (
+      ap (all_are (is_in_name in_filter)) taken ∙ name.all,
+      ap ends_in_space taken ∙ name.last,
+      subst (EndsName in_filter) (sym second) name.ends,
+    )
+
+-- ---- the length of a name, byte by byte
+
+-- The length where this many bytes were passed, and `more` are a name after them.
+abbrev pub passed_len : (len passed more : ℕ) → ℕ
+passed_len len passed zero = len
+passed_len len passed (suc more) = passed + suc more
+
+pub none_passed : (n : ℕ) → n ≡ passed_len 0 0 n
+none_passed zero = refl
+none_passed (suc n) = omega arith
+
+pub one_passed : (c len passed more : ℕ) → is_space c ≡ false
+    → passed_len len passed (longer_name c more) ≡ passed_len (passed + 1) (passed + 1) more
+one_passed c len passed zero e = ap (passed_len len passed) (one_byte c false e)
+one_passed c len passed (suc more) e = omega arith
+
+pub space_passed : (c len passed more : ℕ) → is_space c ≡ true
+    → passed_len len passed (longer_name c more) ≡ passed_len len (passed + 1) more
+space_passed c len passed zero e = ap (passed_len len passed) (one_byte c true e)
+space_passed c len passed (suc more) e = omega arith

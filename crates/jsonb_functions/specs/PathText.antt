@@ -70,18 +70,38 @@ abbrev pub all_are : (ℕ → Bool) → List ℕ → Bool
 all_are test [] = true
 all_are test (c ∷ cs) = test c && all_are test cs
 
--- A key as it is has no `.`, no `[` and no `?`, and in a filter no space.
+-- A key as it is has no `.`, `[`, `?`, `(` and `)`, and in a filter no space.
 abbrev pub is_in_name : Bool → ℕ → Bool
-is_in_name in_filter c =
-    not (c == 46) && not (c == 91) && not (c == 63) && not (in_filter && (c == 32))
+is_in_name in_filter c = not (c == 46) && not (c == 91) && not (c == 63) && not (c == 40)
+    && not (c == 41) && not (in_filter && (c == 32))
 
 abbrev pub is_not : ℕ → ℕ → Bool
 is_not end c = not (c == end)
 
--- A key can be written as it is: it is not empty and does not begin with a quote.
+abbrev pub is_space : ℕ → Bool
+is_space c = c == 32
+
+-- The last byte is a space.
+abbrev pub ends_in_space : List ℕ → Bool
+ends_in_space [] = false
+ends_in_space (c ∷ []) = is_space c
+ends_in_space (c ∷ (d ∷ cs)) = ends_in_space (d ∷ cs)
+
+-- So many spaces.
+abbrev pub spaces : ℕ → List ℕ
+spaces zero = []
+spaces (suc n) = 32 ∷ spaces n
+
+-- The bytes without the spaces at their beginning.
+abbrev pub after_spaces : List ℕ → List ℕ
+after_spaces [] = []
+after_spaces (c ∷ cs) = if is_space c then after_spaces cs else c ∷ cs
+
+-- A key can be written as it is: it is not empty, begins with no quote and ends in no space.
 abbrev pub is_unquoted_key : Bool → List ℕ → Bool
 is_unquoted_key in_filter [] = false
-is_unquoted_key in_filter (c ∷ name) = is_not 34 c && all_are (is_in_name in_filter) (c ∷ name)
+is_unquoted_key in_filter (c ∷ name) = is_not 34 c && not (ends_in_space (c ∷ name))
+    && all_are (is_in_name in_filter) (c ∷ name)
 
 -- `*` is each member, and any other name a key.
 abbrev pub member_step : List ℕ → SelectorView
@@ -110,9 +130,6 @@ bound_in (c ∷ (d ∷ ds)) =
 abbrev pub item_at : Bound → SelectorView
 item_at (bounds.FromStart i) = step (index i)
 item_at (bounds.FromEnd i) = step (from_end i)
-
-abbrev pub is_space : ℕ → Bool
-is_space c = c == 32
 
 -- The range of two items, if both are there.
 abbrev pub range_of : Option Bound → Option Bound → Option SelectorView
@@ -198,16 +215,26 @@ comparison_in c =
     else if bytes_eq c (codes ">=") then Some comparisons.GreaterOrEqual
     else None
 
--- A filter as it is written: the bytes of its path and of its comparison, and its literal.
+-- A filter as it is written: the bytes of its path and of its comparison, its literal, and how many
+-- spaces are before and after its `(`, and before its `)`.
 pub record WrittenFilter : Type 0 where
+  pub before_open : ℕ
+  pub after_open : ℕ
+  pub before_close : ℕ
   pub path : List ℕ
   pub comparison : List ℕ
   pub literal : Literal
 
--- Its bytes: `?(@`, the path, a space, the comparison, a space, the literal and `)`.
+-- The bytes after its `?`: `(`, `@`, the path, a space, the comparison, a space, the literal, `)`
+-- and the rest of the text.
+abbrev pub condition_bytes : WrittenFilter → List ℕ → List ℕ
+condition_bytes f rest = spaces f.before_open ++ (40 ∷ (spaces f.after_open ++ (64 ∷ (f.path
+    ++ (32 ∷ (f.comparison ++ (32 ∷ (literal_bytes f.literal
+    ++ (spaces f.before_close ++ (41 ∷ rest))))))))))
+
+-- Its bytes.
 abbrev pub filter_bytes : WrittenFilter → List ℕ
-filter_bytes f = 63 ∷ (40 ∷ (64 ∷ (f.path
-    ++ (32 ∷ (f.comparison ++ (32 ∷ (literal_bytes f.literal ++ (41 ∷ []))))))))
+filter_bytes f = 63 ∷ condition_bytes f []
 
 -- The filter means this step. There are no wildcards, ranges and filters in its path.
 pub record IsFilter (f : WrittenFilter) (s : SelectorView) : Type 0 where
@@ -221,10 +248,10 @@ pub record IsFilter (f : WrittenFilter) (s : SelectorView) : Type 0 where
   pub is_value : IsLiteral f.literal value
   pub is : s ≡ filter steps comparison value
 
--- The bytes are those of this step.
+-- The bytes are those of this step, a filter with spaces before it.
 abbrev pub IsStep : List ℕ → SelectorView → Type 0
 IsStep bytes s = IsWrittenStep false bytes s
-    ⊎ ((f : WrittenFilter) × (bytes ≡ filter_bytes f) × IsFilter f s)
+    ⊎ ((n : ℕ) × (f : WrittenFilter) × (bytes ≡ spaces n ++ filter_bytes f) × IsFilter f s)
 
 -- The text is `$` and these steps.
 abbrev pub PathText : List ℕ → List SelectorView → Type 0
@@ -239,13 +266,34 @@ abbrev pub StopsAt : (ℕ → Bool) → List ℕ → Type 0
 StopsAt test [] = ⊤
 StopsAt test (c ∷ cs) = test c ≡ false
 
+-- A name as it is ends before these bytes, or before the spaces with which they begin.
+abbrev pub EndsName : Bool → List ℕ → Type 0
+EndsName true rest = StopsAt (is_in_name true) rest
+EndsName false rest = StopsAt (is_in_name false) (after_spaces rest)
+
+-- How many bytes a name has with one more at its front: a space is no name by itself.
+abbrev pub longer_name : ℕ → ℕ → ℕ
+longer_name c zero = if is_space c then 0 else 1
+longer_name c (suc n) = suc (suc n)
+
+-- How many bytes the name as it is has at the beginning of the bytes.
+abbrev pub name_len : Bool → List ℕ → ℕ
+name_len in_filter [] = 0
+name_len in_filter (c ∷ cs) =
+    if is_in_name in_filter c then longer_name c (name_len in_filter cs) else 0
+
 -- The first step was read, and there is no other where a name as it is ends.
 pub record ReadsStep (IsOne : List ℕ → SelectorView → Type 0) (in_filter : Bool) (text : List ℕ)
     (read : Option (Selector × Bor (List ℕ))) : Type 0 where
   pub is : IfSome read (λ r. BeginsWith IsOne text (selector_view r.0) r.1.now)
   pub only : (s : SelectorView) (rest : List ℕ) → BeginsWith IsOne text s rest
-      → StopsAt (is_in_name in_filter) rest
+      → EndsName in_filter rest
       → MatchOption read ⊥ (λ r. (selector_view r.0 ≡ s) × (r.1.now ≡ rest))
+
+-- The bytes after the `@` with which the condition of a filter begins, after its `(`.
+abbrev pub IsBeginning : List ℕ → List ℕ → Type 0
+IsBeginning text rest = (inner : List ℕ) × (after_spaces text ≡ 40 ∷ inner)
+    × (after_spaces inner ≡ 64 ∷ rest)
 
 -- The beginning of a text was read, and there is no other reading.
 pub record Reads {A B : Type 0} (view : A → B) (Begins : B → List ℕ → Type 0)
@@ -267,7 +315,7 @@ abbrev pub IsComparison : List ℕ → Comparison → List ℕ → Type 0
 IsComparison text comparison rest = (c : List ℕ)
     × (text ≡ c ++ (32 ∷ rest)) × (comparison_in c ≡ Some comparison)
 
--- The text begins with a literal and a closing parenthesis.
+-- The text begins with a literal, spaces and a closing parenthesis.
 abbrev pub BeginsWithLiteral : List ℕ → Tree → List ℕ → Type 0
-BeginsWithLiteral text t rest = (l : Literal)
-    × (text ≡ literal_bytes l ++ (41 ∷ rest)) × IsLiteral l t
+BeginsWithLiteral text t rest = (l : Literal) × (n : ℕ)
+    × (text ≡ literal_bytes l ++ (spaces n ++ (41 ∷ rest))) × IsLiteral l t

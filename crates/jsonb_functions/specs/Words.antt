@@ -52,12 +52,15 @@ pub use Rattle.jsonb_functions.specs.PatchSource.{next_keys_size, next_size, pat
 pub use Rattle.jsonb_functions.specs.Patched.{pairs_or_none, pairs_patched, patched}
 pub use Rattle.jsonb_functions.specs.Path.{is_next, item_place, position_view}
 pub use Rattle.jsonb_functions.specs.PathDocument.{path_tree, step_tree, stored_step}
-pub use Rattle.jsonb_functions.specs.PathText.{BeginsWithLiteral, IsComparison, IsFilterPath}
+pub use Rattle.jsonb_functions.specs.PathText.{BeginsWithLiteral, EndsName, IsBeginning}
+pub use Rattle.jsonb_functions.specs.PathText.{IsComparison, IsFilterPath}
 pub use Rattle.jsonb_functions.specs.PathText.{IsLiteralWord, IsStep, IsWrittenStep, PathText}
 pub use Rattle.jsonb_functions.specs.PathText.{Reads, ReadsStep, SelectorView, StopsAt, all_are}
-pub use Rattle.jsonb_functions.specs.PathText.{bound_in, capped_number, comparison_in, from_end_of}
+pub use Rattle.jsonb_functions.specs.PathText.{after_spaces, bound_in, capped_number}
+pub use Rattle.jsonb_functions.specs.PathText.{comparison_in, ends_in_space, from_end_of}
 pub use Rattle.jsonb_functions.specs.PathText.{is_in_name, is_in_word, is_not, is_space, item_at}
-pub use Rattle.jsonb_functions.specs.PathText.{member_step, path_view, place_in, range_in}
+pub use Rattle.jsonb_functions.specs.PathText.{member_step, name_len, path_view, place_in}
+pub use Rattle.jsonb_functions.specs.PathText.{range_in}
 pub use Rattle.jsonb_functions.specs.PathText.{scalar_tree, selector_view, single_step}
 pub use Rattle.jsonb_functions.specs.PathText.{single_steps}
 pub use Rattle.jsonb_functions.specs.Picked.{AreSorted, is_named, keeps, picked}

@@ -3,6 +3,8 @@
 ghost use Rattle.std.specs.Prelude.{◌≡◌, ◌↔◌, ◌∷◌, ◌++◌, ◌<◌, ℕ, List, IfErr, IfOk, MatchOption};
 ghost use Rattle.std.specs.Prelude.{Some, map, option_map, true, false};
 ghost use Rattle.std.specs.List.{after_first, before_first, prefix_len};
+ghost use Rattle.jsonb_functions.specs.Words.{EndsName, IsBeginning, after_spaces, ends_in_space};
+ghost use Rattle.jsonb_functions.specs.Words.{name_len};
 ghost use Rattle.jsonb_functions.specs.Words.{BeginsWithLiteral, IsComparison, IsFilterPath};
 ghost use Rattle.jsonb_functions.specs.Words.{IsLiteralWord, IsStep, IsWrittenStep, PathText};
 ghost use Rattle.jsonb_functions.specs.Words.{Reads, ReadsStep, SelectorView, StopsAt, Tree};
@@ -24,13 +26,15 @@ use std::alloc::Global;
 /// `."any name"`, if there are points, brackets or question marks in it; `[7]` is an item, also as
 /// `[007]`, `[#-1]` the last one, and `[#]`, or `[#-0]`, none, past the last one; `[*]` is each
 /// item, `[0 to #-2]` the items from one to another, and `.*` each member's value. The keys are the
-/// text's bytes, without escapes: `.*a` is the key `*a`. An index past 64 bits is the greatest of
-/// 64 bits.
+/// text's bytes, without escapes: `.*a` is the key `*a`. A key with a parenthesis, or with a space
+/// at its end, is written between quotes, so that `.size()` is no key. An index past 64 bits is the
+/// greatest of 64 bits.
 ///
 /// `?(@.price < 3)` keeps a value if what is at the end of the path that begins with `@` compares
 /// so with a literal, by the order of documents. The path has no wildcards, ranges and filters, and
-/// a key with a space is written between quotes. The comparison is `==`, `!=` or `<>`, `<`, `<=`,
-/// `>` or `>=`, with one space before and after it. The literal is `null`, `true`, `false`, a JSON
+/// a key with a space is written between quotes. There may be spaces around `?` and the condition,
+/// as in `$ ? ( @.price < 3 )`. The comparison is `==`, `!=` or `<>`, `<`, `<=`, `>` or `>=`, with
+/// one space before and after it. The literal is `null`, `true`, `false`, a JSON
 /// number, read exactly, with or without an exponent, or a string without quotes and escapes in it.
 ///
 /// `None` for any other text; `OutOfMemory`, the only error, if an allocation fails.
@@ -89,15 +93,26 @@ fn step_of<'a>(selector: &Selector<'a>) -> Option<Step<'a>>
 }
 
 // The first step of a text, and what is after it.
-#[tactic(auto, using(crate::proofs::FilterTextLaws::no_filter))]
 fn read_step<'a>(alloc: Global, text: &'a str) -> Result<Option<(Selector<'a>, &'a str)>, Error>
     ensures ok { IfOk result (ReadsStep IsStep false text.now) }
     ensures memory { IfErr result (λ e. e ≡ Error.OutOfMemory) }
 {
-    match after_char(text, '?') {
+    match after_char(after_spaces(text), '?') {
         Some(condition) => read_filter(alloc, condition),
         None => Ok(read_written(text, false)),
     }
+}
+
+// What is after the spaces at the beginning.
+#[tactic(auto, using(crate::proofs::PathTextLaws::no_space, crate::proofs::PathTextLaws::a_space))]
+fn after_spaces(text: &str) -> &str
+    ensures { result.now ≡ after_spaces text.now }
+{
+    let mut left = text;
+    while let Some(rest) = after_char(left, ' ') {
+        left = rest;
+    }
+    left
 }
 
 // A step that is not a filter, and what is after it. In a filter, a name as it is ends before a
@@ -160,29 +175,37 @@ fn member_of<'a>(name: &'a str) -> Selector<'a>
 fn split_name(text: &str, in_filter: bool) -> (&str, &str)
     ensures whole { text.now ≡ result.0.now ++ result.1.now }
     ensures name { all_are (is_in_name in_filter) result.0.now ≡ true }
-    ensures rest { StopsAt (is_in_name in_filter) result.1.now }
+    ensures last { ends_in_space result.0.now ≡ false }
+    ensures rest { EndsName in_filter result.1.now }
 {
     let end = name_len(text, in_filter);
     (&text[..end], &text[end..])
 }
 
-// The length of a name as it is.
+// The length of a name as it is, without the spaces after it.
 fn name_len(text: &str, in_filter: bool) -> usize
-    ensures { result ≡ prefix_len (is_in_name in_filter) text.now }
+    ensures { result ≡ name_len in_filter text.now }
 {
-    let bytes = text.as_bytes();
-    bytes
-        .iter()
-        .take_while(|byte| is_in_name(in_filter, **byte))
-        .count()
+    let mut len = 0;
+    let mut passed = 0;
+    for &byte in text.as_bytes() {
+        if !is_in_name(in_filter, byte) {
+            return len;
+        }
+        passed += 1;
+        if byte != b' ' {
+            len = passed;
+        }
+    }
+    len
 }
 
-// Whether a byte can be in a name as it is: a point, a bracket or a question mark cannot, and in a
-// filter a space cannot.
+// Whether a byte can be in a name as it is: a point, a bracket, a question mark or a parenthesis
+// cannot, and in a filter a space cannot.
 fn is_in_name(in_filter: bool, byte: u8) -> bool
     ensures { result ≡ is_in_name in_filter byte }
 {
-    byte != b'.' && byte != b'[' && byte != b'?' && !(in_filter && byte == b' ')
+    !matches!(byte, b'.' | b'[' | b'?' | b'(' | b')') && !(in_filter && byte == b' ')
 }
 
 // What is after a character, if it is the first one.
@@ -321,11 +344,11 @@ fn read_filter<'a>(alloc: Global, text: &'a str) -> Result<Option<(Selector<'a>,
 
 // What is after the beginning of a filter.
 fn after_beginning(text: &str) -> Option<&str>
-    ensures { MatchOption result ((rest : List ℕ) → text.now ≡ 40 ∷ (64 ∷ rest) → ⊥)
-        (λ rest. text.now ≡ 40 ∷ (64 ∷ rest.now)) }
+    ensures { MatchOption result ((rest : List ℕ) → IsBeginning text.now rest → ⊥)
+        (λ rest. IsBeginning text.now rest.now) }
 {
-    let rest = after_char(text, '(')?;
-    after_char(rest, '@')
+    let rest = after_char(after_spaces(text), '(')?;
+    after_char(after_spaces(rest), '@')
 }
 
 // The steps before a space, and what is after that.
@@ -389,12 +412,20 @@ fn read_literal<'a>(alloc: Global, text: &'a str) -> Result<Option<(Node<'a>, &'
     }
 }
 
+// What is after spaces and a closing parenthesis.
+fn after_closing(text: &str) -> Option<&str>
+    ensures { MatchOption result ((rest : List ℕ) → after_spaces text.now ≡ 41 ∷ rest → ⊥)
+        (λ rest. after_spaces text.now ≡ 41 ∷ rest.now) }
+{
+    after_char(after_spaces(text), ')')
+}
+
 // A string before a quote and a closing parenthesis, and what is after these.
 fn read_string<'a>(text: &'a str) -> Option<(Node<'a>, &'a str)>
     ensures { Reads node_tree (BeginsWithLiteral (34 ∷ text.now)) result }
 {
     match split_at(text, '"') {
-        Some((value, rest)) => match after_char(rest, ')') {
+        Some((value, rest)) => match after_closing(rest) {
             Some(rest) => Some((Node::String(value), rest)),
             None => None,
         },
@@ -409,7 +440,7 @@ fn read_word<'a>(alloc: Global, text: &'a str) -> Result<Option<(Node<'a>, &'a s
     ensures memory { IfErr result (λ e. e ≡ Error.OutOfMemory) }
 {
     let (word, rest) = split_word(text);
-    let Some(rest) = after_char(rest, ')') else {
+    let Some(rest) = after_closing(rest) else {
         return Ok(None);
     };
     match read_scalar(alloc, word)? {

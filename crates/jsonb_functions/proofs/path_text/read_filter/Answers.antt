@@ -1,6 +1,9 @@
 use Rattle.jsonb_functions.proofs.FilterTextLaws.{comparison_lacks, filter_read, literal_lacks}
-use Rattle.jsonb_functions.proofs.FilterTextLaws.{no_path, not_single, single_path}
+use Rattle.jsonb_functions.proofs.FilterTextLaws.{no_beginning, no_path, not_single, single_path}
 use Rattle.jsonb_functions.proofs.path_text.read_filter.Goals as goal
+
+pub returns-in_default-clause-ok : goal.returns-in_default-clause-ok
+returns-in_default-clause-ok c = no_beginning c.args.text.now c.in_default.ensures
 
 pub returns-in_default-2-clause-ok : goal.returns-in_default-2-clause-ok
 returns-in_default-2-clause-ok c =

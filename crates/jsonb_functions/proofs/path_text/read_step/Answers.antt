@@ -1,0 +1,13 @@
+use Rattle.std.proofs.Common.{sym, ◌∙◌}
+use Rattle.jsonb_functions.proofs.FilterTextLaws.{if_spaced, no_filter}
+use Rattle.jsonb_functions.proofs.path_text.read_step.Goals as goal
+
+pub returns-in-Some-clause-ok : goal.returns-in-Some-clause-ok
+returns-in-Some-clause-ok c =
+    if_spaced c.args.text.now c.in-Some.condition.now c.read_filter.result
+    (sym c.after_spaces.ensures ∙ c.in-Some.ensures) c.read_filter.ensures.ok
+
+pub returns-in-None-clause-ok : goal.returns-in-None-clause-ok
+returns-in-None-clause-ok c =
+    no_filter c.args.text.now c.read_written.result
+    (λ later e. c.in-None.ensures later (c.after_spaces.ensures ∙ e)) c.read_written.ensures
