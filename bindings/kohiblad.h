@@ -580,10 +580,13 @@ static inline uint32_t kohiblad_sort(const uint8_t *bytes, size_t size, const si
  * There is one for each pair of values that are compared, and for each member that is passed in
  * search of a key, up to the first whose key is not below it; and one for each byte of the keys of
  * these members, and of two texts, or two binary or opaque values, that are compared and equally
- * long: 4 for {"a":1} in {"a":1}. `steps` suffice that are at least the product of the weights of
- * both, the numbers of their values and keys and of the bytes of texts, keys, and binary and opaque
- * values. INVALID_JSONB if `left` or `right` is not a document of at most this depth. If the status
- * is not OK, the value is 0. SIZE_MAX is no limit. */
+ * long: 4 for {"a":1} in {"a":1}. If more than 16 items are looked for in an array of more than 16,
+ * there is a step in place of these for each scalar of the array, which are sorted, and for each
+ * that is looked for, and one for each of its bytes. `steps` suffice that are at least the product
+ * of the weights of both, the numbers of their values and keys and of the bytes of texts, keys, and
+ * binary and opaque values. INVALID_JSONB if `left` or `right` is not a document of at most this
+ * depth; OUT_OF_MEMORY if an allocation fails, which only such a sort makes. If the status is not
+ * OK, the value is 0. SIZE_MAX is no limit. */
 static inline struct kohiblad_truth kohiblad_contains(const uint8_t *left, size_t left_size,
     const uint8_t *right, size_t right_size, size_t depth, size_t steps)
     KOHIBLAD_INLINE("kohiblad_contains");

@@ -26,22 +26,22 @@ void *__wrap_realloc(void *block, size_t size) {
 
 static const char text[] = "{\"a\":1,\"b\":[true,\"\\u00e9\"],"
                            "\"c\":{\"d\":\"e\",\"f\":-12.5,\"g\":[[],{}]}}";
-enum { ROOM = 1024, CALLS = 41 };
+enum { ROOM = 1024, CALLS = 42 };
 static uint8_t document[ROOM], pairs[ROOM];
 static size_t size, offsets[5], pairs_size, order[4];
 static uint64_t keys[ROOM / 8];
 static struct kohiblad_place places[ROOM / 8];
-static uint8_t path[ROOM], names[ROOM];
-static size_t path_size, names_size;
+static uint8_t path[ROOM], names[ROOM], many[ROOM];
+static size_t path_size, names_size, many_size;
 
 static bool takes_memory(int which) {
     return which < 7 || which == 13 || which == 14 || (which > 16 && which < 22)
-        || (which > 23 && which < 40);
+        || (which > 23 && which != 41);
 }
 
-/* Whether a call has no length: a sort, whether two arrays overlap, and whether keys are there. */
+/* Whether a call has no length: a sort, whether arrays overlap, and what a document has. */
 static bool has_no_length(int which) {
-    return which == 6 || which == 34 || which == 38 || which == 39;
+    return which == 6 || which == 34 || (which > 37 && which < 41);
 }
 
 static uint32_t call(int which, uint8_t *out, size_t *length) {
@@ -115,6 +115,8 @@ static uint32_t call(int which, uint8_t *out, size_t *length) {
                                 length);
     case 38: return kohiblad_exists_any(document, size, names, names_size, 8).status;
     case 39: return kohiblad_exists_all(document, size, names, names_size, 8).status;
+    /* So many scalars are sorted. */
+    case 40: return kohiblad_contains(many, many_size, many, many_size, 8, SIZE_MAX).status;
     default: return kohiblad_key_cut(document, size, 8, out, ROOM, length);
     }
 }
@@ -137,6 +139,9 @@ int main(void) {
     static const char listed[] = "[\"c\",\"a\",\"z\"]";
     assert(kohiblad_parse((const uint8_t *)listed, sizeof listed - 1, 8, 0, names, ROOM,
                           &names_size) == KOHIBLAD_OK);
+    static const char numbers[] = "[1,2,3,4,5,6,7,8,9,10,11,12,13,14,15,16,17]";
+    assert(kohiblad_parse((const uint8_t *)numbers, sizeof numbers - 1, 8, 0, many, ROOM,
+                          &many_size) == KOHIBLAD_OK);
     long runs = 0;
     for (int which = 0; which < CALLS; which++) {
         for (long nth = 0;; nth++) {

@@ -14,7 +14,7 @@ fn main() -> Result<(), kohiblad::Error> {
     }
     let cheaper = rows[0].as_raw().set(&Path::new().key("price"), 9)?;
     let wanted = OwnedJsonb::object_of([("price", 9)])?;
-    if cheaper.as_raw().contains(wanted.as_raw()) {
+    if cheaper.as_raw().contains(wanted.as_raw())? {
         println!("{cheaper}");
     }
     if let Err(refused) = OwnedJsonb::parse(r#"{"id": 1e5}"#, 64) {

@@ -31,7 +31,7 @@
 //! let row = row.as_raw().set(&Path::new().key("tags").index(1), "b")?;
 //! assert_eq!(row.to_string(), r#"{"name":"Ada","tags":["a","b"]}"#);
 //! let wanted = OwnedJsonb::parse(r#"{"tags": ["b"]}"#, 64)?;
-//! assert!(row.as_raw().contains(wanted.as_raw()));
+//! assert!(row.as_raw().contains(wanted.as_raw())?);
 //! # Ok::<(), kohiblad::Error>(())
 //! ```
 //!

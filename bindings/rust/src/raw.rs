@@ -337,41 +337,55 @@ impl<'a> RawJsonb<'a> {
     /// values that contain theirs; an array those arrays for each of whose items it has one that
     /// contains it; a scalar what equals it; and at the top an array also its scalar items.
     ///
-    /// This takes as many steps as the product of the sizes if long arrays are in both: of documents
-    /// that others chose ask [`contains_within`](Self::contains_within).
+    /// This takes as many steps as the product of the numbers if many arrays or objects are in
+    /// arrays of both: of documents that others chose ask
+    /// [`contains_within`](Self::contains_within). Scalars are sorted, which takes n log n.
+    ///
+    /// # Errors
+    ///
+    /// - [`Error::OutOfMemory`]: an allocation failed. None is made unless more than 16 items are
+    ///   looked for in an array of more than 16.
     ///
     /// ```
     /// use kohiblad::OwnedJsonb;
     ///
     /// let row = OwnedJsonb::parse(r#"{"city": "Oslo", "tags": ["a", "b"], "price": 1.50}"#, 64)?;
-    /// let contains = |text| Ok::<_, kohiblad::Error>(
-    ///     row.as_raw().contains(OwnedJsonb::parse(text, 64)?.as_raw()));
+    /// let contains = |text| row.as_raw().contains(OwnedJsonb::parse(text, 64)?.as_raw());
     /// assert!(contains(r#"{"price": 1.5, "tags": ["b"]}"#)?);
     /// assert!(!contains(r#"{"tags": ["c"]}"#)?);
     /// # Ok::<(), kohiblad::Error>(())
     /// ```
-    pub fn contains(&self, other: RawJsonb<'_>) -> bool {
-        known(ffi::contains(self.bytes, other.bytes, usize::MAX))
+    pub fn contains(&self, other: RawJsonb<'_>) -> Result<bool, Error> {
+        ffi::contains(self.bytes, other.bytes, usize::MAX)
     }
 
     /// The same, or `None` if it takes more than so many steps: one for each pair of values that
-    /// are compared, each byte of two texts of one length, and each member that is passed on the
-    /// way to a key, with each byte of its own. Enough is the product of what both documents have
-    /// of values, keys and bytes in texts, keys and binary values.
+    /// are compared, each byte of two texts of one length, each member that is passed on the way to
+    /// a key, with each byte of its own, and each scalar that is sorted or looked for among those,
+    /// with each of its bytes. Enough is the product of what both documents have of values, keys
+    /// and bytes in texts, keys and binary values.
+    ///
+    /// # Errors
+    ///
+    /// Those of `contains`.
     ///
     /// ```
     /// use kohiblad::OwnedJsonb;
     ///
     /// let row = OwnedJsonb::parse("[1, 2, 3, 4, 5, 6, 7, 8, 9]", 64)?;
     /// let last = OwnedJsonb::parse("[9]", 64)?;
-    /// assert_eq!(row.as_raw().contains_within(last.as_raw(), 100), Some(true));
-    /// assert_eq!(row.as_raw().contains_within(last.as_raw(), 5), None);
+    /// assert_eq!(row.as_raw().contains_within(last.as_raw(), 100)?, Some(true));
+    /// assert_eq!(row.as_raw().contains_within(last.as_raw(), 5)?, None);
     /// # Ok::<(), kohiblad::Error>(())
     /// ```
-    pub fn contains_within(&self, other: RawJsonb<'_>, steps: usize) -> Option<bool> {
+    pub fn contains_within(
+        &self,
+        other: RawJsonb<'_>,
+        steps: usize,
+    ) -> Result<Option<bool>, Error> {
         match ffi::contains(self.bytes, other.bytes, steps) {
-            Err(Error::TooManySteps) => None,
-            answer => Some(known(answer)),
+            Err(Error::TooManySteps) => Ok(None),
+            answer => answer.map(Some),
         }
     }
 

@@ -57,7 +57,8 @@ fn read(depth: usize) {
         assert_eq!(raw.to_string(), text);
         assert!(raw.pretty_text().is_ok() && raw.key().is_ok() && raw.is_canonical());
         assert_eq!(raw, other);
-        assert!(raw.contains(other) && !raw.exists("b"));
+        assert_eq!(raw.contains(other), Ok(true));
+        assert!(!raw.exists("b"));
         assert_eq!(raw.exists_any(["b", "c"]), Ok(false));
         assert_eq!(raw.to_canonical().unwrap(), document);
         assert_eq!(raw.index_keys().unwrap().len(), 1);

@@ -13,6 +13,9 @@ pub fn document_of<'a>(owned: &'a OwnedJsonb) -> Result<Document<'a>, Error> {
     Document::new(owned.as_bytes()).ok_or(Error::InvalidJsonb)
 }
 
+// So many items that their scalars are sorted, if as many are looked for.
+const NINE_TWICE: &str = "[1,2,3,4,5,6,7,8,9,1.0,2,3,4,5,6,7,8,9]";
+
 // Two texts, and whether the first one's value contains the second one's.
 const CONTAINED: &[(&str, &str, bool)] = &[
     ("\"foo\"", "\"foo\"", true),
@@ -29,13 +32,15 @@ const CONTAINED: &[(&str, &str, bool)] = &[
     ("{\"foo\":{\"bar\":\"baz\"}}", "{\"foo\":{}}", true),
     ("[\"foo\",\"bar\"]", "\"bar\"", true),
     ("\"bar\"", "[\"bar\"]", false),
+    (NINE_TWICE, "[9,8,7,6,5,4,3,2,1,9,8,7,6,5,4,3,2,1]", true),
+    (NINE_TWICE, "[9,8,7,6,5,4,3,2,1,9,8,7,6,5,4,3,2,10]", false),
 ];
 
 // Whether the value of one text contains that of another.
 fn is_contained(alloc: Global, left: &str, right: &str) -> Result<bool, Error> {
     let left = OwnedJsonb::parse(alloc, left)?;
     let right = OwnedJsonb::parse(alloc, right)?;
-    Ok(contains(document_of(&left)?, document_of(&right)?))
+    contains(alloc, document_of(&left)?, document_of(&right)?)
 }
 
 #[test]

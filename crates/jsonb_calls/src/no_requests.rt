@@ -150,9 +150,9 @@ fn documents_are_asked(rt: HostRuntime) {
     let Some(document) = Document::new(OBJECT) else {
         return assert!(rt; false);
     };
-    assert!(rt; contains(document, document) && exists(document, "b"));
-    assert!(rt; contains_within(document, document, 25) == Some(true));
-    assert!(rt; contains_within(document, document, 0) == None);
+    assert!(rt; contains(rt.alloc(), document, document) == Ok(true) && exists(document, "b"));
+    assert!(rt; contains_within(rt.alloc(), document, document, 25) == Ok(Some(true)));
+    assert!(rt; contains_within(rt.alloc(), document, document, 0) == Ok(None));
     let path = [Step::Key("a")];
     let one = NumberItem::from_number(Number::UInt64(1));
     assert!(rt; get_path(document, &path) == Some(Node::Number(one)));

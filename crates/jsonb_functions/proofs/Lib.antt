@@ -1,4 +1,5 @@
 pub mod StepLaws
+pub mod ScalarLaws
 pub mod WalkLaws
 pub mod WeightLaws
 pub mod EditLaws

@@ -26,7 +26,7 @@ use Rattle.jsonb_functions.specs.Picked.{AreSorted, is_named, keeps, picked, pic
 use Rattle.jsonb_functions.proofs.ChosenLaws.{object_chosen}
 
 -- What is less before a place and greater from there on is nowhere the same.
-not_same : (o : Ordering) (i j : ℕ) (b : Bool) → nat_lt j i ≡ b → (j < i → o ≡ Less)
+pub not_same : (o : Ordering) (i j : ℕ) (b : Bool) → nat_lt j i ≡ b → (j < i → o ≡ Less)
     → (i ≤ j → o ≡ Greater) → is_eq o ≡ false
 not_same o i j true e less more = ap is_eq (less (ltb-true j i e))
 not_same o i j false e less more = ap is_eq (more (ltb-false j i e))

@@ -1,40 +1,52 @@
 -- How many steps a walk that may give up takes.
 use Rattle.std.proofs.Common.{◌≡◌, ℕ, suc, ◌+◌, ◌*◌, ◌≤◌, ◌<◌, List, ap, ◌∙◌, arith}
-use Rattle.std.specs.Prelude.{Bool, Option, Some, None, IfSome, IfNone}
+use Rattle.std.specs.Prelude.{Bool, Result, Ok, Err}
 use Rattle.std.proofs.Math.Nat.{add-mul, mul-add, mul-le-mul_right, mul-suc, suc-mul}
 use Rattle.std.proofs.lemmas.Nat.{mul-le}
 use Rattle.jsonb_value.specs.Tree.{Tree, null, boolean, number, text, extension, array, object}
 use Rattle.jsonb_value.specs.Value.{trees_of}
 use Rattle.jsonb.specs.Node.{array_of}
-use Rattle.jsonb_functions.specs.Steps.{FoundIn}
+use Rattle.jsonb_functions.specs.Steps.{FallsShort, FoundIn, TakesAtMost}
+use Rattle.jsonb_functions.specs.declared.steps.Unanswered.{Unanswered}
+use Rattle.jsonb_functions.specs.declared.steps.Unanswered.TheVariants.{OutOfMemory, TooManySteps}
 use Rattle.jsonb_functions.specs.Weight.{weight, weights}
 
 -- The same after some steps were taken, and of more steps.
-pub found_after : (r : Option Bool) (f g : Bool) (k m n first mid last : ℕ) → f ≡ g
+pub found_after : (r : Result Bool Unanswered) (f g : Bool) (k m n first mid last : ℕ) → f ≡ g
     → first ≡ mid + k → k + m ≤ n → FoundIn r f m mid last → FoundIn r g n first last
-found_after None f g k m n first mid last e took most h = omega (arith, took, most, h)
-found_after (Some b) f g k m n first mid last e took most h =
+found_after (Err TooManySteps) f g k m n first mid last e took most h = omega (arith, took, most, h)
+found_after (Err OutOfMemory) f g k m n first mid last e took most h = tt
+found_after (Ok b) f g k m n first mid last e took most h =
     (h.0 ∙ e, omega (arith, took, most, h.1))
 
-pub found_within : (r : Option Bool) (f g : Bool) (m n before after : ℕ) → f ≡ g → m ≤ n
+pub found_within : (r : Result Bool Unanswered) (f g : Bool) (m n before after : ℕ) → f ≡ g → m ≤ n
     → FoundIn r f m before after → FoundIn r g n before after
-found_within None f g m n before after e most h = omega (arith, most, h)
-found_within (Some b) f g m n before after e most h = (h.0 ∙ e, omega (arith, most, h.1))
+found_within (Err TooManySteps) f g m n before after e most h = omega (arith, most, h)
+found_within (Err OutOfMemory) f g m n before after e most h = tt
+found_within (Ok b) f g m n before after e most h = (h.0 ∙ e, omega (arith, most, h.1))
 
--- A walk that gave up.
-pub gave_up : (r : Option Bool) (found : Bool) (cost before after : ℕ) → r ≡ None → before < cost
+-- A search that had too few steps, or whose part has no answer.
+pub too_few : (r : Result Bool Unanswered) (e : Unanswered) (found : Bool) (cost before after : ℕ)
+    → r ≡ Err e → e ≡ TooManySteps → before < cost → FoundIn r found cost before after
+too_few r e found cost before after is why h = rw (is, why) h
+
+pub gave_up : (r : Result Bool Unanswered) (e : Unanswered) (found part : Bool)
+    (cost m before mid last after : ℕ) → r ≡ Err e → (mid < m → before < cost)
+    → FoundIn (Err e) part m mid last → FoundIn r found cost before after
+gave_up r TooManySteps found part cost m before mid last after is more h = rw is (more h)
+gave_up r OutOfMemory found part cost m before mid last after is more h = rw is tt
+
+pub gave_up_before : (r : Result Bool Unanswered) (e : Unanswered) (found : Bool)
+    (cost m before after : ℕ) → r ≡ Err e → m ≤ cost → FallsShort before m e
     → FoundIn r found cost before after
-gave_up r found cost before after e h = rw e h
+gave_up_before r TooManySteps found cost m before after is most h =
+    rw is (omega (arith, most, h))
+gave_up_before r OutOfMemory found cost m before after is most h = rw is tt
 
-pub found_some : (r : Option Bool) (found : Bool) (cost before after : ℕ)
-    → FoundIn r found cost before after → IfSome r (λ b. b ≡ found)
-found_some None found cost before after h = tt
-found_some (Some b) found cost before after h = h.0
-
-pub found_none : (r : Option Bool) (found : Bool) (cost before after : ℕ)
-    → FoundIn r found cost before after → IfNone r (before < cost)
-found_none None found cost before after h = h
-found_none (Some b) found cost before after h = tt
+pub ended : {A : Type 0} (r : Result A Unanswered) (e : Unanswered) (cost m before mid after : ℕ)
+    → r ≡ Err e → (mid < m → before < cost) → FallsShort mid m e → TakesAtMost r cost before after
+ended r TooManySteps cost m before mid after is more h = rw is (more h)
+ended r OutOfMemory cost m before mid after is more h = rw is tt
 
 pub weight_positive : (t : Tree) → 1 ≤ weight t
 weight_positive null = omega arith
@@ -55,13 +67,7 @@ one_of_both t u = omega (
   mul-le (weight t) 1 (weight t) (weight u) (omega arith) (weight_positive u),
 )
 
--- One step, and the product of what is in both.
-pub product_more : (a b m n : ℕ) → m ≡ suc a → n ≡ suc b → 1 + a * b ≤ m * n
-product_more a b m n e f =
-    let parts : suc a * suc b ≡ a * suc b + suc b = suc-mul a (suc b) in
-    let more : a * suc b ≡ a * b + a = mul-suc a b in
-    rw (e, f) (omega (arith, parts, more))
-
+-- One step, and what is in the one and the product of both.
 pub product_parts : (a b m n : ℕ) → m ≡ suc a → n ≡ suc b → 1 + (a + a * b) ≤ m * n
 product_parts a b m n e f =
     let parts : suc a * suc b ≡ a * suc b + suc b = suc-mul a (suc b) in
@@ -75,18 +81,18 @@ items_fit t ts n e =
     let fewer : weights (trees_of ts) ≤ weight t = omega (arith, ap weight e) in
     mul-le-mul_right n fewer
 
--- A walk over items that are each looked for takes a product.
-pub rows_on : (a b u rest left whole first now after : ℕ) → a ≡ b → left ≡ u + rest
-    → first + a * left ≤ now + a * whole → now ≤ after + b * u
-    → first + a * rest ≤ after + a * whole
-rows_on a b u rest left whole first now after same e spent took =
+-- A walk over items that are each looked for takes a product, after what it took before.
+pub rows_on : (a b u rest left whole k first now after : ℕ) → a ≡ b → left ≡ u + rest
+    → first + a * left ≤ now + (k + a * whole) → now ≤ after + b * u
+    → first + a * rest ≤ after + (k + a * whole)
+rows_on a b u rest left whole k first now after same e spent took =
     let parts : a * left ≡ a * u + a * rest = rw e (mul-add a u rest) in
     let cost : a * u ≡ b * u = ap (λ x. x * u) same in
     omega (arith, parts, spent, took, cost)
 
-pub rows_end : (a b u rest left whole first now : ℕ) → a ≡ b → left ≡ u + rest
-    → first + a * left ≤ now + a * whole → now < b * u → first < a * whole
-rows_end a b u rest left whole first now same e spent short =
+pub rows_end : (a b u rest left whole k first now : ℕ) → a ≡ b → left ≡ u + rest
+    → first + a * left ≤ now + (k + a * whole) → now < b * u → first < k + a * whole
+rows_end a b u rest left whole k first now same e spent short =
     let parts : a * left ≡ a * u + a * rest = rw e (mul-add a u rest) in
     let cost : a * u ≡ b * u = ap (λ x. x * u) same in
     omega (arith, parts, spent, short, cost)

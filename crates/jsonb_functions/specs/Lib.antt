@@ -20,6 +20,7 @@ pub mod Path
 pub mod PathDocument
 pub mod PathText
 pub mod Picked
+pub mod Scalars
 pub mod Selected
 pub mod Steps
 pub mod StoredPath

@@ -1,7 +1,10 @@
 //! Containment: whether all of one document is in another.
 
 ghost use Rattle.std.specs.Prelude.{◌≡◌, ◌≢◌, ◌<◌, ◌≤◌, ◌+◌, ◌*◌, ℕ, List, false, length};
-ghost use Rattle.std.specs.Prelude.{IfSome, IfNone, MatchOption, option_map};
+ghost use Rattle.std.specs.Prelude.{IfErr, IfNone, IfOk, IfSome, MatchOption, option_copied};
+ghost use Rattle.std.specs.Prelude.{option_map};
+ghost use Rattle.jsonb_functions.specs.Scalars.{AreScalarsOf};
+ghost use Rattle.jsonb_functions.specs.Steps.{TakesAtMost};
 ghost use Rattle.jsonb_functions.specs.Words.{Ascend, FoundIn, are_equal, contained};
 ghost use Rattle.jsonb_functions.specs.Words.{contains_whole, document_tree, extension_data};
 ghost use Rattle.jsonb_functions.specs.Words.{extension_of_item, has_top_key, items_contained};
@@ -11,24 +14,35 @@ ghost use Rattle.jsonb_functions.specs.Words.{pairs_of, rest_pairs, rest_trees, 
 ghost use Rattle.jsonb_functions.specs.Words.{some_tree, text, trees_of, value_of_key, weight};
 ghost use Rattle.jsonb_functions.specs.Words.{weights};
 
+use crate::scalars::{Scalars, data_of};
+use crate::steps::{Unanswered, take};
 use crate::walk::{next_item, next_member};
-use jsonb::{Document, ExtensionItem, ExtensionValue, Items, Members, Node};
+use jsonb::{Document, Error, Items, Members, Node};
+use std::alloc::Global;
 use std::cmp::Ordering;
+
+// Up to so many items are sooner looked for one by one than among sorted ones.
+const FEW: usize = 16;
 
 /// Whether the left document contains the right one. An object contains another if it has each of
 /// its keys, with a value that contains the other's; an array contains another if for each item of
 /// the other some item of it contains that; every other value contains what is equal to it. A whole
 /// document that is an array also contains each scalar that is equal to one of its items.
 ///
-/// Arrays in arrays take a product of the sizes at worst: for documents that others chose there is
-/// `contains_within`.
-pub fn contains(left: Document<'_>, right: Document<'_>) -> bool
-    ensures { result ≡ contains_whole (document_tree left.entry) (document_tree right.entry) }
+/// Scalars take n log n: those of an array of more than 16 items are sorted if more than 16 are
+/// looked for in it. `OutOfMemory`, the only error, if the list of them cannot be allocated;
+/// nothing else requests memory. Arrays and objects in arrays take a product of the sizes at worst:
+/// for documents that others chose there is `contains_within`.
+pub fn contains(alloc: Global, left: Document<'_>, right: Document<'_>) -> Result<bool, Error>
+    ensures ok { IfOk result (λ is_contained. is_contained
+        ≡ contains_whole (document_tree left.entry) (document_tree right.entry)) }
+    ensures memory { IfErr result (λ e. e ≡ Error.OutOfMemory) }
 {
     let mut steps = most_steps(left, right);
-    match contains_counted(left, right, &mut steps) {
-        Some(is_contained) => is_contained,
-        None => unreachable!(),
+    match contains_counted(alloc, left, right, &mut steps) {
+        Ok(is_contained) => Ok(is_contained),
+        Err(Unanswered::OutOfMemory) => Err(Error::OutOfMemory),
+        Err(Unanswered::TooManySteps) => unreachable!(),
     }
 }
 
@@ -37,18 +51,30 @@ pub fn contains(left: Document<'_>, right: Document<'_>) -> bool
 /// member that is passed in search of a key, up to the first whose key is not below it; and one for
 /// each byte of the keys of these members, and of two texts, or two binary or opaque values, that
 /// are compared and equally long. So `{"a":1}` in `{"a":1}` takes 4: for the objects, the member,
-/// its key and the numbers. `None` if the steps do not suffice, which is so only if they are fewer
-/// than the product of both documents' weights; the weight is the number of values and keys, and of
-/// the bytes of texts, keys, and binary and opaque values.
-#[tactic(auto, using(crate::proofs::StepLaws::found_some, crate::proofs::StepLaws::found_none))]
-pub fn contains_within(left: Document<'_>, right: Document<'_>, steps: usize) -> Option<bool>
-    ensures some { IfSome result (λ is_contained. is_contained
-        ≡ contains_whole (document_tree left.entry) (document_tree right.entry)) }
-    ensures none { IfNone result
-        (steps < weight (document_tree left.entry) * weight (document_tree right.entry)) }
+/// its key and the numbers. If more than 16 items are looked for in an array of more than 16, there
+/// is a step in place of these for each scalar of the array, which are sorted, and for each that is
+/// looked for, and one for each of its bytes. `None` if the steps do not suffice, which is so only
+/// if they are fewer than the product of both documents' weights; the weight is the number of
+/// values and keys, and of the bytes of texts, keys, and binary and opaque values. `OutOfMemory` is
+/// the only error.
+pub fn contains_within(
+    alloc: Global,
+    left: Document<'_>,
+    right: Document<'_>,
+    steps: usize,
+) -> Result<Option<bool>, Error>
+    ensures some { IfOk result (λ answer. IfSome answer (λ is_contained. is_contained
+        ≡ contains_whole (document_tree left.entry) (document_tree right.entry))) }
+    ensures none { IfOk result (λ answer. IfNone answer
+        (steps < weight (document_tree left.entry) * weight (document_tree right.entry))) }
+    ensures memory { IfErr result (λ e. e ≡ Error.OutOfMemory) }
 {
     let mut steps = steps as u128;
-    contains_counted(left, right, &mut steps)
+    match contains_counted(alloc, left, right, &mut steps) {
+        Ok(is_contained) => Ok(Some(is_contained)),
+        Err(Unanswered::TooManySteps) => Ok(None),
+        Err(Unanswered::OutOfMemory) => Err(Error::OutOfMemory),
+    }
 }
 
 // More steps than it takes: a document has at least as many bytes as it has weight.
@@ -60,7 +86,12 @@ fn most_steps(left: Document<'_>, right: Document<'_>) -> u128
 }
 
 // Whether a whole document contains another, unless it takes too many steps.
-fn contains_counted(left: Document<'_>, right: Document<'_>, steps: &mut u128) -> Option<bool>
+fn contains_counted(
+    alloc: Global,
+    left: Document<'_>,
+    right: Document<'_>,
+    steps: &mut u128,
+) -> Result<bool, Unanswered>
     ensures { FoundIn result
         (contains_whole (document_tree left.entry) (document_tree right.entry))
         (weight (document_tree left.entry) * weight (document_tree right.entry))
@@ -69,11 +100,11 @@ fn contains_counted(left: Document<'_>, right: Document<'_>, steps: &mut u128) -
     let wanted = right.value();
     if let Some(items) = left.items() {
         return match wanted {
-            Node::Container(_) => contains_documents(left, right, steps),
-            _ => has_item(items, wanted, steps),
+            Node::Container(_) => contains_documents(alloc, left, right, steps),
+            _ => has_item(alloc, items, wanted, steps),
         };
     }
-    contains_node(left.value(), wanted, steps)
+    contains_node(alloc, left.value(), wanted, steps)
 }
 
 /// Whether a key is there: a key of an object, a text that is an item of an array, or the text
@@ -103,38 +134,36 @@ fn has_text(mut items: Items<'_>, wanted: &str) -> bool
     false
 }
 
-// Takes so many steps. `None` if fewer are left.
-#[inline(always)]
-fn take(steps: &mut u128, count: usize) -> Option<()>
-    ensures { MatchOption result (steps.old < count) (λ taken. steps.old ≡ steps.new + count) }
-{
-    *steps = steps.checked_sub(count as u128)?;
-    Some(())
-}
-
 // Whether a value contains another.
 #[cycle(contains)]
-fn contains_node(left: Node<'_>, right: Node<'_>, steps: &mut u128) -> Option<bool>
+fn contains_node(
+    alloc: Global,
+    left: Node<'_>,
+    right: Node<'_>,
+    steps: &mut u128,
+) -> Result<bool, Unanswered>
     ensures { FoundIn result (contained (node_tree right.entry) (node_tree left.entry))
         (weight (node_tree left.entry) * weight (node_tree right.entry)) steps.old steps.new }
 {
     match (left, right) {
-        (Node::Container(left), Node::Container(right)) => contains_documents(left, right, steps),
+        (Node::Container(left), Node::Container(right)) => {
+            contains_documents(alloc, left, right, steps)
+        }
         _ => are_equal(left, right, steps),
     }
 }
 
 // Whether two values are equal.
-fn are_equal(left: Node<'_>, right: Node<'_>, steps: &mut u128) -> Option<bool>
+fn are_equal(left: Node<'_>, right: Node<'_>, steps: &mut u128) -> Result<bool, Unanswered>
     ensures { FoundIn result (are_equal (node_tree left.entry) (node_tree right.entry))
         (weight (node_tree left.entry)) steps.old steps.new }
 {
     take(steps, 1)?;
     let Some(length) = compared_len(left, right) else {
-        return Some(false);
+        return Ok(false);
     };
     take(steps, length)?;
-    Some(left == right)
+    Ok(left == right)
 }
 
 // How many bytes are compared of two texts, or of two binary or opaque values. `None` if one of
@@ -165,80 +194,135 @@ fn common_len(left: &[u8], right: &[u8]) -> Option<usize>
     }
 }
 
-// The bytes of a binary or opaque value; none of any other extension value.
-fn data_of<'a>(item: ExtensionItem<'a>) -> &'a [u8]
-    ensures { result.now ≡ extension_data (extension_of_item item.entry) }
-{
-    match item.as_extension_value() {
-        ExtensionValue::Binary(bytes) => bytes,
-        ExtensionValue::Opaque(opaque) => opaque.bytes(),
-        _ => &[],
-    }
-}
-
 #[cycle(contains)]
-fn contains_documents(left: Document<'_>, right: Document<'_>, steps: &mut u128) -> Option<bool>
+fn contains_documents(
+    alloc: Global,
+    left: Document<'_>,
+    right: Document<'_>,
+    steps: &mut u128,
+) -> Result<bool, Unanswered>
     ensures { FoundIn result (contained (document_tree right.entry) (document_tree left.entry))
         (weight (document_tree left.entry) * weight (document_tree right.entry))
         steps.old steps.new }
 {
     take(steps, 1)?;
     if let (Some(_), Some(wanted)) = (left.items(), right.items()) {
-        return contains_items(left, wanted, steps);
+        return contains_items(alloc, left, wanted, steps);
     }
     match (left.members(), right.members()) {
-        (Some(members), Some(wanted)) => contains_members(members, wanted, steps),
-        _ => Some(left == right),
+        (Some(members), Some(wanted)) => contains_members(alloc, members, wanted, steps),
+        _ => Ok(left == right),
     }
 }
 
 // Whether for each wanted item some item of the array contains it.
 #[cycle(contains)]
-fn contains_items(array: Document<'_>, mut wanted: Items<'_>, steps: &mut u128) -> Option<bool>
+fn contains_items(
+    alloc: Global,
+    array: Document<'_>,
+    mut wanted: Items<'_>,
+    steps: &mut u128,
+) -> Result<bool, Unanswered>
     ensures { FoundIn result
         (items_contained (trees_of (rest_trees wanted.entry))
         (items_or_none (document_tree array.entry)))
         (weights (items_or_none (document_tree array.entry))
+        + weights (items_or_none (document_tree array.entry))
         * weights (trees_of (rest_trees wanted.entry)))
         steps.old steps.new }
 {
+    let scalars = scalars_if_many(alloc, array, wanted.len(), steps)?;
     while let Some(item) = next_item(&mut wanted) {
         let Some(items) = array.items() else {
-            return Some(false);
+            return Ok(false);
         };
-        let is_there = has_item(items, item, steps)?;
+        let is_there = has_value(alloc, items, scalars.as_ref(), item, steps)?;
         if !is_there {
-            return Some(false);
+            return Ok(false);
         }
     }
-    Some(true)
+    Ok(true)
+}
+
+// The scalars among the array's items in order, if it has many and is searched for many.
+fn scalars_if_many<'a>(
+    alloc: Global,
+    array: Document<'a>,
+    wanted: usize,
+    steps: &mut u128,
+) -> Result<Option<Scalars<'a>>, Unanswered>
+    ensures scalars { IfOk result (λ scalars. IfSome scalars
+        (AreScalarsOf (items_or_none (document_tree array.entry)))) }
+    ensures many { IfOk result (λ scalars. IfSome scalars (λ list.
+        1 ≤ weights (items_or_none (document_tree array.entry)))) }
+    ensures cost { TakesAtMost result (weights (items_or_none (document_tree array.entry)))
+        steps.old steps.new }
+{
+    match array.items() {
+        Some(items) if wanted > FEW && items.len() > FEW => {
+            let scalars = Scalars::of_items(alloc, items, steps)?;
+            Ok(Some(scalars))
+        }
+        _ => Ok(None),
+    }
+}
+
+// Whether some item contains the wanted value; a scalar is looked for among the scalars in order,
+// if they are there.
+#[cycle(contains)]
+fn has_value<'a>(
+    alloc: Global,
+    items: Items<'a>,
+    scalars: Option<&Scalars<'a>>,
+    wanted: Node<'a>,
+    steps: &mut u128,
+) -> Result<bool, Unanswered>
+    requires scalars { IfSome (option_copied scalars)
+        (AreScalarsOf (trees_of (rest_trees items))) }
+    requires many { IfSome (option_copied scalars) (λ list.
+        1 ≤ weights (trees_of (rest_trees items))) }
+    ensures { FoundIn result
+        (some_tree (λ t. contained (node_tree wanted.entry) t) (trees_of (rest_trees items.entry)))
+        (weights (trees_of (rest_trees items.entry)) * weight (node_tree wanted.entry))
+        steps.old steps.new }
+{
+    match (scalars, wanted) {
+        (None, _) | (_, Node::Container(_)) => has_item(alloc, items, wanted, steps),
+        (Some(scalars), scalar) => scalars.has(scalar, steps),
+    }
 }
 
 // Whether some item contains the wanted value.
 #[cycle(contains)]
-fn has_item(mut items: Items<'_>, wanted: Node<'_>, steps: &mut u128) -> Option<bool>
+fn has_item(
+    alloc: Global,
+    mut items: Items<'_>,
+    wanted: Node<'_>,
+    steps: &mut u128,
+) -> Result<bool, Unanswered>
     ensures { FoundIn result
         (some_tree (λ t. contained (node_tree wanted.entry) t) (trees_of (rest_trees items.entry)))
         (weights (trees_of (rest_trees items.entry)) * weight (node_tree wanted.entry))
         steps.old steps.new }
 {
     while let Some(item) = next_item(&mut items) {
-        let is_contained = contains_node(item, wanted, steps)?;
+        let is_contained = contains_node(alloc, item, wanted, steps)?;
         if is_contained {
-            return Some(true);
+            return Ok(true);
         }
     }
-    Some(false)
+    Ok(false)
 }
 
 // Whether each wanted key is there, with a value that contains the wanted one. Both are in the
 // order of their keys, and each is walked once.
 #[cycle(contains)]
 fn contains_members(
+    alloc: Global,
     mut members: Members<'_>,
     mut wanted: Members<'_>,
     steps: &mut u128,
-) -> Option<bool>
+) -> Result<bool, Unanswered>
     requires members { Ascend (pairs_of (rest_pairs members)) }
     requires wanted { Ascend (pairs_of (rest_pairs wanted)) }
     ensures { FoundIn result
@@ -250,45 +334,49 @@ fn contains_members(
 {
     while let Some((name, value)) = next_member(&mut wanted) {
         let Some(found) = value_at(&mut members, name, steps)? else {
-            return Some(false);
+            return Ok(false);
         };
-        let is_contained = contains_node(found, value, steps)?;
+        let is_contained = contains_node(alloc, found, value, steps)?;
         if !is_contained {
-            return Some(false);
+            return Ok(false);
         }
     }
-    Some(true)
+    Ok(true)
 }
 
 // The value of a key among members in the order of their keys. Takes the members up to it; for all
-// later keys what is left has the same values. `None` if the members weigh more than there are
-// steps.
-fn value_at<'a>(members: &mut Members<'a>, name: &str, steps: &mut u128) -> Option<Option<Node<'a>>>
+// later keys what is left has the same values. `TooManySteps` if the members weigh more than there
+// are steps.
+fn value_at<'a>(
+    members: &mut Members<'a>,
+    name: &str,
+    steps: &mut u128,
+) -> Result<Option<Node<'a>>, Unanswered>
     requires { Ascend (pairs_of (rest_pairs members.old)) }
-    ensures value { IfSome result (λ found. option_map node_tree found
+    ensures value { IfOk result (λ found. option_map node_tree found
         ≡ value_of_key name.now (object_of (rest_pairs members.old))) }
-    ensures later { IfSome result (λ found. IfSome found (λ node. (k : List ℕ)
+    ensures later { IfOk result (λ found. IfSome found (λ node. (k : List ℕ)
         → slice_cmp nat_cmp name.now k ≡ Ordering.Less
         → value_of_key k (object_of (rest_pairs members.old))
         ≡ value_of_key k (object_of (rest_pairs members.new)))) }
-    ensures ascend { IfSome result (λ found. IfSome found (λ node.
+    ensures ascend { IfOk result (λ found. IfSome found (λ node.
         Ascend (pairs_of (rest_pairs members.new)))) }
-    ensures weight { IfSome result (λ found. IfSome found (λ node. weight (node_tree node)
+    ensures weight { IfOk result (λ found. IfSome found (λ node. weight (node_tree node)
         + pair_weights (pairs_of (rest_pairs members.new))
         < pair_weights (pairs_of (rest_pairs members.old)))) }
-    ensures cost { IfSome result (λ found. steps.old + maybe_weight (option_map node_tree found)
+    ensures cost { IfOk result (λ found. steps.old + maybe_weight (option_map node_tree found)
         + pair_weights (pairs_of (rest_pairs members.new))
         ≤ steps.new + pair_weights (pairs_of (rest_pairs members.old))) }
-    ensures none { IfNone result
-        (steps.old < pair_weights (pairs_of (rest_pairs members.old))) }
+    ensures err { IfErr result (λ e. (e ≡ Unanswered.TooManySteps)
+        × (steps.old < pair_weights (pairs_of (rest_pairs members.old)))) }
 {
     while let Some((key, value)) = next_member(members) {
         take(steps, 1 + key.len())?;
         match key.cmp(name) {
             Ordering::Less => (),
-            Ordering::Equal => return Some(Some(value)),
-            Ordering::Greater => return Some(None),
+            Ordering::Equal => return Ok(Some(value)),
+            Ordering::Greater => return Ok(None),
         }
     }
-    Some(None)
+    Ok(None)
 }

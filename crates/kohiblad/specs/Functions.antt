@@ -20,12 +20,13 @@ use Rattle.kohiblad.specs.Status.{IsRefused}
 use Rattle.kohiblad.specs.declared.scalar.KohibladTruth.{KohibladTruth}
 
 -- Whether the first document contains the second, unless that takes more than so many steps, which
--- it does only if there are fewer than the product of the weights of both trees; bytes that are not
--- a document are refused.
+-- it does only if there are fewer than the product of the weights of both trees, or there is not
+-- enough memory; bytes that are not a document are refused.
 abbrev pub IsContainedAnswer : ℕ → Meaning → Meaning → KohibladTruth → Type 0
 IsContainedAnswer steps (document t) (document u) answer =
     (answer ≡ truth_of (contains_whole t u))
-    ⊎ ((answer ≡ no_truth too_many_steps) × (steps < weight t * weight u))
+    ⊎ (((answer ≡ no_truth too_many_steps) × (steps < weight t * weight u))
+    ⊎ (answer ≡ no_truth (code OutOfMemory)))
 IsContainedAnswer steps m n answer = answer ≡ no_truth (code InvalidJsonb)
 
 -- Whether the document has the key; bytes that are not a document are refused.

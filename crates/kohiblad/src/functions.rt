@@ -25,13 +25,17 @@ use std::alloc::Global;
 /// `steps` steps. There is one for each pair of values that are compared, and for each member that
 /// is passed in search of a key, up to the first whose key is not below it; and one for each byte
 /// of the keys of these members, and of two texts, or two binary or opaque values, that are
-/// compared and equally long: 4 for {"a":1} in {"a":1}. `steps` suffice that are at least the
-/// product of the weights of both, the numbers of their values and keys and of the bytes of texts,
-/// keys, and binary and opaque values. `InvalidJsonb` if `left` or `right` is not a document of at
-/// most this depth. If the status is not `OK`, the value is 0. A scalar has depth 0, an array or
-/// object one more than its deepest child, and at least 1. Deeper levels are not examined.
+/// compared and equally long: 4 for {"a":1} in {"a":1}. If more than 16 items are looked for in an
+/// array of more than 16, there is a step in place of these for each scalar of the array, which are
+/// sorted, and for each that is looked for, and one for each of its bytes. `steps` suffice that are
+/// at least the product of the weights of both, the numbers of their values and keys and of the
+/// bytes of texts, keys, and binary and opaque values. `InvalidJsonb` if `left` or `right` is not a
+/// document of at most this depth; `OutOfMemory` if an allocation fails, which only such a sort
+/// makes. If the status is not `OK`, the value is 0. A scalar has depth 0, an array or object one
+/// more than its deepest child, and at least 1. Deeper levels are not examined.
 #[unsafe(no_mangle)]
 pub extern "C" fn kohiblad_contains(
+    alloc: Global,
     left: &[u8],
     right: &[u8],
     depth: usize,
@@ -44,9 +48,10 @@ pub extern "C" fn kohiblad_contains(
     let right = SortKey::within(right, depth);
     match (left, right) {
         (SortKey::Document(left), SortKey::Document(right)) => {
-            match contains_within(left, right, steps) {
-                Some(is_contained) => truth_of(is_contained),
-                None => no_truth(TOO_MANY_STEPS),
+            match contains_within(alloc, left, right, steps) {
+                Ok(Some(is_contained)) => truth_of(is_contained),
+                Ok(None) => no_truth(TOO_MANY_STEPS),
+                Err(error) => no_truth(code(error)),
             }
         }
         _ => no_truth(code(Error::InvalidJsonb)),

@@ -2,17 +2,17 @@ use Rattle.std.proofs.Common.{arith, ap, sym, ◌∙◌, refl, rules, ◌+◌, �
 use Rattle.jsonb.specs.Document.{document_tree}
 use Rattle.jsonb.specs.EntryTrees.{rest_trees, rest_pairs}
 use Rattle.jsonb.specs.Node.{node_tree, pairs_of, object_of}
-use Rattle.jsonb_functions.specs.Contains.{contained}
-use Rattle.jsonb_functions.specs.Weight.{weight, pair_weights}
+use Rattle.jsonb_functions.specs.Contains.{contained, items_or_none}
+use Rattle.jsonb_functions.specs.Weight.{weight, weights, pair_weights}
 use Rattle.jsonb_functions.proofs.WalkLaws.{array_items, object_members, arrays_contained}
 use Rattle.jsonb_functions.proofs.WalkLaws.{members_within, first_item, some_first}
 use Rattle.jsonb_functions.proofs.WalkLaws.{some_later, some_none, all_none, no_item}
 use Rattle.jsonb_functions.proofs.WalkLaws.{scalars_equal}
 use Rattle.jsonb_functions.proofs.WalkLaws.{member_lacking, member_differs, members_none}
 use Rattle.jsonb_functions.proofs.KeyOrder.{document_ascends, first_member, ascend_on}
-use Rattle.jsonb_functions.proofs.StepLaws.{found_after, found_within, gave_up, one_of_both}
-use Rattle.jsonb_functions.proofs.StepLaws.{one_step, product_more}
-use Rattle.jsonb_functions.proofs.StepLaws.{product_parts}
+use Rattle.jsonb_functions.proofs.ScalarLaws.{items_here, scalar_fits}
+use Rattle.jsonb_functions.proofs.StepLaws.{found_after, found_within, gave_up, gave_up_before}
+use Rattle.jsonb_functions.proofs.StepLaws.{one_of_both, one_step, product_parts, too_few}
 use Rattle.jsonb_functions.proofs.StepLaws.{rows_on, rows_end, columns_on, columns_end}
 use Rattle.jsonb_functions.proofs.StepLaws.{members_on, members_end}
 use Rattle.jsonb_functions.proofs.WeightLaws.{array_weight, items_weights, items_within}
@@ -28,8 +28,9 @@ contains_documents-contains_items-requires t c =
 pub contains_documents-returns-in_err-take : goal.contains_documents-returns-in_err-take
 contains_documents-returns-in_err-take t c =
     let most = one_step (document_tree c.args.left) (document_tree c.args.right) in
-    gave_up _ _ (weight (document_tree c.args.left) * weight (document_tree c.args.right))
-    c.args.steps.now _ (search rules) (omega (arith, c.in_err-take.ensures, most))
+    too_few _ _ _ (weight (document_tree c.args.left) * weight (document_tree c.args.right))
+    c.args.steps.now _ (search rules) c.in_err-take.ensures.0
+    (omega (arith, c.in_err-take.ensures.1, most))
 
 pub contains_documents-returns-in-Some-Some : goal.contains_documents-returns-in-Some-Some
 contains_documents-returns-in-Some-Some t c =
@@ -38,7 +39,7 @@ contains_documents-returns-in-Some-Some t c =
     let right = array_items (document_tree c.args.right) (rest_trees c.in-Some-Some.wanted)
     c.in-Some-Some.ensures' in
     found_after _ _ _ 1 _ _ _ _ _ (sym (arrays_contained _ _ _ _ left right)) c.in_ok-take.ensures
-    (product_more _ _ _ _ (array_weight _ _ left) (ap weight right))
+    (product_parts _ _ _ _ (array_weight _ _ left) (ap weight right))
     c.contains_items.ensures
 
 pub contains_documents-returns-in_default-2 : goal.contains_documents-returns-in_default-2
@@ -51,10 +52,11 @@ contains_documents-returns-in_default-2 t c = (
   ),
 )
 
-pub contains_items-has_item-requires : goal.contains_items-has_item-requires
-contains_items-has_item-requires t c =
+pub contains_items-has_value-requires : goal.contains_items-has_value-requires
+contains_items-has_value-requires t c =
     let whole = array_items (document_tree c.args.array) (rest_trees c.in-Some-items.items)
-    c.in-Some-items.ensures in (
+    c.in-Some-items.ensures in
+    let here = items_here (document_tree c.args.array) (rest_trees c.in-Some-items.items) whole in (
       omega (
         arith,
         ap weight whole,
@@ -62,17 +64,34 @@ contains_items-has_item-requires t c =
             (rest_trees c.next_item.new.items) c.in-Some.ensures.steps,
         c.loop-item.invariant.less,
       ),
-      tt,
+      (
+        rw c.as_ref.ensures.value (rw here at c.loop-item.invariant.scalars),
+        rw c.as_ref.ensures.value (rw here at c.loop-item.invariant.many),
+      ),
     )
+
+pub contains_items-loop-item-init : goal.contains_items-loop-item-init
+contains_items-loop-item-init t c = record {
+  decides = refl;
+  spent = omega (arith, c.in_ok-scalars.ensures.cost);
+  less = omega arith;
+  scalars = c.in_ok-scalars.ensures.scalars;
+  many = c.in_ok-scalars.ensures.many;
+}
+
+pub contains_items-returns-in_err-scalars : goal.contains_items-returns-in_err-scalars
+contains_items-returns-in_err-scalars t c =
+    gave_up_before _ _ _ _ (weights (items_or_none (document_tree c.args.array))) _ _
+    (search rules) (omega arith) c.in_err-scalars.ensures.cost
 
 pub contains_items-returns-in_err-is_there : goal.contains_items-returns-in_err-is_there
 contains_items-returns-in_err-is_there t c =
     let whole = array_items (document_tree c.args.array) (rest_trees c.in-Some-items.items)
     c.in-Some-items.ensures in
-    gave_up _ _ _ _ _ (search rules)
-    (rows_end _ _ (weight (node_tree c.in-Some.item)) _ _ _ _ _ (items_within _ _ whole)
-    (items_weights _ _ _ c.in-Some.ensures.steps) c.loop-item.invariant.spent
-    c.in_err-is_there.ensures)
+    gave_up _ _ _ _ _ _ _ _ _ _ (search rules)
+    (λ short. rows_end _ _ (weight (node_tree c.in-Some.item)) _ _ _ _ _ _
+    (items_within _ _ whole) (items_weights _ _ _ c.in-Some.ensures.steps)
+    c.loop-item.invariant.spent short) c.in_err-is_there.ensures
 
 pub contains_items-returns-then-not-is_there : goal.contains_items-returns-then-not-is_there
 contains_items-returns-then-not-is_there t c =
@@ -82,7 +101,7 @@ contains_items-returns-then-not-is_there t c =
     (node_tree c.in-Some.item) (document_tree c.args.array) (rest_trees c.in-Some-items.items)
     c.in-Some.ensures.steps whole in
     let found = c.in_ok-is_there.ensures in
-    let on = rows_on _ _ (weight (node_tree c.in-Some.item)) _ _ _ _ _ _ (items_within _ _ whole)
+    let on = rows_on _ _ (weight (node_tree c.in-Some.item)) _ _ _ _ _ _ _ (items_within _ _ whole)
     (items_weights _ _ _ c.in-Some.ensures.steps) c.loop-item.invariant.spent found.1 in (
       rw (c.loop-item.invariant.decides, step, ← found.0, c.if-not-is_there.true) refl,
       omega (arith, on),
@@ -111,7 +130,7 @@ contains_items-loop-item-preserved t c =
     let found = c.in_ok-is_there.ensures in
     record {
       decides = rw (c.loop-item.invariant.decides, step, ← found.0, c.if-not-is_there.false) refl;
-      spent = rows_on _ _ (weight (node_tree c.in-Some.item)) _ _ _ _ _ _ (items_within _ _ whole)
+      spent = rows_on _ _ (weight (node_tree c.in-Some.item)) _ _ _ _ _ _ _ (items_within _ _ whole)
           (items_weights _ _ _ c.in-Some.ensures.steps) c.loop-item.invariant.spent found.1;
       less = omega (
         arith,
@@ -119,14 +138,21 @@ contains_items-loop-item-preserved t c =
             (rest_trees c.next_item.new.items) c.in-Some.ensures.steps,
         c.loop-item.invariant.less,
       );
+      scalars = c.loop-item.invariant.scalars;
+      many = c.loop-item.invariant.many;
     }
+
+pub has_value-returns-in-Some-default : goal.has_value-returns-in-Some-default
+has_value-returns-in-Some-default t c =
+    scalar_fits _ _ _ _ _ _ (rw c.in-Some-default.is-0 at c.requires.many)
+    (c.has.ensures _ (rw c.in-Some-default.is-0 at c.requires.scalars))
 
 pub has_item-returns-in_err-is_contained : goal.has_item-returns-in_err-is_contained
 has_item-returns-in_err-is_contained t c =
-    gave_up _ _ _ _ _ (search rules)
-    (columns_end (weight (node_tree c.args.wanted)) (weight (node_tree c.in-Some.item)) _ _ _ _ _
-    (items_weights _ _ _ c.in-Some.ensures.steps) c.loop-item.invariant.spent
-    c.in_err-is_contained.ensures)
+    gave_up _ _ _ _ _ _ _ _ _ _ (search rules)
+    (λ short. columns_end (weight (node_tree c.args.wanted)) (weight (node_tree c.in-Some.item))
+    _ _ _ _ _ (items_weights _ _ _ c.in-Some.ensures.steps) c.loop-item.invariant.spent short)
+    c.in_err-is_contained.ensures
 
 pub has_item-returns-then-is_contained : goal.has_item-returns-then-is_contained
 has_item-returns-then-is_contained t c =
@@ -196,10 +222,11 @@ contains_members-loop-name-init t c = record {
 
 pub contains_members-returns-in_err-found : goal.contains_members-returns-in_err-found
 contains_members-returns-in_err-found t c =
-    gave_up _ _ (pair_weights (pairs_of (rest_pairs c.args.members))
+    too_few _ _ _ (pair_weights (pairs_of (rest_pairs c.args.members))
     + pair_weights (pairs_of (rest_pairs c.args.members))
     * pair_weights (pairs_of (rest_pairs c.args.wanted))) c.args.steps.now _ (search rules)
-    (omega (arith, c.in_err-found.ensures.none, c.loop-name.invariant.spent))
+    c.in_err-found.ensures.err.0
+    (omega (arith, c.in_err-found.ensures.err.1, c.loop-name.invariant.spent))
 
 pub contains_members-returns-in_default-2 : goal.contains_members-returns-in_default-2
 contains_members-returns-in_default-2 t c = (
@@ -215,13 +242,13 @@ contains_members-returns-in_default-2 t c = (
 pub contains_members-returns-in_err-is_contained : goal.contains_members-returns-in_err-is_contained
 contains_members-returns-in_err-is_contained t c =
     let lighter = rw c.in-Some-2.is at c.in_ok-found.ensures.weight in
-    gave_up _ _ _ _ _ (search rules)
-    (members_end (pair_weights (pairs_of (rest_pairs c.args.members)))
+    gave_up _ _ _ _ _ _ _ _ _ _ (search rules)
+    (λ short. members_end (pair_weights (pairs_of (rest_pairs c.args.members)))
     (weight (node_tree c.in-Some-2.found)) (weight (node_tree c.in-Some.value)) _ _ _ _ _ _ _ _ _
     (members_weights _ _ _ _ c.in-Some.ensures.steps)
     (omega (arith, lighter, c.loop-name.invariant.fewer))
-    c.loop-name.invariant.spent (rw c.in-Some-2.is at c.in_ok-found.ensures.cost)
-    c.in_err-is_contained.ensures)
+    c.loop-name.invariant.spent (rw c.in-Some-2.is at c.in_ok-found.ensures.cost) short)
+    c.in_err-is_contained.ensures
 
 pub contains_members-returns-then-not-is_contained :
     goal.contains_members-returns-then-not-is_contained

@@ -1,5 +1,6 @@
 -- Each call goes to smaller values, and what is left of a walk decides as the whole does.
 use Rattle.std.proofs.Common.{◌≡◌, ◌+◌, ◌*◌, ◌≤◌, length}
+use Rattle.std.specs.Prelude.{IfSome}
 use Rattle.jsonb_value.specs.Value.{trees_of}
 use Rattle.jsonb.specs.Document.{document_tree}
 use Rattle.jsonb.specs.EntryTrees.{rest_trees, rest_pairs}
@@ -7,6 +8,7 @@ use Rattle.jsonb_value.specs.Tree.{Ascend}
 use Rattle.jsonb.specs.Node.{node_tree, pairs_of, object_of}
 use Rattle.jsonb_functions.specs.Contains.{contained, items_contained, some_tree, members_contained}
 use Rattle.jsonb_functions.specs.Contains.{items_or_none}
+use Rattle.jsonb_functions.specs.Scalars.{AreScalarsOf}
 use Rattle.jsonb_functions.specs.Weight.{weight, weights, pair_weights}
 use Rattle.jsonb_functions.proofs.containment.+contains.Given as goal
 
@@ -20,6 +22,10 @@ decreases-contains_documents l =
 abbrev pub decreases-contains_items : goal.decreases-contains_items
 decreases-contains_items l =
     4 * (weight (document_tree l.array) + weights (trees_of (rest_trees l.wanted))) + 3
+
+abbrev pub decreases-has_value : goal.decreases-has_value
+decreases-has_value l =
+    4 * (weights (trees_of (rest_trees l.items)) + weight (node_tree l.wanted)) + 4
 
 abbrev pub decreases-has_item : goal.decreases-has_item
 decreases-has_item l =
@@ -39,9 +45,12 @@ invariant-contains_items-loop-item l = record {
       + weights (items_or_none (document_tree l.fn.array))
       * weights (trees_of (rest_trees l.wanted))
       ≤ l.steps
+      + (weights (items_or_none (document_tree l.fn.array))
       + weights (items_or_none (document_tree l.fn.array))
-      * weights (trees_of (rest_trees l.fn.wanted));
+      * weights (trees_of (rest_trees l.fn.wanted)));
   less : weights (trees_of (rest_trees l.wanted)) ≤ weights (trees_of (rest_trees l.fn.wanted));
+  scalars : IfSome l.scalars (AreScalarsOf (items_or_none (document_tree l.fn.array)));
+  many : IfSome l.scalars (λ list. 1 ≤ weights (items_or_none (document_tree l.fn.array)));
 }
 
 abbrev pub decreases-contains_items-loop-item : goal.decreases-contains_items-loop-item
