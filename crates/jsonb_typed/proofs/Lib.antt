@@ -1,4 +1,5 @@
 pub mod DocumentLaws
+pub mod LeastLaws
 pub mod NumberLaws
 pub mod RowLaws
 pub mod TypeLaws

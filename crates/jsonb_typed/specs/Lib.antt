@@ -1,4 +1,5 @@
 pub mod Cells
+pub mod LeastTypes
 pub mod Numbers
 pub mod Types
 pub mod Words

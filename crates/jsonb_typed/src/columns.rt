@@ -1,8 +1,10 @@
 //! The members of rows as a column of one type.
 
 ghost use Rattle.std.specs.Prelude.{◌≡◌, ◌∷◌, ◌++◌, [], OnOk, OnErr, IfOk, IfErr, option_map};
+ghost use Rattle.std.specs.Prelude.{◌↔◌, IsTrue};
 ghost use Rattle.std.specs.List.{AllZip};
-ghost use Rattle.jsonb_typed.specs.Words.{Cell, IsCellAt, IsCellOf, node_tree};
+ghost use Rattle.jsonb_typed.specs.Words.{Cell, IsCellAt, IsCellOf, IsCellOfRow, IsDocument};
+ghost use Rattle.jsonb_typed.specs.Words.{node_tree, rest_cell};
 
 use crate::column_type::ColumnType;
 use crate::keeping::{document_of, opened};
@@ -58,6 +60,49 @@ pub fn push_member<T: ColumnType>(
             let document = document_of(alloc, member)?;
             column.push_other(document.as_bytes())?;
         }
+    }
+    Ok(())
+}
+
+/// Appends the member of one more row of any bytes at the end of a path, and returns whether the
+/// bytes are a document. Bytes that are not are kept as they are; no bytes are a row without the
+/// member, as a null row of Arrow is. `OutOfMemory` is the only error; the column is then as before.
+#[tactic(auto, using(crate::proofs::RowLaws::cell_of_bytes))]
+pub fn push_row<T: ColumnType>(
+    alloc: Global,
+    column: &mut Typed<T::Value>,
+    row: &[u8],
+    path: &[Step<'_>],
+    column_type: &T,
+) -> Result<bool, Error>
+    ensures pushed { OnOk result ((c : Cell T.Value) × ((column.new ≡ column.old ++ c ∷ [])
+        × IsCellOfRow (T.stands column_type.now) path.now row.now c)) }
+    ensures document { IfOk result (λ is_document. IsTrue is_document ↔ IsDocument row.now) }
+    ensures kept { OnErr result (column.new ≡ column.old) }
+    ensures memory { IfErr result (λ e. e ≡ Error.OutOfMemory) }
+{
+    match Document::new(row) {
+        Some(document) => {
+            push_member(alloc, column, member_of(document, path), column_type)?;
+            Ok(true)
+        }
+        None => {
+            push_bytes(column, row)?;
+            Ok(false)
+        }
+    }
+}
+
+// Appends a row of bytes that are not a document.
+fn push_bytes<V: Copy>(column: &mut Typed<V>, row: &[u8]) -> Result<(), Error>
+    ensures pushed { OnOk result (column.new ≡ column.old ++ rest_cell row.now ∷ []) }
+    ensures kept { OnErr result (column.new ≡ column.old) }
+    ensures memory { IfErr result (λ e. e ≡ Error.OutOfMemory) }
+{
+    if row.is_empty() {
+        column.push_absent()?;
+    } else {
+        column.push_other(row)?;
     }
     Ok(())
 }

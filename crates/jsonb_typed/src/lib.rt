@@ -5,13 +5,15 @@
 mod column_type;
 mod columns;
 mod keeping;
+mod lattice;
 mod member;
 mod numbers;
 mod texts;
 mod types;
 
 pub use column_type::ColumnType;
-pub use columns::{extract, push_member};
+pub use columns::{extract, push_member, push_row};
+pub use lattice::{LeastType, holds_all, least_type};
 pub use numbers::{Fit, value_at_scale};
 pub use texts::{extract_texts, push_text};
 pub use types::{Boolean, Dates, Decimal, Int64, Intervals, Timestamps, UInt64, ZonedTimestamps};

@@ -91,8 +91,8 @@ fn coefficient(number: Number) -> i128
     }
 }
 
-// How many digits the number has after its point.
-fn scale_of(number: Number) -> u8
+/// How many digits the number has after its point.
+pub fn scale_of(number: Number) -> u8
     ensures { result ≡ (fraction_of number).scale }
 {
     match number {
