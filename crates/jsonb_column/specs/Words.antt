@@ -10,7 +10,7 @@ pub use Rattle.jsonb_codec.specs.Depth.{IsDocumentWithin}
 pub use Rattle.jsonb_codec.specs.Doc.{Doc, IsDocument}
 pub use Rattle.jsonb.specs.Document.{document_bytes, document_tree}
 pub use Rattle.jsonb.specs.Node.{node_tree}
-pub use Rattle.jsonb.specs.Parsing.{ParsesTo}
+pub use Rattle.jsonb.specs.Parsing.{ParsesTo, ParsesWithExponentsTo}
 pub use Rattle.jsonb_column.specs.Keys.{block_keys}
 pub use Rattle.jsonb_column.specs.Limits.{AreLimits, IsLimit, limit_key, start_bytes}
 pub use Rattle.jsonb_column.specs.Range.{has_member_within, is_from, is_to, limit_tree}

@@ -3,7 +3,8 @@
 ghost use Rattle.std.specs.Prelude.{◌≡◌, ◌+◌, ◌<◌, ◌≤◌, ◌∷◌, ◌++◌, ◌⊎◌, [], ℕ, List, All, Err, map};
 ghost use Rattle.std.specs.Prelude.{IfOk, IfErr, IsErrAnd, OnOk, OnErr, filter, length};
 ghost use Rattle.std.specs.Prelude.{option_map, slice_get, slice_index_or};
-ghost use Rattle.jsonb_column.specs.Words.{ParsesTo, IsDocument, document_bytes, document_tree};
+ghost use Rattle.jsonb_column.specs.Words.{ParsesTo, ParsesWithExponentsTo, IsDocument};
+ghost use Rattle.jsonb_column.specs.Words.{document_bytes, document_tree};
 ghost use Rattle.jsonb_column.specs.Words.{concat, YieldsFirstBy, item_count, IsCut, has_member};
 ghost use Rattle.jsonb_column.specs.Words.{most_reads, AreStoredRows, HasFaultyRow, IsRow, storage};
 ghost use Rattle.jsonb_column.specs.Words.{row_in, rows_in, IsWithin, AreRows, FillBytes};
@@ -95,6 +96,19 @@ impl Column {
         ensures refused { IfErr result (λ e. ParsesTo text.now (Err e)) }
     {
         let document = OwnedJsonb::parse(alloc, text)?;
+        self.append(document.as_bytes())
+    }
+
+    /// Appends the document of a JSON text like `push_json`, but takes numbers with an exponent
+    /// too, as `OwnedJsonb::parse_with_exponents` reads them: `1e3` is the integer 1000. The errors
+    /// are those of that call; after an error the rows are unchanged.
+    pub fn push_json_with_exponents(&mut self, alloc: Global, text: &str) -> Result<(), Error>
+        ensures pushed { OnOk result ((row : List ℕ)
+            × (ParsesWithExponentsTo text.now (Ok row) × (self.new ≡ self.old ++ row ∷ []))) }
+        ensures kept { OnErr result (self.new ≡ self.old) }
+        ensures refused { IfErr result (λ e. ParsesWithExponentsTo text.now (Err e)) }
+    {
+        let document = OwnedJsonb::parse_with_exponents(alloc, text)?;
         self.append(document.as_bytes())
     }
 

@@ -7,10 +7,11 @@ use Rattle.std.specs.Ordering.{is_lt, is_gt}
 use Rattle.jsonb_value.specs.declared.error.Error.{Error}
 use Rattle.jsonb_value.specs.declared.error.Error.TheVariants.{InvalidEOF, InvalidJson}
 use Rattle.jsonb_value.specs.declared.error.Error.TheVariants.{InvalidJsonb, OutOfMemory}
+use Rattle.jsonb_value.specs.declared.parser.number.Exponents.TheVariants.{Allowed}
 use Rattle.jsonb_value.specs.Tree as trees
 use Rattle.jsonb_value.specs.Tree.{Tree}
 use Rattle.jsonb_value.specs.TreeOrder.{tree_cmp}
-use Rattle.jsonb_value.proofs.Json.SpelledLaws.{one_meaning}
+use Rattle.jsonb_value.proofs.Json.SpelledLaws.{one_meaning, same_meaning}
 use Rattle.jsonb_value.proofs.TreeLaws.{tree_cmp_total}
 use Rattle.jsonb_codec.specs.Canon.{canon, Fits}
 use Rattle.jsonb.specs.declared.document.Document.{Document}
@@ -37,14 +38,14 @@ use Rattle.jsonb_column_cli.proofs.OneOrder.{one_order}
 
 one_given : (text a b : List ℕ) → IsGiven text a → IsGiven text b → a ≡ b
 one_given text a b (low, (t, (means, (fits, is)))) (within, (u, (also, (fit, then)))) =
-    is ∙ ap canon (one_meaning (chars text) t u means also) ∙ sym then
+    is ∙ ap canon (same_meaning Allowed (chars text) t u means also) ∙ sym then
 
 not_refused : (text bytes : List ℕ) (r : Refusal) → IsGiven text bytes → RefusesText text r → ⊥
 not_refused text bytes TooDeep (low, given) deep = omega arith
 not_refused text bytes (Call InvalidJson) (low, (t, (means, (fits, is)))) none = none.1 t means
 not_refused text bytes (Call InvalidJsonb) (low, (t, (means, (fits, is))))
     (also, (u, (same, past))) =
-    past (subst Fits (one_meaning (chars text) t u means same) fits)
+    past (subst Fits (same_meaning Allowed (chars text) t u means same) fits)
 not_refused text bytes r given refuses = absurd refuses
 
 one_error : (text : List ℕ) (r s : Refusal) → RefusesText text r → RefusesText text s → r ≡ s

@@ -18,7 +18,7 @@ use Rattle.jsonb_value.specs.Text.{compact}
 use Rattle.jsonb_value.specs.Tree as trees
 use Rattle.jsonb.specs.declared.document.Document.{Document}
 use Rattle.jsonb.specs.Document.{document_bytes, tree_in}
-use Rattle.jsonb.specs.Parsing.{ParsesTo, ParsesWithin}
+use Rattle.jsonb.specs.Parsing.{ParsesWithExponentsTo, ParsesWithExponentsWithin}
 use Rattle.answer_lines.specs.Session.{IsReply}
 use Rattle.jsonb_column_cli.specs.declared.answer.Refusal.{Refusal}
 use Rattle.jsonb_column_cli.specs.declared.answer.Refusal.TheVariants.{Call}
@@ -65,7 +65,8 @@ call_errors P e (inr (inl is)) first second memory = subst P (sym is) (second is
 call_errors P e (inr (inr is)) first second memory = subst P (sym is) memory
 
 -- what the library's reader refused
-pub text_refused : (text : List ℕ) (e : ParseError) → ParsesWithin MAX_TEXT_DEPTH text (Err e)
+pub text_refused : (text : List ℕ) (e : ParseError)
+    → ParsesWithExponentsWithin MAX_TEXT_DEPTH text (Err e)
     → IsRowsRefusal [] (add text) (refusal_of e)
 text_refused text deep.TooDeep past = past
 text_refused text (deep.Refused InvalidJson) none = none
@@ -75,7 +76,8 @@ text_refused text (deep.Refused e) never = absurd never.1
 
 -- what a row of its document was refused for
 pub row_refused : (rows next : Rows) (text : List ℕ) (e : Error) → IsShallow text
-    → ParsesTo text (Err e) → next ≡ rows → IsOutcome rows (add text) (Err (Call e)) next
+    → ParsesWithExponentsTo text (Err e) → next ≡ rows
+    → IsOutcome rows (add text) (Err (Call e)) next
 row_refused rows next text InvalidJson low none kept = ((low, none), kept)
 row_refused rows next text InvalidJsonb low past kept = ((low, past), kept)
 row_refused rows next text OutOfMemory low any kept = (tt, kept)

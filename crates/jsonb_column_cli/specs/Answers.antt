@@ -25,7 +25,7 @@ use Rattle.jsonb_value.specs.declared.within.ParseError.TheVariants as deep
 use Rattle.jsonb_value.specs.TreeOrder.{tree_cmp}
 use Rattle.jsonb.specs.declared.document.Document.{Document}
 use Rattle.jsonb.specs.Document.{document_bytes, document_tree, tree_in}
-use Rattle.jsonb.specs.Parsing.{ParsesTo}
+use Rattle.jsonb.specs.Parsing.{ParsesWithExponentsTo}
 use Rattle.jsonb_column.specs.Select.{has_member}
 use Rattle.jsonb_column.specs.SortOrder.{is_row_between}
 use Rattle.jsonb_column.specs.Storage.{AreStoredRows, HasFaultyRow, IsCut, storage}
@@ -53,15 +53,17 @@ rows_line rows = codes "ok" ++ spoken rows
 abbrev pub IsShallow : List ℕ → Type 0
 IsShallow text = text_depth text ≤ MAX_TEXT_DEPTH
 
--- The text means a tree, and the bytes are its canonical document.
+-- The text, with or without exponents, means a tree, and the bytes are its canonical document.
 abbrev pub IsGiven : List ℕ → List ℕ → Type 0
-IsGiven text bytes = IsShallow text × ParsesTo text (Ok bytes)
+IsGiven text bytes = IsShallow text × ParsesWithExponentsTo text (Ok bytes)
 
 -- Why a text gives no document, where memory is not refused.
 abbrev pub RefusesText : List ℕ → Refusal → Type 0
 RefusesText text TooDeep = MAX_TEXT_DEPTH < text_depth text
-RefusesText text (Call InvalidJson) = IsShallow text × ParsesTo text (Err InvalidJson)
-RefusesText text (Call InvalidJsonb) = IsShallow text × ParsesTo text (Err InvalidJsonb)
+RefusesText text (Call InvalidJson) =
+    IsShallow text × ParsesWithExponentsTo text (Err InvalidJson)
+RefusesText text (Call InvalidJsonb) =
+    IsShallow text × ParsesWithExponentsTo text (Err InvalidJsonb)
 RefusesText text refusal = ⊥
 
 -- The refusal of a text by the library's reader.

@@ -109,16 +109,16 @@ fn answer_rows(alloc: Global, rows: &[Document<'_>]) -> Result<String, Refusal>
     Ok(line)
 }
 
-// Parses a JSON text into the canonical document of its value.
+// Parses a JSON text, with or without exponents, into the canonical document of its value.
 fn parse_document(alloc: Global, text: &str) -> Result<OwnedJsonb, Refusal>
     ensures meaning { IfOk result (λ document. IsGiven text.now (owned_bytes document)) }
     ensures document { IfOk result (λ document. IsDocument (owned_bytes document)) }
     ensures refused { IfErr result (λ refusal. IsRowsRefusal [] (add text.now) refusal) }
 {
-    Ok(OwnedJsonb::parse_within(alloc, text, MAX_TEXT_DEPTH)?)
+    Ok(OwnedJsonb::parse_with_exponents_within(alloc, text, MAX_TEXT_DEPTH)?)
 }
 
-/// Adds a row with the value of a JSON text.
+/// Adds a row with the value of a JSON text, whose numbers may have exponents.
 pub fn answer_add(alloc: Global, column: &mut Column, text: &str) -> Result<String, Refusal>
     ensures { IsOutcome column.old (add text.now) (reply_of result) column.new }
 {
@@ -127,7 +127,7 @@ pub fn answer_add(alloc: Global, column: &mut Column, text: &str) -> Result<Stri
     if !is_text_within(text.as_bytes(), MAX_TEXT_DEPTH) {
         return Err(Refusal::TooDeep);
     }
-    column.push_json(alloc, text)?;
+    column.push_json_with_exponents(alloc, text)?;
     Ok(reply)
 }
 
