@@ -134,8 +134,10 @@ fn has_text(mut items: Items<'_>, wanted: &str) -> bool
     false
 }
 
-// Whether a value contains another.
+// Whether a value contains another. A level of the walk is one frame on the stack, that of
+// `contains_items` or of `contains_members`; what goes no deeper stands in functions of its own.
 #[cycle(contains)]
+#[inline(always)]
 fn contains_node(
     alloc: Global,
     left: Node<'_>,
@@ -154,6 +156,7 @@ fn contains_node(
 }
 
 // Whether two values are equal.
+#[inline(never)]
 fn are_equal(left: Node<'_>, right: Node<'_>, steps: &mut u128) -> Result<bool, Unanswered>
     ensures { FoundIn result (are_equal (node_tree left.entry) (node_tree right.entry))
         (weight (node_tree left.entry)) steps.old steps.new }
@@ -195,6 +198,7 @@ fn common_len(left: &[u8], right: &[u8]) -> Option<usize>
 }
 
 #[cycle(contains)]
+#[inline(always)]
 fn contains_documents(
     alloc: Global,
     left: Document<'_>,
@@ -217,6 +221,7 @@ fn contains_documents(
 
 // Whether for each wanted item some item of the array contains it.
 #[cycle(contains)]
+#[inline(never)]
 fn contains_items(
     alloc: Global,
     array: Document<'_>,
@@ -245,6 +250,7 @@ fn contains_items(
 }
 
 // The scalars among the array's items in order, if it has many and is searched for many.
+#[inline(never)]
 fn scalars_if_many<'a>(
     alloc: Global,
     array: Document<'a>,
@@ -270,6 +276,7 @@ fn scalars_if_many<'a>(
 // Whether some item contains the wanted value; a scalar is looked for among the scalars in order,
 // if they are there.
 #[cycle(contains)]
+#[inline(always)]
 fn has_value<'a>(
     alloc: Global,
     items: Items<'a>,
@@ -294,6 +301,7 @@ fn has_value<'a>(
 
 // Whether some item contains the wanted value.
 #[cycle(contains)]
+#[inline(always)]
 fn has_item(
     alloc: Global,
     mut items: Items<'_>,
@@ -317,6 +325,7 @@ fn has_item(
 // Whether each wanted key is there, with a value that contains the wanted one. Both are in the
 // order of their keys, and each is walked once.
 #[cycle(contains)]
+#[inline(never)]
 fn contains_members(
     alloc: Global,
     mut members: Members<'_>,
