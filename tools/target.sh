@@ -1,6 +1,6 @@
 # shellcheck shell=bash
-# Sourced: what is built for another processor than this machine's takes Debian's cross compiler, and
-# runs under qemu. The targets are those of the kit for Linux.
+# Sourced: what is built for another processor than this machine's takes Debian's cross compiler,
+# and runs under qemu. The targets are those of the kit for Linux.
 
 TARGETS=(x86_64-unknown-linux-gnu aarch64-unknown-linux-gnu)
 NATIVE=$(uname -m)-unknown-linux-gnu
