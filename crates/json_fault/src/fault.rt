@@ -65,7 +65,7 @@ fn reason_at(expected: Expected, next: Option<char>) -> FaultReason
     }
 }
 
-// Where the scan of a text stops: behind its longest beginning that begins a JSON text.
+// Where the scan of a text stops: after its longest beginning that begins a JSON text.
 #[derive(Clone, Copy)]
 struct Stop {
     // The length of that beginning.

@@ -21,7 +21,7 @@ use jsonb::{Document, Error, Items, Members, Node};
 use std::alloc::Global;
 use std::cmp::Ordering;
 
-// Up to so many items are sooner looked for one by one than among sorted ones.
+// Up to this many items a search one by one is faster than a sort.
 const FEW: usize = 16;
 
 /// Whether the left document contains the right one. An object contains another if it has each of

@@ -22,7 +22,7 @@ pub struct Scalars<'a> {
 
 impl<'a> Scalars<'a> {
     /// The scalars among these items. Takes a step for each, and one for each of its bytes.
-    // The stack of a search has none of its own for each level.
+    // Not inlined, so that a level of the walk over containers needs no stack for it.
     #[inline(never)]
     pub fn of_items(alloc: Global, items: Items<'a>, steps: &mut u128) -> Result<Self, Unanswered>
         ensures scalars { IfOk result (AreScalarsOf (trees_of (rest_trees items.entry))) }

@@ -66,7 +66,8 @@ pub fn push_member<T: ColumnType>(
 
 /// Appends the member of one more row of any bytes at the end of a path, and returns whether the
 /// bytes are a document. Bytes that are not are kept as they are; no bytes are a row without the
-/// member, as a null row of Arrow is. `OutOfMemory` is the only error; the column is then as before.
+/// member, as a null row of Arrow is. `OutOfMemory` is the only error, after which the column is as
+/// before.
 #[tactic(auto, using(crate::proofs::RowLaws::cell_of_bytes))]
 pub fn push_row<T: ColumnType>(
     alloc: Global,
