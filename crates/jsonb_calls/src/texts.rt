@@ -3,7 +3,6 @@ use jsonb::{
     Error, Exponents, Number, OwnedJsonb, ParseError, Sink, Value, encode_text, is_json,
     parse_value_with_exponents_within, read_text,
 };
-use std::borrow::CowStr;
 use std::test::Fail;
 
 // A text, and its document.
@@ -60,13 +59,23 @@ impl<'a> Sink<'a> for Calls {
         Ok(())
     }
 
-    fn string(&mut self, _content: CowStr<'a>) -> Result<(), Error> {
+    fn string(&mut self, _content: &'a str) -> Result<(), Error> {
         self.0 |= 8;
         Ok(())
     }
 
-    fn key(&mut self, _content: CowStr<'a>) -> Result<(), Error> {
+    fn spelled(&mut self, _content: &str) -> Result<(), Error> {
+        self.0 |= 512;
+        Ok(())
+    }
+
+    fn key(&mut self, _content: &'a str) -> Result<(), Error> {
         self.0 |= 16;
+        Ok(())
+    }
+
+    fn spelled_key(&mut self, _content: &str) -> Result<(), Error> {
+        self.0 |= 1024;
         Ok(())
     }
 
@@ -98,5 +107,12 @@ fn a_sink_is_called_for_each_part(rt: HostRuntime) -> Result<(), Fail> {
     assert!(rt; calls.0 == 511 - 8);
     read_text(rt.alloc(), &mut calls, "\"a\"", Exponents::Forbidden)?;
     assert!(rt; calls.0 == 511);
+    read_text(
+        rt.alloc(),
+        &mut calls,
+        "{\"\\n\":\"\\t\"}",
+        Exponents::Forbidden,
+    )?;
+    assert!(rt; calls.0 == 2047);
     Ok(())
 }

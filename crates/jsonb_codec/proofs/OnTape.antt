@@ -1,7 +1,12 @@
-pub mod Pieces
-pub mod Growth
 pub mod KeyOrder
-pub mod Members
-pub mod Inserting
-pub mod Closing
+pub mod Items
+pub mod Joined
+pub mod Open
 pub mod Writing
+pub mod Closing
+pub mod Ordering
+pub mod Steps
+pub mod Adding
+pub mod Keys
+pub mod Prefixes
+pub mod Inserting

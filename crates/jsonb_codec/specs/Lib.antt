@@ -25,4 +25,5 @@ pub mod Encoder
 pub mod Made
 pub mod Ascii
 pub mod Words
+pub mod Keys
 pub mod Tape

@@ -1,61 +1,61 @@
 //! The document of a JSON text, without a value in between.
 //!
-//! The reader calls the tape as its sink. The tape stores the payload of each scalar, and where a
-//! container closes, its header, entry words and keys, since all counts and lengths are known then.
-//! The payload of a container is a list of pieces of what is stored. Where the text ends they are
-//! copied to the document. No step takes stack for the depth of the text.
+//! The reader calls the tape as its sink. The tape stores the payloads of scalars one after
+//! another, in the order of the text, and the place of each container. Where a container closes,
+//! its head is made, since all counts and lengths are known then: its header, entry words and keys.
+//! The document is the payloads, with each head put in at its place, and is written front to back
+//! where the text ends. Only an object whose keys do not ascend keeps the parts of its members, in
+//! the order of the keys. No step takes stack for the depth of the text.
 
-ghost use Rattle.std.specs.Prelude.{◌≡◌, ◌⊎◌, ◌≤◌, List, [], ◌∷◌, Err, chars, IfErr, IfOk, OnOk};
+ghost use Rattle.std.specs.Prelude.{◌≡◌, ◌⊎◌, ◌≤◌, ◌<◌, ◌+◌, ◌++◌, List, [], ◌∷◌, ℕ, true, false};
+ghost use Rattle.std.specs.Prelude.{None, Err, chars, drop, length, take, IfErr, IfOk, IfNone};
+ghost use Rattle.std.specs.Prelude.{IfSome, OnOk, ◌^◌};
 ghost use Rattle.jsonb_value.specs.declared.error.Error.TheVariants.{OutOfMemory, InvalidJson};
 ghost use Rattle.jsonb_value.specs.declared.error.Error.TheVariants.{InvalidJsonb};
-ghost use Rattle.jsonb_value.specs.Json.Syntax.{JsonText};
-ghost use Rattle.jsonb_value.specs.Tree.{Tree};
+ghost use Rattle.jsonb_value.specs.Json.Syntax.{Entries, JsonText, pairs};
+ghost use Rattle.jsonb_value.specs.Tree.{Tree, object};
 ghost use Rattle.jsonb_value.specs.WellFormed.{IsTree};
-ghost use Rattle.jsonb_value.specs.Reader.Resume.{Content, going, Adds};
+ghost use Rattle.jsonb_value.specs.Reader.Resume.{Content, going, items, members, at_key, put};
+ghost use Rattle.jsonb_value.specs.Reader.Resume.{Adds};
+ghost use Rattle.jsonb_codec.specs.Shape.{AllFit, payloads};
 ghost use Rattle.jsonb_codec.specs.Canon.{canon, Fits};
-ghost use Rattle.jsonb_codec.specs.Tape.{TapeArrayIs, ContainerIs, Grows, IsMade, IsScalar};
-ghost use Rattle.jsonb_codec.specs.Tape.{tape_is};
-ghost use Rattle.jsonb_codec.specs.declared.tape.storage.Storage.{Storage};
+ghost use Rattle.jsonb_codec.specs.Keys.{IsKey};
+ghost use Rattle.jsonb_codec.specs.Tape.{AreOpen, Grows, IsAround, IsEndedIfFit, IsMade, IsScalar};
+ghost use Rattle.jsonb_codec.specs.Tape.{Joined, KeyIs, LastBelow, MembersAre, tape_is};
+ghost use Rattle.jsonb_codec.specs.Tape.{shapes_of, values_of};
+ghost use Rattle.jsonb_codec.specs.declared.tape.place.Kind.TheVariants as kinds;
 
 mod entry;
-mod open_array;
-mod open_object;
-mod pieces;
+mod key;
+mod member;
+mod place;
 mod storage;
 mod write;
 
-use crate::constants::{FALSE_TAG, NULL_TAG, STRING_TAG, TRUE_TAG};
+use crate::constants::{CONTAINER_TAG, FALSE_TAG, NULL_TAG, NUMBER_TAG, STRING_TAG, TRUE_TAG};
+use crate::word::word_bytes;
 use entry::Entry;
 use jsonb_value::{Error, Exponents, Number, Sink, read_text};
-use open_array::OpenArray;
-use open_object::{Member, OpenObject};
+use key::{Key, bytes_of, compare_keys, prefix_of};
+use member::{Member, append_in_order, order_of};
+use place::{Frame, Head, Kind, Part, Place};
 use std::alloc::Global;
-use std::borrow::CowStr;
-use std::mem::replace;
+use std::cmp::Ordering;
 use storage::Storage;
 use write::write_document;
 
-// How many closed containers of each kind are kept for their memory.
-const SPARE: usize = 8;
-
-/// A container that is being read, or the place of the whole value.
-#[derive(Drop)]
-pub enum Container<'a> {
-    Whole(Option<Entry>),
-    Array(OpenArray),
-    Object(OpenObject<'a>),
-}
-
-/// What was read of a text.
+/// What was read of a text: what is stored; the places of containers; the entry words of items and
+/// the members of open containers, those of the innermost last; its frame; and the whole value once
+/// it is read, `None` if something inside it does not fit.
 #[derive(Drop)]
 pub struct Tape<'a> {
     alloc: Global,
     storage: Storage,
-    innermost: Container<'a>,
-    outer: Vec<Container<'a>>,
-    // Those of containers that are closed, for their memory.
-    spare_arrays: Vec<OpenArray>,
-    spare_members: Vec<Vec<Member<'a>>>,
+    places: Vec<Place>,
+    words: Vec<u8>,
+    members: Vec<Member<'a>>,
+    inner: Frame,
+    whole: Option<Entry>,
 }
 
 impl<'a> Tape<'a> {
@@ -66,26 +66,89 @@ impl<'a> Tape<'a> {
         Tape {
             alloc,
             storage: Storage::new(alloc),
-            innermost: Container::Whole(None),
-            outer: Vec::new(alloc),
-            spare_arrays: Vec::new(alloc),
-            spare_members: Vec::new(alloc),
+            places: Vec::new(alloc),
+            words: Vec::new(alloc),
+            members: Vec::new(alloc),
+            inner: Frame {
+                kind: Kind::Whole,
+                place: 0,
+                start: 0,
+                words: 0,
+                members: 0,
+                ascends: true,
+                fits: true,
+            },
+            whole: None,
         }
     }
 
-    // Adds a value to the innermost container.
+    // Adds a value to the innermost container. `None` is one in which something does not fit.
     #[inline(always)]
     fn add(&mut self, entry: Option<Entry>) -> Result<(), Error>
-        ensures ok { OnOk result ((t : Tree) → IsMade self.old.storage entry t
-            → Adds tape_is self.old self.new t) }
+        ensures ok { OnOk result ((ps qs : List Place) (a : ℕ) (cs : List Content) (t : Tree)
+            → self.old.places.items ≡ ps ++ qs → AreOpen self.old.storage self.old.inner ps
+            self.old.words.items self.old.members.items a cs
+            → a ≤ length self.old.storage.payload.items
+            → IsMade self.old.storage entry a qs (length self.old.storage.payload.items) t
+            → tape_is self.new (put t cs)) }
         ensures memory { IfErr result (λ e. e ≡ OutOfMemory) }
     {
-        match &mut self.innermost {
-            Container::Whole(whole) => *whole = entry,
-            Container::Array(array) => array.push(entry)?,
-            Container::Object(object) => object.push(entry)?,
+        match self.inner.kind {
+            Kind::Whole => self.whole = entry,
+            Kind::Array => self.add_item(entry)?,
+            Kind::Object => self.set_value(entry),
         }
         Ok(())
+    }
+
+    // Adds an item to the innermost container, an array.
+    #[inline(always)]
+    fn add_item(&mut self, entry: Option<Entry>) -> Result<(), Error>
+        requires { self.old.inner.kind ≡ kinds.Array }
+        ensures ok { OnOk result ((ps qs : List Place) (a : ℕ) (cs : List Content) (t : Tree)
+            → self.old.places.items ≡ ps ++ qs → AreOpen self.old.storage self.old.inner ps
+            self.old.words.items self.old.members.items a cs
+            → a ≤ length self.old.storage.payload.items
+            → IsMade self.old.storage entry a qs (length self.old.storage.payload.items) t
+            → tape_is self.new (put t cs)) }
+        ensures memory { IfErr result (λ e. e ≡ OutOfMemory) }
+    {
+        let Some(word) = word_of(entry) else {
+            self.inner.fits = false;
+            return Ok(());
+        };
+        self.words.extend_from_slice(&word_bytes(word))?;
+        Ok(())
+    }
+
+    // Sets the value of the last member of the innermost container, an object.
+    #[inline(always)]
+    fn set_value(&mut self, entry: Option<Entry>)
+        requires { self.old.inner.kind ≡ kinds.Object }
+        ensures { (ps qs : List Place) (a : ℕ) (cs : List Content) (t : Tree)
+            → self.old.places.items ≡ ps ++ qs → AreOpen self.old.storage self.old.inner ps
+            self.old.words.items self.old.members.items a cs
+            → a ≤ length self.old.storage.payload.items
+            → IsMade self.old.storage entry a qs (length self.old.storage.payload.items) t
+            → tape_is self.new (put t cs) }
+    {
+        let word = word_of(entry);
+        self.inner.fits = fits_with(self.inner.fits, word);
+        let count = self.members.len();
+        if count > 0 {
+            let member = self.members[count - 1];
+            let part = Part {
+                end: self.storage.payload.len(),
+                last: self.places.len(),
+                size: size_of(entry),
+                ..member.part
+            };
+            self.members[count - 1] = Member {
+                word,
+                part,
+                ..member
+            };
+        }
     }
 
     // Adds a scalar of this type and payload.
@@ -96,101 +159,252 @@ impl<'a> Tape<'a> {
             → Adds tape_is self.old self.new t) }
         ensures memory { IfErr result (λ e. e ≡ OutOfMemory) }
     {
-        let entry = self.storage.scalar(type_code, payload)?;
-        self.add(Some(entry))
-    }
-
-    // An array without items, with the memory of one that is closed.
-    fn empty_array(&mut self) -> OpenArray
-        ensures empty { (storage : Storage) → TapeArrayIs storage result [] }
-        ensures storage { self.new.storage ≡ self.old.storage }
-        ensures innermost { self.new.innermost ≡ self.old.innermost }
-        ensures outer { self.new.outer ≡ self.old.outer }
-    {
-        let Some(mut array) = self.spare_arrays.pop() else {
-            return OpenArray::new(self.alloc);
-        };
-        array.clear();
-        array
-    }
-
-    // Keeps a closed array for its memory, unless it is the whole value.
-    fn keep_array(&mut self, array: OpenArray) -> Result<(), Error>
-        ensures storage { self.new.storage ≡ self.old.storage }
-        ensures innermost { self.new.innermost ≡ self.old.innermost }
-        ensures outer { self.new.outer ≡ self.old.outer }
-        ensures memory { IfErr result (λ e. e ≡ OutOfMemory) }
-    {
-        if !self.outer.is_empty() && self.spare_arrays.len() < SPARE {
-            self.spare_arrays.push(array)?;
-        }
-        Ok(())
-    }
-
-    // Keeps members for their memory, unless they are those of the whole value.
-    fn keep_members(&mut self, members: Vec<Member<'a>>) -> Result<(), Error>
-        ensures storage { self.new.storage ≡ self.old.storage }
-        ensures innermost { self.new.innermost ≡ self.old.innermost }
-        ensures outer { self.new.outer ≡ self.old.outer }
-        ensures memory { IfErr result (λ e. e ≡ OutOfMemory) }
-    {
-        if !self.outer.is_empty() && self.spare_members.len() < SPARE {
-            self.spare_members.push(members)?;
-        }
-        Ok(())
-    }
-
-    // Memory for members.
-    fn empty_members(&mut self) -> Vec<Member<'a>>
-        ensures storage { self.new.storage ≡ self.old.storage }
-        ensures innermost { self.new.innermost ≡ self.old.innermost }
-        ensures outer { self.new.outer ≡ self.old.outer }
-    {
-        match self.spare_members.pop() {
-            Some(members) => members,
-            None => Vec::new(self.alloc),
-        }
+        self.storage.payload.extend_from_slice(payload)?;
+        self.add(Some(Entry {
+            type_code,
+            size: payload.len(),
+        }))
     }
 
     // Asks for memory before the first container.
     #[inline(always)]
     fn make_room(&mut self) -> Result<(), Error>
-        ensures grows { OnOk result (Grows self.old.storage self.new.storage) }
-        ensures innermost { self.new.innermost ≡ self.old.innermost }
-        ensures outer { self.new.outer ≡ self.old.outer }
+        ensures ok { OnOk result ((cs : List Content) → tape_is self.old (going cs)
+            → tape_is self.new (going cs)) }
         ensures memory { IfErr result (λ e. e ≡ OutOfMemory) }
     {
-        if self.outer.is_empty() {
-            self.storage.reserve()?;
+        if !self.places.is_empty() {
+            return Ok(());
         }
+        self.reserve()
+    }
+
+    // Asks at once for the memory that a small text takes.
+    #[cold]
+    #[inline(never)]
+    fn reserve(&mut self) -> Result<(), Error>
+        ensures ok { OnOk result ((cs : List Content) → tape_is self.old (going cs)
+            → tape_is self.new (going cs)) }
+        ensures memory { IfErr result (λ e. e ≡ OutOfMemory) }
+    {
+        self.storage.payload.reserve(128)?;
+        self.storage.heads.reserve(128)?;
+        self.words.reserve(64)?;
+        self.members.reserve(16)?;
+        self.places.reserve(8)?;
         Ok(())
     }
 
     // Begins a container.
-    fn begin(&mut self, container: Container<'a>) -> Result<(), Error>
-        ensures ok { OnOk result ((content : Content) (cs : List Content)
-            → ContainerIs self.old.storage container.entry content → tape_is self.old (going cs)
-            → tape_is self.new (going (content ∷ cs))) }
+    #[inline(always)]
+    fn begin(&mut self, kind: Kind) -> Result<(), Error>
+        ensures array { OnOk result ((cs : List Content) → kind ≡ kinds.Array
+            → tape_is self.old (going cs) → tape_is self.new (going (items [] ∷ cs))) }
+        ensures object { OnOk result ((cs : List Content) → kind ≡ kinds.Object
+            → tape_is self.old (going cs) → tape_is self.new (going (members [] ∷ cs))) }
         ensures memory { IfErr result (λ e. e ≡ OutOfMemory) }
     {
         self.make_room()?;
-        self.outer.push(replace(&mut self.innermost, container))?;
+        let frame = Frame {
+            kind,
+            place: self.places.len(),
+            start: self.storage.payload.len(),
+            words: self.words.len(),
+            members: self.members.len(),
+            ascends: true,
+            fits: true,
+        };
+        self.places.extend_from_slice(&[Place::Open(self.inner)])?;
+        self.inner = frame;
         Ok(())
     }
 
-    // Ends the innermost container and takes it out.
-    fn end(&mut self) -> Container<'a>
-        requires { (content : Content) × ((cs : List Content)
-            × tape_is self.old (going (content ∷ cs))) }
-        ensures ended { (content : Content) (cs : List Content)
-            → tape_is self.old (going (content ∷ cs))
-            → ContainerIs self.old.storage result content × tape_is self.new (going cs) }
-        ensures storage { self.new.storage ≡ self.old.storage }
+    // Closes the innermost container, whose head was stored since `start`, with the length of its
+    // payload. The payloads after it go on at `until`.
+    #[inline(always)]
+    fn close(&mut self, start: usize, until: usize, size: Option<usize>) -> Result<(), Error>
+        requires { (g : Frame) × ((cs : List Content) × IsAround self.old g cs) }
+        ensures ok { OnOk result ((g : Frame) (cs : List Content) (t : Tree)
+            → IsAround self.old g cs → IsEndedIfFit self.old.storage start until
+            (drop (self.old.inner.place + 1) self.old.places.items) size t
+            → tape_is self.new (put t cs)) }
+        ensures memory { IfErr result (λ e. e ≡ OutOfMemory) }
     {
-        let Some(outer) = self.outer.pop() else {
+        let frame = self.inner;
+        let Place::Open(outer) = self.places[frame.place] else {
             unreachable!();
         };
-        replace(&mut self.innermost, outer)
+        self.inner = outer;
+        self.words.truncate(frame.words);
+        self.members.truncate(frame.members);
+        let Some(size) = size else {
+            self.places.truncate(frame.place);
+            return self.add(None);
+        };
+        self.places[frame.place] = Place::Head(Head {
+            at: frame.start,
+            until,
+            start,
+            end: self.storage.heads.len(),
+        });
+        self.add(Some(Entry {
+            type_code: CONTAINER_TAG,
+            size,
+        }))
+    }
+
+    // Adds a key to the innermost container, an object.
+    #[inline(always)]
+    fn add_key(&mut self, key: Key<'a>, prefix: u64) -> Result<(), Error>
+        requires { (bytes : List ℕ) × ((front : Entries) × ((cs : List Content)
+            × (KeyIs self.old.storage key prefix bytes
+            × tape_is self.old (going (members front ∷ cs))))) }
+        ensures ok { OnOk result ((front : Entries) (cs : List Content) (bytes : List ℕ)
+            → tape_is self.old (going (members front ∷ cs))
+            → KeyIs self.old.storage key.entry prefix bytes
+            → tape_is self.new (going (at_key front bytes ∷ cs))) }
+        ensures memory { IfErr result (λ e. e ≡ OutOfMemory) }
+    {
+        let ascends = self.still_ascends(key, prefix);
+        self.inner.ascends = ascends;
+        let start = self.storage.payload.len();
+        let first = self.places.len();
+        self.members.extend_from_slice(&[Member {
+            key,
+            prefix,
+            word: None,
+            part: Part {
+                start,
+                end: start,
+                first,
+                last: first,
+                size: 0,
+            },
+        }])?;
+        Ok(())
+    }
+
+    // Whether all keys of the innermost container ascend with this one.
+    #[inline(always)]
+    fn still_ascends(&self, key: Key<'_>, prefix: u64) -> bool
+        requires key { IsKey self.now.storage.spelled.items key }
+        requires members { (front : Entries) × ((cs : List Content)
+            × tape_is self.now (going (members front ∷ cs))) }
+        ensures before { result ≡ true → self.now.inner.ascends ≡ true }
+        ensures last { result ≡ true → (bytes : List ℕ) (base : ℕ) (ps : List Place)
+            (read : Entries) → KeyIs self.now.storage key.entry prefix bytes
+            → MembersAre self.now.storage base ps
+            (drop self.now.inner.members self.now.members.items) read
+            → LastBelow None read bytes }
+    {
+        if !self.inner.ascends {
+            return false;
+        }
+        let members = &self.members[self.inner.members..];
+        let Some((last, _others)) = members.split_last() else {
+            return true;
+        };
+        let spelled = &self.storage.spelled;
+        let before = bytes_of(last.key, spelled);
+        compare_keys(last.prefix, before, prefix, bytes_of(key, spelled)) == Ordering::Less
+    }
+
+    // Puts the payloads of the members from `sorted` on in their order. The places inside the
+    // innermost container are moved, and its parts put in their stead.
+    fn put_in_order(&mut self, sorted: usize) -> Result<(), Error>
+        requires inside { self.old.inner.place < length self.old.places.items }
+        requires sorted { sorted ≤ length self.old.members.items }
+        requires members { (front : Entries) × (AllFit (shapes_of (values_of front))
+            × MembersAre self.old.storage (self.old.inner.place + 1) self.old.places.items
+            (drop sorted self.old.members.items) front) }
+        ensures grows { OnOk result (Grows self.old.storage self.new.storage) }
+        ensures payload { OnOk result (self.new.storage.payload ≡ self.old.storage.payload) }
+        ensures heads { OnOk result (self.new.storage.heads ≡ self.old.storage.heads) }
+        ensures words { OnOk result (self.new.words ≡ self.old.words) }
+        ensures others { OnOk result (self.new.members ≡ self.old.members) }
+        ensures inner { OnOk result (self.new.inner ≡ self.old.inner) }
+        ensures before { OnOk result ((ps : List Place) × (self.new.places.items
+            ≡ take (self.old.inner.place + 1) self.old.places.items ++ ps)) }
+        ensures joined { OnOk result ((front : Entries) (b : ℕ)
+            → b ≤ length self.old.storage.payload.items → AllFit (shapes_of (values_of front))
+            → MembersAre self.old.storage (self.old.inner.place + 1) self.old.places.items
+            (drop sorted self.old.members.items) front
+            → Joined self.new.storage b (drop (self.old.inner.place + 1) self.new.places.items) b
+            (payloads (shapes_of (values_of front)))) }
+        ensures memory { IfErr result (λ e. e ≡ OutOfMemory) }
+    {
+        let inside = self.inner.place + 1;
+        let moved = self.storage.moved.len();
+        self.storage
+            .moved
+            .extend_from_slice(&self.places[inside..])?;
+        self.places.truncate(inside);
+        for index in sorted..self.members.len() {
+            let part = self.members[index].part;
+            if part.size > 0 {
+                self.places.push(Place::Part(Part {
+                    first: moved + (part.first - inside),
+                    last: moved + (part.last - inside),
+                    ..part
+                }))?;
+            }
+        }
+        Ok(())
+    }
+
+    // Ends an object whose keys did not ascend.
+    #[inline(never)]
+    fn end_unordered(&mut self) -> Result<(), Error>
+        requires { (front : Entries) × ((cs : List Content)
+            × tape_is self.old (going (members front ∷ cs))) }
+        ensures ok { OnOk result ((front : Entries) (cs : List Content)
+            → tape_is self.old (going (members front ∷ cs))
+            → tape_is self.new (put (object (pairs front)) cs)) }
+        ensures memory { IfErr result (λ e. e ≡ OutOfMemory) }
+    {
+        let first = self.inner.members;
+        let order = order_of(self.alloc, &self.members[first..], &self.storage)?;
+        let sorted = self.members.len();
+        append_in_order(&mut self.members, first, &order)?;
+        let start = self.storage.heads.len();
+        let size = self.storage.push_object_head(&self.members[sorted..])?;
+        if size.is_none() {
+            return self.close(start, 0, size);
+        }
+        self.put_in_order(sorted)?;
+        let until = self.storage.payload.len();
+        self.close(start, until, size)
+    }
+}
+
+// The entry word of a value, `None` if the value does not fit.
+#[inline(always)]
+fn word_of(entry: Option<Entry>) -> Option<u32>
+    ensures some { IfSome result (λ word. IfSome entry
+        (λ e. (word ≡ e.type_code + e.size) × (e.size < 2 ^ 28))) }
+    ensures none { IfNone result (IfSome entry (λ e. 2 ^ 28 ≤ e.size)) }
+    ensures made { IfNone entry (result ≡ None) }
+{
+    entry?.word()
+}
+
+// Whether all values fit, with one more that has this entry word.
+#[inline(always)]
+fn fits_with(fits: bool, word: Option<u32>) -> bool
+    ensures some { IfSome word (λ w. result ≡ fits) }
+    ensures none { IfNone word (result ≡ false) }
+{
+    fits && word.is_some()
+}
+
+// The length of the payload of a value, 0 if something inside it does not fit.
+#[inline(always)]
+fn size_of(entry: Option<Entry>) -> usize
+    ensures { IfSome entry (λ e. result ≡ e.size) }
+{
+    match entry {
+        Some(entry) => entry.size,
+        None => 0,
     }
 }
 
@@ -211,53 +425,65 @@ impl<'a> Sink<'a> for Tape<'a> {
 
     #[inline(always)]
     fn number(&mut self, value: Number) -> Result<(), Error> {
-        let entry = self.storage.number(value)?;
-        self.add(Some(entry))
+        let size = value.compact_encode(&mut self.storage.payload)?;
+        self.add(Some(Entry {
+            type_code: NUMBER_TAG,
+            size,
+        }))
     }
 
     #[inline(always)]
-    fn string(&mut self, content: CowStr<'a>) -> Result<(), Error> {
-        self.add_scalar(STRING_TAG, content.as_str().as_bytes())
+    fn string(&mut self, content: &'a str) -> Result<(), Error> {
+        self.add_scalar(STRING_TAG, content.as_bytes())
+    }
+
+    fn spelled(&mut self, content: &str) -> Result<(), Error> {
+        self.add_scalar(STRING_TAG, content.as_bytes())
     }
 
     #[inline(always)]
-    fn key(&mut self, content: CowStr<'a>) -> Result<(), Error> {
-        let Container::Object(object) = &mut self.innermost else {
-            unreachable!();
-        };
-        object.set_key(content);
-        Ok(())
+    fn key(&mut self, content: &'a str) -> Result<(), Error> {
+        self.add_key(Key::Text(content), prefix_of(content.as_bytes()))
+    }
+
+    fn spelled_key(&mut self, content: &str) -> Result<(), Error> {
+        let prefix = prefix_of(content.as_bytes());
+        let start = self.storage.spelled.len();
+        self.storage.spelled.extend_from_slice(content.as_bytes())?;
+        let end = self.storage.spelled.len();
+        self.add_key(Key::Spelled { start, end }, prefix)
     }
 
     #[inline(always)]
     fn begin_array(&mut self) -> Result<(), Error> {
-        let array = self.empty_array();
-        self.begin(Container::Array(array))
+        self.begin(Kind::Array)
     }
 
     fn end_array(&mut self) -> Result<(), Error> {
-        let Container::Array(mut array) = self.end() else {
-            unreachable!();
-        };
-        let entry = self.storage.close_array(&mut array)?;
-        self.keep_array(array)?;
-        self.add(entry)
+        let frame = self.inner;
+        let start = self.storage.heads.len();
+        if !frame.fits {
+            return self.close(start, frame.start, None);
+        }
+        let size = self.storage.push_array_head(&self.words[frame.words..])?;
+        self.close(start, frame.start, size)
     }
 
     #[inline(always)]
     fn begin_object(&mut self) -> Result<(), Error> {
-        let members = self.empty_members();
-        self.begin(Container::Object(OpenObject::new(members)))
+        self.begin(Kind::Object)
     }
 
     fn end_object(&mut self) -> Result<(), Error> {
-        let Container::Object(object) = self.end() else {
-            unreachable!();
-        };
-        let members = object.into_members(self.alloc)?;
-        let entry = self.storage.close_object(self.alloc, &members)?;
-        self.keep_members(members)?;
-        self.add(entry)
+        let frame = self.inner;
+        if !frame.ascends {
+            return self.end_unordered();
+        }
+        let start = self.storage.heads.len();
+        let size = self
+            .storage
+            .push_object_head(&self.members[frame.members..])?;
+        self.close(start, frame.start, size)
     }
 }
 
@@ -277,13 +503,8 @@ pub fn encode_text(alloc: Global, text: &str, exponents: Exponents) -> Result<Ve
 {
     let mut tape = Tape::new(alloc);
     read_text(alloc, &mut tape, text, exponents)?;
-    let Tape {
-        storage,
-        innermost,
-        ..
-    } = tape;
-    match innermost {
-        Container::Whole(Some(entry)) => write_document(alloc, &storage, entry),
-        _ => Err(Error::InvalidJsonb),
+    match tape.whole {
+        Some(entry) => write_document(alloc, &tape.storage, &tape.places, entry),
+        None => Err(Error::InvalidJsonb),
     }
 }

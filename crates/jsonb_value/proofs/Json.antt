@@ -16,6 +16,7 @@ pub mod DigitLaws
 pub mod Exponents
 pub mod NumberSteps
 pub mod TextSteps
+pub mod StringSteps
 pub mod ValueSteps
 pub mod Documents
 pub mod Allowed

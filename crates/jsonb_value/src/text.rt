@@ -100,7 +100,11 @@ fn write_fraction<W: fmt::Write>(
     ensures { WritesStyledOnOk W.write_str_gives f.old result (point_text scale magnitude) f.new }
 {
     let mut buffer = Buffer::new();
-    let digits = buffer.format(magnitude);
+    // Division of 64 bits is many times as fast as that of 128.
+    let digits = match u64::try_from(magnitude) {
+        Ok(magnitude) => buffer.format(magnitude),
+        Err(_) => buffer.format(magnitude),
+    };
     if digits.len() > scale {
         let (front, back) = digits.split_at(digits.len() - scale);
         f.write_str(front)?;

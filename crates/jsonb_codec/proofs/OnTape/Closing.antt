@@ -1,133 +1,309 @@
 -- Closing a container on the tape of a text.
-use Rattle.std.proofs.Common.{◌≡◌, ℕ, suc, ◌+◌, ◌/◌, ◌<◌, ◌≤◌, ◌^◌, refl, sym, ap, subst, ◌∙◌}
-use Rattle.std.proofs.Common.{List}
-use Rattle.std.proofs.Common.{[], ◌∷◌, ◌++◌, length, arith, length-append, take, drop, true, false}
-use Rattle.std.proofs.Common.{map, get_or, zero}
-use Rattle.std.specs.Prelude.{⊤}
-use Rattle.std.specs.Global.{Vec}
-use Rattle.std.proofs.lemmas.List.{append_assoc, append-nil, length-map}
-use Rattle.std.proofs.Math.Seq.{drop-append_seam, take-length}
+use Rattle.std.proofs.Common.{◌≡◌, ℕ, zero, suc, ◌+◌, ◌*◌, ◌/◌, ◌<◌, ◌≤◌, ◌^◌, refl, sym, ap, subst}
+use Rattle.std.proofs.Common.{◌∙◌, List, [], ◌∷◌, ◌++◌, length, arith, length-append, take, drop}
+use Rattle.std.proofs.Common.{Bool, true, false, not, true≢false, Option, Some, None, get_or, set}
+use Rattle.std.specs.Option.{is_some}
+use Rattle.jsonb_codec.specs.declared.tape.key.Key.TheVariants as keys
+use Rattle.std.proofs.lemmas.List.{append_assoc, append-nil, drop_at, set_split}
 use Rattle.jsonb_value.specs.Tree.{Tree, array, object, Ascend}
-use Rattle.jsonb_value.specs.Value.{cow_bytes, trees_of}
-use Rattle.jsonb_value.specs.WellFormed.{AreTrees, ArePairs}
+use Rattle.jsonb_value.specs.Value.{trees_of}
+use Rattle.jsonb_value.specs.WellFormed.{IsTree, AreTrees, ArePairs}
 use Rattle.jsonb_value.specs.Json.Syntax.{Entries, pairs}
 use Rattle.jsonb_codec.specs.declared.constants.TheConstants.{ARRAY_CONTAINER_TAG, CONTAINER_TAG}
 use Rattle.jsonb_codec.specs.declared.constants.TheConstants.{OBJECT_CONTAINER_TAG, STRING_TAG}
 use Rattle.jsonb_codec.specs.WordBytes.{word}
-use Rattle.jsonb_codec.specs.Shape.{AllFit, FitsInside, entries, payloads, shape_count, key_entries}
-use Rattle.jsonb_codec.specs.Shape.{key_payloads, shape_type}
+use Rattle.jsonb_codec.specs.Shape.{AllFit, FitsEntry, FitsInside, entries, payloads, shape_count}
+use Rattle.jsonb_codec.specs.Shape.{body, key_entries, key_payloads, shape_type}
 use Rattle.jsonb_codec.specs.Canon.{shape_of, pairs_shapes, payload_of}
-use Rattle.jsonb_codec.specs.Tape.{run_bytes, IsRun, PiecesAre, no_piece, run_piece, block_piece}
-use Rattle.jsonb_codec.specs.Tape.{PieceIs, PayloadsAre, EntryIs, TapeItemsAre, HasItemsIfFit}
-use Rattle.jsonb_codec.specs.Tape.{TapeArrayIs}
-use Rattle.jsonb_codec.specs.Tape.{shapes_of, TapeMembersAre, IsPushed, Grows, block_pieces}
-use Rattle.jsonb_codec.specs.declared.tape.pieces.Run.{Run}
-use Rattle.jsonb_codec.specs.declared.tape.pieces.Block.{Block}
-use Rattle.jsonb_codec.specs.declared.tape.pieces.Piece.{Piece}
-use Rattle.jsonb_codec.specs.declared.tape.pieces.Piece.TheVariants as piece
-use Rattle.jsonb_codec.specs.declared.tape.storage.Storage.{Storage}
+use Rattle.jsonb_codec.specs.Keys.{key_bytes}
+use Rattle.jsonb_codec.specs.Tape.{cut, Joined, head_place, IsMade, KeyIs, IsPartIfFit}
+use Rattle.jsonb_codec.specs.Tape.{MembersAre, values_of, shapes_of, StoresHead, IsHead, IsEnded}
+use Rattle.jsonb_codec.specs.Tape.{Grows}
+use Rattle.jsonb_value.specs.Reader.Resume.{Content, put}
+use Rattle.jsonb_codec.specs.Tape.{AreOpen, IsAround, IsEndedIfFit, tape_is}
+use Rattle.jsonb_codec.specs.declared.tape.Tape.{Tape}
 use Rattle.jsonb_codec.specs.declared.tape.entry.Entry.{Entry}
-use Rattle.jsonb_codec.specs.declared.tape.open_array.OpenArray.{OpenArray}
-use Rattle.jsonb_codec.specs.declared.tape.open_object.Member.{Member}
-use Rattle.jsonb_codec.proofs.OnTape.Pieces.{count_items, pieces_grow, payloads_grow, words_count}
+use Rattle.jsonb_codec.specs.declared.tape.member.Member.{Member}
+use Rattle.jsonb_codec.specs.declared.tape.place.Frame.{Frame}
+use Rattle.jsonb_codec.specs.declared.tape.place.Head.{Head}
+use Rattle.jsonb_codec.specs.declared.tape.place.Place.{Place}
+use Rattle.jsonb_codec.specs.declared.tape.place.Place.TheVariants as place
+use Rattle.jsonb_codec.specs.declared.tape.storage.Storage.{Storage}
+use Rattle.jsonb_codec.proofs.Shapes.{length-array, length-entries, length-object}
+use Rattle.jsonb_codec.proofs.Words.{length-word}
+use Rattle.jsonb_codec.proofs.OnTape.Joined.{cut_none, cut_rest}
+use Rattle.jsonb_codec.proofs.OnTape.Open.{place_inside}
+
+-- ---- what was stored
+
+pub head_grows : (old new : Storage) (head : List ℕ) → StoresHead old new head → Grows old new
+head_grows old new head h = record {
+  more_payload = [];
+  more_heads = head;
+  more_spelled = [];
+  more_moved = [];
+  payload = ap (λ v. v.items) h.payload ∙ sym (append-nil old.payload.items);
+  heads = h.heads;
+  spelled = ap (λ v. v.items) h.spelled ∙ sym (append-nil old.spelled.items);
+  moved = ap (λ v. v.items) h.moved ∙ sym (append-nil old.moved.items);
+}
+
+pub stores_further : (old mid new : Storage) (p q : List ℕ) → StoresHead old mid p
+    → StoresHead mid new q → StoresHead old new (p ++ q)
+stores_further old mid new p q g h = record {
+  heads = h.heads ∙ ap (λ x. x ++ q) g.heads ∙ append_assoc old.heads.items p q;
+  payload = h.payload ∙ g.payload;
+  spelled = h.spelled ∙ g.spelled;
+  moved = h.moved ∙ g.moved;
+}
+
+-- ---- the place of a container that is closed
+
+pub closed_made : (s : Storage) (at start until : ℕ) (ps : List Place) (size : ℕ) (t : Tree)
+    (e : Entry) (h : Head) → IsEnded s start until ps size t → h.at ≡ at → h.until ≡ until
+    → h.start ≡ start → h.end ≡ length s.heads.items → at ≤ length s.payload.items
+    → e.type_code ≡ CONTAINER_TAG → e.size ≡ size
+    → IsMade s (Some e) at (place.Head h ∷ ps) (length s.payload.items) t
+closed_made s at start until ps size t e h is place_at goes_on begins ends low tag sized =
+    let heads = s.heads.items in
+    let none : cut at h.at s.payload.items ≡ [] =
+    ap (λ k. cut at k s.payload.items) place_at ∙ cut_none at s.payload.items in
+    let head : cut h.start h.end heads ≡ drop start heads =
+    ap (λ k. cut k h.end heads) begins ∙ ap (λ k. cut start k heads) ends
+    ∙ cut_rest start heads in (
+      record {
+        tree = is.tree;
+        fits = is.fits;
+        type = tag ∙ sym is.type_is;
+        size = sized ∙ is.size_is;
+      },
+      (
+        tt,
+        head_place at (length s.payload.items) h ps is.children (payload_of t)
+            (omega (arith, place_at)) (omega (arith, place_at, low))
+            (omega (arith, begins, ends, is.long)) (omega (arith, ends))
+            (subst (λ k. Joined s k ps (length s.payload.items) is.children)
+            (sym goes_on) is.joined)
+            (is.same ∙ sym (ap (λ x. x ++ (cut h.start h.end heads ++ is.children)) none
+            ∙ ap (λ x. x ++ is.children) head)),
+      ),
+    )
+
+-- a container whose head was stored, with the payloads of its children
+pub head_ended : (old new later : Storage) (size start until : ℕ) (p : List ℕ) (ps : List Place)
+    (t : Tree) → IsHead old new size p t → start ≡ length old.heads.items
+    → later.heads ≡ new.heads → shape_type (shape_of t) ≡ CONTAINER_TAG
+    → Joined later until ps (length later.payload.items) p → IsEnded later start until ps size t
+head_ended old new later size start until p ps t h begins heads tag joined =
+    let all : later.heads.items ≡ old.heads.items ++ h.head =
+    ap (λ v. v.items) heads ∙ h.stored.heads in
+    let head : drop start later.heads.items ≡ h.head =
+    ap (drop start) all ∙ drop_at old.heads.items h.head start (sym begins) in
+    record {
+      children = p;
+      type_is = tag;
+      tree = h.tree;
+      fits = h.fits;
+      size_is = h.size_is;
+      long = omega (arith, begins, h.long, ap length all, length-append old.heads.items h.head);
+      same = h.same ∙ ap (λ x. x ++ p) (sym head);
+      joined = joined;
+    }
 
 -- ---- arrays
 
--- the entry of a container: what was stored of it, then the payloads of its children
-abbrev pub IsClosed : Storage → Entry → OpenArray → Storage → List ℕ → Type 0
-IsClosed s e a new head = (e.type_code ≡ CONTAINER_TAG) × ((p : List ℕ) → PayloadsAre s a.payloads p
-    → a.size ≡ length p → (e.size ≡ length (head ++ p)) × PieceIs new e.piece (head ++ p))
-
-pub array_unfit : (s : Storage) (a : OpenArray) (ts : List Tree) → a.fits ≡ false
-    → TapeArrayIs s a ts
-    → FitsInside (shape_of (array (trees_of ts))) → ⊥
-array_unfit s a ts off h fits = subst (λ b. HasItemsIfFit b s a ts) off h fits
-
-pub array_closed : (s mid new : Storage) (a : OpenArray) (ts : List Tree) (e : Entry)
-    (head : List ℕ) → a.fits ≡ true → TapeArrayIs s a ts → length a.words.items / 4 < 2 ^ 29
-    → Grows s mid → head ≡ word (ARRAY_CONTAINER_TAG + length a.words.items / 4) ++ a.words.items
-    → IsClosed mid e a new head → EntryIs new e (array (trees_of ts))
-array_closed s mid new a ts e head on h short g is_head closed =
-    let held = subst (λ b. HasItemsIfFit b s a ts) on h in
-    let counted : length a.words.items / 4 ≡ shape_count (shapes_of ts) =
-    omega (arith, words_count s a ts held) in
-    let payload : head ++ payloads (shapes_of ts) ≡ payload_of (array (trees_of ts)) =
-    ap (λ x. x ++ payloads (shapes_of ts)) (is_head
-    ∙ ap (λ n. word (ARRAY_CONTAINER_TAG + n) ++ a.words.items) counted
-    ∙ ap (λ x. word (ARRAY_CONTAINER_TAG + shape_count (shapes_of ts)) ++ x) held.words)
-    ∙ append_assoc (word (ARRAY_CONTAINER_TAG + shape_count (shapes_of ts)))
-    (entries (shapes_of ts))
-    (payloads (shapes_of ts)) in
-    let made = closed.1 (payloads (shapes_of ts))
-    (payloads_grow s mid a.payloads (payloads (shapes_of ts)) g held.contents) held.size in
+pub array_head : (old new : Storage) (words : List ℕ) (ts : List Tree) (n : ℕ)
+    → AreTrees (trees_of ts) → AllFit (shapes_of ts) → words ≡ entries (shapes_of ts)
+    → length words / 4 < 2 ^ 29 → n ≡ 4 + length words + length (payloads (shapes_of ts))
+    → StoresHead old new (word (ARRAY_CONTAINER_TAG + length words / 4) ++ words)
+    → IsHead old new n (payloads (shapes_of ts)) (array (trees_of ts))
+array_head old new words ts n trees fit is few sized stored =
+    let ss = shapes_of ts in
+    let counted : length words / 4 ≡ shape_count ss =
+    omega (arith, ap length is, length-entries ss) in
     record {
-      tree = held.trees;
-      fits = (omega (arith, short, counted), held.fit);
-      type = closed.0;
-      size = made.0 ∙ ap length payload;
-      piece = subst (PieceIs new e.piece) payload made.1;
+      head = word (ARRAY_CONTAINER_TAG + length words / 4) ++ words;
+      stored = stored;
+      long = omega (
+        arith,
+        length-append (word (ARRAY_CONTAINER_TAG + length words / 4)) words,
+        length-word (ARRAY_CONTAINER_TAG + length words / 4),
+      );
+      same = sym (ap (λ k. (word (ARRAY_CONTAINER_TAG + k) ++ words) ++ payloads ss) counted
+          ∙ ap (λ x. (word (ARRAY_CONTAINER_TAG + shape_count ss) ++ x) ++ payloads ss) is
+          ∙ append_assoc (word (ARRAY_CONTAINER_TAG + shape_count ss)) (entries ss) (payloads ss));
+      tree = trees;
+      fits = (omega (arith, few, counted), fit);
+      size_is = omega (arith, sized, ap length is, length-entries ss, length-array ss);
     }
+
+pub array_long : (words : List ℕ) (ts : List Tree) → words ≡ entries (shapes_of ts)
+    → 2 ^ 29 ≤ length words / 4 → FitsInside (shape_of (array (trees_of ts))) → ⊥
+array_long words ts is long fits =
+    omega (arith, fits.0, long, ap length is, length-entries (shapes_of ts))
 
 -- ---- objects
 
--- the values of the members
-abbrev pub values_of : Entries → List Tree
-values_of es = map (λ e. e.1) es
-
--- no key exceeds its limit
-abbrev pub KeysFit : Entries → Type 0
-KeysFit [] = ⊤
-KeysFit (e ∷ es) = (length e.0 < 2 ^ 28) × KeysFit es
-
-same_entries : (es : Entries)
+pub same_entries : (es : Entries)
     → entries (pairs_shapes (pairs es)) ≡ entries (shapes_of (values_of es))
 same_entries [] = refl
 same_entries (e ∷ es) =
     ap (λ x. word (shape_type (shape_of e.1) + length (payload_of e.1)) ++ x) (same_entries es)
 
-same_payloads : (es : Entries)
+pub same_payloads : (es : Entries)
     → payloads (pairs_shapes (pairs es)) ≡ payloads (shapes_of (values_of es))
 same_payloads [] = refl
 same_payloads (e ∷ es) = ap (λ x. payload_of e.1 ++ x) (same_payloads es)
 
-fit_of : (es : Entries) → KeysFit es → AllFit (shapes_of (values_of es))
-    → AllFit (pairs_shapes (pairs es))
-fit_of [] short h = tt
-fit_of (e ∷ es) short h = ((short.0, h.0.1), fit_of es short.1 h.1)
-
-values_fit : (es : Entries) → AllFit (pairs_shapes (pairs es)) → AllFit (shapes_of (values_of es))
+pub values_fit : (es : Entries) → AllFit (pairs_shapes (pairs es))
+    → AllFit (shapes_of (values_of es))
 values_fit [] h = tt
 values_fit (e ∷ es) h = ((omega arith, h.0.1), values_fit es h.1)
 
-keys_fit : (es : Entries) → AllFit (pairs_shapes (pairs es)) → KeysFit es
-keys_fit [] h = tt
-keys_fit (e ∷ es) h = (h.0.0, keys_fit es h.1)
-
-count_pairs : (es : Entries) → shape_count (pairs_shapes (pairs es)) ≡ length es
+pub count_pairs : (es : Entries) → shape_count (pairs_shapes (pairs es)) ≡ length es
 count_pairs [] = refl
 count_pairs (e ∷ es) = ap suc (count_pairs es)
 
-keys_of_all : (s : Storage) (ms : List Member) (es : Entries) → TapeMembersAre s ms es
-    → AreTrees (trees_of (values_of es)) → ArePairs (pairs es)
-keys_of_all s [] [] h trees = tt
-keys_of_all s (m ∷ ms) (e ∷ es) h trees =
-    (h.0.1.0, (trees.0, keys_of_all s ms es h.1 trees.1))
-keys_of_all s [] (e ∷ es) h trees = absurd h
-keys_of_all s (m ∷ ms) [] h trees = absurd h
+pub as_many : (s : Storage) (base : ℕ) (ps : List Place) (ms : List Member) (es : Entries)
+    → MembersAre s base ps ms es → length ms ≡ length es
+as_many s base ps [] [] h = refl
+as_many s base ps (m ∷ ms) (e ∷ es) h = ap suc (as_many s base ps ms es h.1)
+as_many s base ps [] (e ∷ es) h = absurd h
+as_many s base ps (m ∷ ms) [] h = absurd h
 
-pub as_many : (s : Storage) (ms : List Member) (es : Entries) → TapeMembersAre s ms es
-    → length ms ≡ length es
-as_many s [] [] h = refl
-as_many s (m ∷ ms) (e ∷ es) h = ap suc (as_many s ms es h.1)
-as_many s [] (e ∷ es) h = absurd h
-as_many s (m ∷ ms) [] h = absurd h
+-- members that fit are trees with keys of UTF-8
+pub members_pairs : (s : Storage) (base : ℕ) (ps : List Place) (ms : List Member) (es : Entries)
+    → MembersAre s base ps ms es → AllFit (pairs_shapes (pairs es)) → ArePairs (pairs es)
+members_pairs s base ps [] [] h fit = tt
+members_pairs s base ps (m ∷ ms) (e ∷ es) h fit =
+    (h.0.0.utf8, (by m.word h.0.1, members_pairs s base ps ms es h.1 fit.1))
+  where
+    by : (w : Option ℕ) → IsPartIfFit s base ps m.part w e.1 → IsTree e.1
+    by (Some w) part = part.tree
+    by None never = absurd (never (record { inside = fit.0.1.0; short = fit.0.1.1 }))
+members_pairs s base ps [] (e ∷ es) h fit = absurd h
+members_pairs s base ps (m ∷ ms) [] h fit = absurd h
 
-keys_snoc : (es : Entries) (e : List ℕ × Tree) → KeysFit es → length e.0 < 2 ^ 28
-    → KeysFit (es ++ e ∷ [])
-keys_snoc [] e h short = (short, tt)
-keys_snoc (f ∷ es) e h short = (h.0, keys_snoc es e h.1 short)
+pub object_head : (old begun keyed valued new : Storage) (base : ℕ) (ps : List Place)
+    (ms : List Member) (es : Entries) (size n : ℕ) → MembersAre old base ps ms es
+    → Ascend (pairs es) → length ms < 2 ^ 29
+    → StoresHead old begun (word (OBJECT_CONTAINER_TAG + length ms))
+    → StoresHead begun keyed (key_entries (pairs_shapes (pairs es)))
+    → AllFit (pairs_shapes (pairs es)) → n ≡ body (pairs_shapes (pairs es))
+    → StoresHead keyed valued (entries (pairs_shapes (pairs es)))
+    → StoresHead valued new (key_payloads (pairs_shapes (pairs es)))
+    → size ≡ 4 + 8 * length ms + n
+    → IsHead old new size (payloads (shapes_of (values_of es))) (object (pairs es))
+object_head old begun keyed valued new base ps ms es size n are ascend few first second fit is third
+    fourth sized =
+    let ss = pairs_shapes (pairs es) in
+    let count : length ms ≡ shape_count ss =
+    as_many old base ps ms es are ∙ sym (count_pairs es) in
+    let tag = word (OBJECT_CONTAINER_TAG + length ms) in
+    let head = ((tag ++ key_entries ss) ++ entries ss) ++ key_payloads ss in
+    record {
+      head = head;
+      stored = stores_further old valued new ((tag ++ key_entries ss) ++ entries ss)
+          (key_payloads ss)
+          (stores_further old keyed valued (tag ++ key_entries ss) (entries ss)
+          (stores_further old begun keyed tag (key_entries ss) first second) third) fourth;
+      long = omega (
+        arith,
+        length-append ((tag ++ key_entries ss) ++ entries ss) (key_payloads ss),
+        length-append (tag ++ key_entries ss) (entries ss),
+        length-append tag (key_entries ss),
+        length-word (OBJECT_CONTAINER_TAG + length ms),
+      );
+      same = sym (ap (λ x. head ++ x) (sym (same_payloads es))
+          ∙ ap (λ k. (((word (OBJECT_CONTAINER_TAG + k) ++ key_entries ss) ++ entries ss)
+          ++ key_payloads ss) ++ payloads ss) count
+          ∙ assoc (word (OBJECT_CONTAINER_TAG + shape_count ss)) (key_entries ss) (entries ss)
+          (key_payloads ss) (payloads ss));
+      tree = (ascend, members_pairs old base ps ms es are fit);
+      fits = (omega (arith, few, count), fit);
+      size_is = omega (arith, sized, is, count, length-object ss);
+    }
+  where
+    assoc : (a b c d e : List ℕ) → (((a ++ b) ++ c) ++ d) ++ e ≡ a ++ (b ++ (c ++ (d ++ e)))
+    assoc a b c d e = append_assoc ((a ++ b) ++ c) d e ∙ append_assoc (a ++ b) c (d ++ e)
+        ∙ append_assoc a b (c ++ (d ++ e))
 
-key_words_snoc : (es : Entries) (e : List ℕ × Tree)
+pub too_many : (s : Storage) (base : ℕ) (ps : List Place) (ms : List Member) (es : Entries)
+    → MembersAre s base ps ms es → 2 ^ 29 ≤ length ms
+    → FitsInside (shape_of (object (pairs es))) → ⊥
+too_many s base ps ms es h many fits =
+    omega (arith, many, fits.0, as_many s base ps ms es h, count_pairs es)
+
+-- ---- the members one by one
+
+-- the member at an index, and its entry
+pub record MemberAt (s : Storage) (base : ℕ) (ps : List Place) (m : Member) (es : Entries) (i : ℕ)
+    : Type 0 where
+  pub e : List ℕ × Tree
+  pub next : take (i + 1) es ≡ take i es ++ e ∷ []
+  pub low : i < length es
+  pub there : get_or es i e ≡ e
+  pub key : KeyIs s m.key m.prefix e.0
+  pub part : IsPartIfFit s base ps m.part m.word e.1
+  pub fit : AllFit (pairs_shapes (pairs es)) → (length e.0 < 2 ^ 28) × FitsEntry (shape_of e.1)
+
+-- a member where there is none
+abbrev pub no_member : Member
+no_member = record {
+  key = keys.Text (record { ref_ptr = (0, 0); now = [] });
+  prefix = 0;
+  word = None;
+  part = record { start = 0; end = 0; first = 0; last = 0; size = 0 };
+}
+
+pub at_same : {A : Type 0} (xs : List A) (i : ℕ) (d : A) → i < length xs
+    → get_or xs i d ≡ get_or xs i (get_or xs i d)
+at_same [] i d low = absurd (omega (arith, low))
+at_same (x ∷ xs) zero d low = refl
+at_same (x ∷ xs) (suc i) d low = at_same xs i d (omega (arith, low))
+
+pub has_word : (word : Option ℕ) (none : Bool) → is_some word ≡ not none → none ≡ false
+    → (w : ℕ) × (word ≡ Some w)
+has_word (Some w) none is some = (w, refl)
+has_word None none is some = absurd (true≢false (sym (is ∙ ap not some)))
+
+pub has_no_word : (word : Option ℕ) (none : Bool) → is_some word ≡ not none → none ≡ true
+    → word ≡ None
+has_no_word None none is off = refl
+has_no_word (Some w) none is off = absurd (true≢false (is ∙ ap not off))
+
+pub is_on : (b : Bool) → not b ≡ false → b ≡ true
+is_on true off = refl
+is_on false off = absurd (true≢false off)
+
+pub member_at : (s : Storage) (base : ℕ) (ps : List Place) (ms : List Member) (es : Entries)
+    (i : ℕ) (m : Member) → MembersAre s base ps ms es → i < length ms → m ≡ get_or ms i m
+    → MemberAt s base ps m es i
+member_at s base ps [] es i m h low is = absurd (omega (arith, low))
+member_at s base ps (n ∷ ms) [] i m h low is = absurd h
+member_at s base ps (n ∷ ms) (e ∷ es) zero m h low is = record {
+  e = e;
+  next = refl;
+  low = omega arith;
+  there = refl;
+  key = subst (λ x. KeyIs s x.key x.prefix e.0) (sym is) h.0.0;
+  part = subst (λ x. IsPartIfFit s base ps x.part x.word e.1) (sym is) h.0.1;
+  fit = λ all. (all.0.0, record { inside = all.0.1.0; short = all.0.1.1 });
+}
+member_at s base ps (n ∷ ms) (e ∷ es) (suc i) m h low is =
+    let rest = member_at s base ps ms es i m h.1 (omega (arith, low)) is in
+    let same : suc i + 1 ≡ suc (i + 1) = omega arith in
+    record {
+      e = rest.e;
+      next = ap (λ k. take k (e ∷ es)) same ∙ ap (λ xs. e ∷ xs) rest.next;
+      low = omega (arith, rest.low);
+      there = rest.there;
+      key = rest.key;
+      part = rest.part;
+      fit = λ all. rest.fit all.1;
+    }
+
+pub key_words_snoc : (es : Entries) (e : List ℕ × Tree)
     → key_entries (pairs_shapes (pairs (es ++ e ∷ [])))
     ≡ key_entries (pairs_shapes (pairs es)) ++ word (STRING_TAG + length e.0)
 key_words_snoc [] e = append-nil (word (STRING_TAG + length e.0))
@@ -136,7 +312,19 @@ key_words_snoc (f ∷ es) e =
     ∙ sym (append_assoc (word (STRING_TAG + length f.0)) (key_entries (pairs_shapes (pairs es)))
     (word (STRING_TAG + length e.0)))
 
-key_bytes_snoc : (es : Entries) (e : List ℕ × Tree)
+pub value_words_snoc : (es : Entries) (e : List ℕ × Tree)
+    → entries (pairs_shapes (pairs (es ++ e ∷ [])))
+    ≡ entries (pairs_shapes (pairs es))
+    ++ word (shape_type (shape_of e.1) + length (payload_of e.1))
+value_words_snoc [] e = append-nil (word (shape_type (shape_of e.1) + length (payload_of e.1)))
+value_words_snoc (f ∷ es) e =
+    ap (λ x. word (shape_type (shape_of f.1) + length (payload_of f.1)) ++ x)
+    (value_words_snoc es e)
+    ∙ sym (append_assoc (word (shape_type (shape_of f.1) + length (payload_of f.1)))
+    (entries (pairs_shapes (pairs es)))
+    (word (shape_type (shape_of e.1) + length (payload_of e.1))))
+
+pub key_bytes_snoc : (es : Entries) (e : List ℕ × Tree)
     → key_payloads (pairs_shapes (pairs (es ++ e ∷ [])))
     ≡ key_payloads (pairs_shapes (pairs es)) ++ e.0
 key_bytes_snoc [] e = append-nil e.0
@@ -144,284 +332,174 @@ key_bytes_snoc (f ∷ es) e =
     ap (λ x. f.0 ++ x) (key_bytes_snoc es e)
     ∙ sym (append_assoc f.0 (key_payloads (pairs_shapes (pairs es))) e.0)
 
-values_snoc : (es : Entries) (e : List ℕ × Tree)
-    → values_of (es ++ e ∷ []) ≡ values_of es ++ e.1 ∷ []
-values_snoc [] e = refl
-values_snoc (f ∷ es) e = ap (λ x. f.1 ∷ x) (values_snoc es e)
+pub pairs_fit_snoc : (es : Entries) (e : List ℕ × Tree) → AllFit (pairs_shapes (pairs es))
+    → length e.0 < 2 ^ 28 → FitsEntry (shape_of e.1) → AllFit (pairs_shapes (pairs (es ++ e ∷ [])))
+pairs_fit_snoc [] e h short fits = ((short, (fits.inside, fits.short)), tt)
+pairs_fit_snoc (f ∷ es) e h short fits = (h.0, pairs_fit_snoc es e h.1 short fits)
 
--- the head of an object whose members `done` are stored, while others are left
-pub record HeadIs (old : Storage) (now : Storage) (n : ℕ) (keys : List ℕ) (values : OpenArray)
-    (left : List Member) (front : Entries) : Type 0 where
-  pub done : Entries
-  pub rest : Entries
-  pub same : front ≡ done ++ rest
-  pub others : TapeMembersAre old left rest
-  pub bytes : now.bytes.items ≡ old.bytes.items
-      ++ (word (OBJECT_CONTAINER_TAG + n) ++ key_entries (pairs_shapes (pairs done)))
-  pub keys_are : keys ≡ key_payloads (pairs_shapes (pairs done))
-  pub short : KeysFit done
-  pub values_are : TapeArrayIs old values (values_of done)
+pub body_snoc : (es : Entries) (e : List ℕ × Tree)
+    → body (pairs_shapes (pairs (es ++ e ∷ [])))
+    ≡ body (pairs_shapes (pairs es)) + (length e.0 + length (payload_of e.1))
+body_snoc [] e = omega (
+  arith,
+  length-append e.0 [],
+  length-append (payload_of e.1) [],
+)
+body_snoc (f ∷ es) e = omega (
+  arith,
+  body_snoc es e,
+  length-append f.0 (key_payloads (pairs_shapes (pairs (es ++ e ∷ [])))),
+  length-append f.0 (key_payloads (pairs_shapes (pairs es))),
+  length-append (payload_of f.1) (payloads (pairs_shapes (pairs (es ++ e ∷ [])))),
+  length-append (payload_of f.1) (payloads (pairs_shapes (pairs es))),
+)
 
-pub head_begins : (old now : Storage) (n : ℕ) (keys : List ℕ) (values : OpenArray)
-    (left ms : List Member) (front : Entries) → TapeMembersAre old ms front → left ≡ ms
-    → now.bytes.items ≡ old.bytes.items ++ word (OBJECT_CONTAINER_TAG + n) → keys ≡ []
-    → ((s : Storage) → TapeArrayIs s values []) → HeadIs old now n keys values left front
-head_begins old now n keys values left ms front h same begun none empty = record {
-  done = [];
-  rest = front;
-  same = refl;
-  others = subst (λ xs. TapeMembersAre old xs front) (sym same) h;
-  bytes = begun
-      ∙ ap (λ x. old.bytes.items ++ x) (sym (append-nil (word (OBJECT_CONTAINER_TAG + n))));
-  keys_are = none;
-  short = tt;
-  values_are = empty old;
+-- ---- the frame around
+
+open_at : (n : ℕ) (ps rest : List Place) (g : Frame) (x : Place)
+    → drop n ps ≡ place.Open g ∷ rest → x ≡ get_or ps n x → x ≡ place.Open g
+open_at zero [] rest g x at is = absurd (omega (arith, ap length at))
+open_at zero (p ∷ ps) rest g x at is = is ∙ ap (λ xs. get_or xs 0 x) at
+open_at (suc n) [] rest g x at is = absurd (omega (arith, ap length at))
+open_at (suc n) (p ∷ ps) rest g x at is = open_at n ps rest g x at is
+
+abbrev frame_of : Frame → Place → Frame
+frame_of d (place.Open f) = f
+frame_of d _ = d
+
+-- the place of a container keeps the frame around it
+pub same_frame : (n : ℕ) (ps rest : List Place) (f g : Frame) (x : Place)
+    → drop n ps ≡ place.Open g ∷ rest → x ≡ get_or ps n x → x ≡ place.Open f → g ≡ f
+same_frame n ps rest f g x at is kept =
+    ap (frame_of g) (sym (open_at n ps rest g x at is) ∙ kept)
+
+pub head_put : (n : ℕ) (ps : List Place) (x : Place) → n < length ps
+    → set ps n x ≡ take n ps ++ x ∷ drop (n + 1) ps
+head_put n ps x low =
+    let same : suc n ≡ n + 1 = omega arith in
+    set_split ps n x low ∙ ap (λ k. take n ps ++ x ∷ drop k ps) same
+
+-- ---- one member more of a head
+
+pub nothing_stored : (s : Storage) → StoresHead s s []
+nothing_stored s = record {
+  heads = sym (append-nil s.heads.items);
+  payload = refl;
+  spelled = refl;
+  moved = refl;
 }
 
-pub head_goes_on : (old mid now : Storage) (n : ℕ) (keys more : Vec ℕ) (before after : OpenArray)
-    (left later : List Member) (m : Member) (front : Entries)
-    → HeadIs old mid n keys.items before left front → left ≡ m ∷ later
-    → IsPushed mid now keys more before after m → HeadIs old now n more.items after later front
-head_goes_on old mid now n keys more before after left later m front h next pushed =
-    by h.rest h.same (subst (λ xs. TapeMembersAre old xs h.rest) next h.others)
-  where
-    by : (rest : Entries) → front ≡ h.done ++ rest → TapeMembersAre old (m ∷ later) rest
-        → HeadIs old now n more.items after later front
-    by [] same others = absurd others
-    by (e ∷ rest) same others =
-        let head = word (OBJECT_CONTAINER_TAG + n) in
-        let words = key_entries (pairs_shapes (pairs h.done)) in
-        let key_word = word (STRING_TAG + length e.0) in
-        record {
-          done = h.done ++ e ∷ [];
-          rest = rest;
-          same = same ∙ sym (append_assoc h.done (e ∷ []) rest);
-          others = others.1;
-          bytes = pushed.word_is
-              ∙ ap (λ x. x ++ word (STRING_TAG + length (cow_bytes m.key))) h.bytes
-              ∙ ap (λ k. (old.bytes.items ++ (head ++ words)) ++ word (STRING_TAG + length k))
-              others.0.0
-              ∙ append_assoc old.bytes.items (head ++ words) key_word
-              ∙ ap (λ x. old.bytes.items ++ x) (append_assoc head words key_word
-              ∙ ap (λ x. head ++ x) (sym (key_words_snoc h.done e)));
-          keys_are = pushed.keys_are ∙ ap (λ x. x ++ cow_bytes m.key) h.keys_are
-              ∙ ap (λ k. key_payloads (pairs_shapes (pairs h.done)) ++ k) others.0.0
-              ∙ sym (key_bytes_snoc h.done e);
-          short = keys_snoc h.done e h.short (omega (arith, pushed.short, ap length others.0.0));
-          values_are = subst (TapeArrayIs old after) (sym (values_snoc h.done e))
-              (pushed.value old (values_of h.done) e.1 h.values_are others.0.1.1);
-        }
+pub key_stored : (old mid new : Storage) (base : ℕ) (ps : List Place) (ms : List Member)
+    (es : Entries) (i : ℕ) (m : Member) (bytes : List ℕ) → MembersAre old base ps ms es
+    → i < length ms → m ≡ get_or ms i m
+    → StoresHead old mid (key_payloads (pairs_shapes (pairs (take i es))))
+    → StoresHead mid new bytes → bytes ≡ key_bytes mid.spelled.items m.key
+    → StoresHead old new (key_payloads (pairs_shapes (pairs (take (i + 1) es))))
+key_stored old mid new base ps ms es i m bytes h low is before stored same =
+    let at = member_at old base ps ms es i m h low is in
+    let key : bytes ≡ at.e.0 =
+    same ∙ ap (λ v. key_bytes v.items m.key) before.spelled ∙ at.key.same in
+    subst (λ xs. StoresHead old new (key_payloads (pairs_shapes (pairs xs)))) (sym at.next)
+    (subst (StoresHead old new) (sym (key_bytes_snoc (take i es) at.e))
+    (stores_further old mid new (key_payloads (pairs_shapes (pairs (take i es)))) at.e.0 before
+    (subst (StoresHead mid new) key stored)))
 
--- a key exceeds its limit
-pub long_key : (old mid : Storage) (n : ℕ) (keys : List ℕ) (values : OpenArray)
-    (left later : List Member) (m : Member) (front : Entries)
-    → HeadIs old mid n keys values left front → left ≡ m ∷ later
-    → 2 ^ 28 ≤ length (cow_bytes m.key) → FitsInside (shape_of (object (pairs front))) → ⊥
-long_key old mid n keys values left later m front h next long fits =
-    by h.rest h.done (subst (λ xs. TapeMembersAre old xs h.rest) next h.others)
-    (subst KeysFit h.same (keys_fit front fits.1))
-  where
-    by : (rest done : Entries) → TapeMembersAre old (m ∷ later) rest → KeysFit (done ++ rest) → ⊥
-    by [] done others short = absurd others
-    by (e ∷ rest) [] others short = omega (arith, short.0, long, ap length others.0.0)
-    by (e ∷ rest) (d ∷ done) others short = by (e ∷ rest) done others short.1
+pub value_word_stored : (old mid new : Storage) (base : ℕ) (ps : List Place) (ms : List Member)
+    (es : Entries) (i w : ℕ) (m : Member) → MembersAre old base ps ms es
+    → i < length ms → m ≡ get_or ms i m → m.word ≡ Some w
+    → StoresHead old mid (entries (pairs_shapes (pairs (take i es))))
+    → StoresHead mid new (word w)
+    → StoresHead old new (entries (pairs_shapes (pairs (take (i + 1) es))))
+value_word_stored old mid new base ps ms es i w m h low is some before stored =
+    let at = member_at old base ps ms es i m h low is in
+    let part = subst (λ x. IsPartIfFit old base ps m.part x at.e.1) some at.part in
+    subst (λ xs. StoresHead old new (entries (pairs_shapes (pairs xs)))) (sym at.next)
+    (subst (StoresHead old new) (sym (value_words_snoc (take i es) at.e))
+    (stores_further old mid new (entries (pairs_shapes (pairs (take i es))))
+    (word (shape_type (shape_of at.e.1) + length (payload_of at.e.1))) before
+    (subst (λ k. StoresHead mid new (word k)) part.word_is stored)))
 
-pub too_many : (s : Storage) (ms : List Member) (front : Entries) → TapeMembersAre s ms front
-    → 2 ^ 29 ≤ length ms → FitsInside (shape_of (object (pairs front))) → ⊥
-too_many s ms front h many fits =
-    omega (arith, many, fits.0, as_many s ms front h, count_pairs front)
+-- a member without an entry word, where all fit
+pub no_word : (s : Storage) (base : ℕ) (ps : List Place) (ms : List Member) (es : Entries) (i : ℕ)
+    (m : Member) → MembersAre s base ps ms es → i < length ms → m ≡ get_or ms i m
+    → m.word ≡ None → AllFit (pairs_shapes (pairs es)) → ⊥
+no_word s base ps ms es i m h low is none fit =
+    let at = member_at s base ps ms es i m h low is in
+    subst (λ x. IsPartIfFit s base ps m.part x at.e.1) none at.part (at.fit fit).1
 
--- all members are done
-all_done : (old now : Storage) (n : ℕ) (keys : List ℕ) (values : OpenArray) (left : List Member)
-    (front : Entries) (h : HeadIs old now n keys values left front) → length left ≡ 0
-    → front ≡ h.done
-all_done old now n keys values (m ∷ left) front h none = absurd (omega (arith, none))
-all_done old now n keys values [] front h none = by h.rest h.same h.others
-  where
-    by : (rest : Entries) → front ≡ h.done ++ rest → TapeMembersAre old [] rest → front ≡ h.done
-    by [] same others = same ∙ append-nil h.done
-    by (e ∷ rest) same others = absurd others
+pub part_short : (s : Storage) (base : ℕ) (ps : List Place) (ms : List Member) (es : Entries)
+    (i w : ℕ) (m : Member) → MembersAre s base ps ms es → i < length ms → m ≡ get_or ms i m
+    → m.word ≡ Some w → m.part.size < 2 ^ 28
+part_short s base ps ms es i w m h low is some =
+    let at = member_at s base ps ms es i m h low is in
+    let part = subst (λ x. IsPartIfFit s base ps m.part x at.e.1) some at.part in
+    omega (arith, part.size, part.fits.short)
 
-pub object_unfit : (old now : Storage) (n : ℕ) (keys : List ℕ) (values : OpenArray)
-    (left : List Member) (front : Entries) → HeadIs old now n keys values left front
-    → length left ≡ 0 → values.fits ≡ false → FitsInside (shape_of (object (pairs front))) → ⊥
-object_unfit old now n keys values left front h none off fits =
-    let is_done = all_done old now n keys values left front h none in
-    subst (λ b. HasItemsIfFit b old values (values_of h.done)) off h.values_are (
-      omega (
-        arith,
-        fits.0,
-        ap length is_done,
-        count_pairs front,
-        count_items (values_of h.done),
-        length-map h.done (λ e. e.1),
-      ),
-      values_fit h.done (subst (λ es. AllFit (pairs_shapes (pairs es))) is_done fits.1),
-    )
+-- a key beyond its limit
+pub key_long : (s : Storage) (base : ℕ) (ps : List Place) (ms : List Member) (es : Entries) (i : ℕ)
+    (m : Member) → MembersAre s base ps ms es → i < length ms → m ≡ get_or ms i m
+    → 2 ^ 28 ≤ length (key_bytes s.spelled.items m.key) → AllFit (pairs_shapes (pairs es)) → ⊥
+key_long s base ps ms es i m h low is long fit =
+    let at = member_at s base ps ms es i m h low is in
+    omega (arith, long, ap length at.key.same, (at.fit fit).0)
 
-pub object_closed : (old now mid new : Storage) (n : ℕ) (keys : List ℕ) (values : OpenArray)
-    (left ms : List Member) (front : Entries) (e : Entry) (head : List ℕ)
-    → HeadIs old now n keys values left front → length left ≡ 0 → values.fits ≡ true
-    → TapeMembersAre old ms front → n ≡ length ms → n < 2 ^ 29 → Ascend (pairs front)
-    → Grows old mid
-    → head ≡ (word (OBJECT_CONTAINER_TAG + n) ++ key_entries (pairs_shapes (pairs front)))
-    ++ (values.words.items ++ keys)
-    → IsClosed mid e values new head → EntryIs new e (object (pairs front))
-object_closed old now mid new n keys values left ms front e head h none on all counted few ascend g
-    is_head closed =
-    let is_done = all_done old now n keys values left front h none in
-    let held = subst (λ es. TapeItemsAre old values (values_of es)) (sym is_done)
-    (subst (λ b. HasItemsIfFit b old values (values_of h.done)) on h.values_are) in
-    let shapes = pairs_shapes (pairs front) in
-    let count_is : n ≡ shape_count shapes =
-    counted ∙ as_many old ms front all ∙ sym (count_pairs front) in
-    let keys_is : keys ≡ key_payloads shapes =
-    h.keys_are ∙ ap (λ es. key_payloads (pairs_shapes (pairs es))) (sym is_done) in
-    let words_is : values.words.items ≡ entries shapes = held.words ∙ sym (same_entries front) in
-    let tag = word (OBJECT_CONTAINER_TAG + shape_count shapes) in
-    let body = payloads shapes in
-    let payload : head ++ payloads (shapes_of (values_of front))
-    ≡ payload_of (object (pairs front)) =
-    ap (λ x. head ++ x) (sym (same_payloads front))
-    ∙ ap (λ x. x ++ body) (is_head
-    ∙ ap (λ k. (word (OBJECT_CONTAINER_TAG + k) ++ key_entries shapes)
-    ++ (values.words.items ++ keys))
-    count_is
-    ∙ ap (λ x. (tag ++ key_entries shapes) ++ (x ++ keys)) words_is
-    ∙ ap (λ x. (tag ++ key_entries shapes) ++ (entries shapes ++ x)) keys_is)
-    ∙ append_assoc (tag ++ key_entries shapes) (entries shapes ++ key_payloads shapes) body
-    ∙ append_assoc tag (key_entries shapes) ((entries shapes ++ key_payloads shapes) ++ body)
-    ∙ ap (λ x. tag ++ (key_entries shapes ++ x))
-    (append_assoc (entries shapes) (key_payloads shapes) body) in
-    let made = closed.1 (payloads (shapes_of (values_of front)))
-    (payloads_grow old mid values.payloads (payloads (shapes_of (values_of front))) g held.contents)
-    held.size in
-    record {
-      tree = (ascend, keys_of_all old ms front all held.trees);
-      fits = (
-        omega (arith, few, count_is),
-        fit_of front (subst KeysFit (sym is_done) h.short) held.fit,
-      );
-      type = closed.0;
-      size = made.0 ∙ ap length payload;
-      piece = subst (PieceIs new e.piece) payload made.1;
-    }
+-- the members whose keys were stored
+pub record KeyWordsAre (old new : Storage) (size : ℕ) (es : Entries) : Type 0 where
+  pub stored : StoresHead old new (key_entries (pairs_shapes (pairs es)))
+  pub fit : AllFit (pairs_shapes (pairs es))
+  pub sized : size ≡ body (pairs_shapes (pairs es))
 
--- the item at an index is the first of those from there on
-pub next_item : {X : Type 0} (xs : List X) (i : ℕ) (x : X) → i < length xs
-    → x ≡ get_or xs i x → drop i xs ≡ x ∷ drop (i + 1) xs
-next_item [] i x short is = absurd (omega (arith, short))
-next_item (y ∷ xs) zero x short is = ap (λ z. z ∷ xs) (sym is)
-next_item (y ∷ xs) (suc i) x short is =
-    let same : suc (i + 1) ≡ suc i + 1 = omega arith in
-    next_item xs i x (omega (arith, short)) is ∙ ap (λ k. x ∷ drop k (y ∷ xs)) same
+pub key_word_stored : (old mid new : Storage) (base : ℕ) (ps : List Place) (ms : List Member)
+    (es : Entries) (i w size next length_of : ℕ) (m : Member) → MembersAre old base ps ms es
+    → i < length ms → m ≡ get_or ms i m → m.word ≡ Some w
+    → KeyWordsAre old mid size (take i es) → StoresHead mid new (word (STRING_TAG + length_of))
+    → length_of ≡ length (key_bytes mid.spelled.items m.key) → length_of < 2 ^ 28
+    → next ≡ size + (length_of + m.part.size) → KeyWordsAre old new next (take (i + 1) es)
+key_word_stored old mid new base ps ms es i w size next length_of m h low is some before stored
+    measured short sum =
+    let at = member_at old base ps ms es i m h low is in
+    let part = subst (λ x. IsPartIfFit old base ps m.part x at.e.1) some at.part in
+    let same : length_of ≡ length at.e.0 =
+    measured ∙ ap (λ v. length (key_bytes v.items m.key)) before.stored.spelled
+    ∙ ap length at.key.same in
+    subst (KeyWordsAre old new next) (sym at.next) (record {
+      stored = subst (StoresHead old new) (sym (key_words_snoc (take i es) at.e))
+          (stores_further old mid new (key_entries (pairs_shapes (pairs (take i es))))
+          (word (STRING_TAG + length at.e.0)) before.stored
+          (subst (λ k. StoresHead mid new (word (STRING_TAG + k))) same stored));
+      fit = pairs_fit_snoc (take i es) at.e before.fit (omega (arith, short, same)) part.fits;
+      sized = omega (arith, sum, before.sized, same, part.size, body_snoc (take i es) at.e);
+    })
 
--- ---- what was stored
-
-pub stored_since : (old first rest mid new : List ℕ) (start : ℕ) → start ≡ length old
-    → mid ≡ old ++ first → new ≡ mid ++ rest → drop start new ≡ first ++ rest
-stored_since old first rest mid new start place begun ended =
-    ap (λ n. drop n new) place
-    ∙ ap (drop (length old)) (ended ∙ ap (λ x. x ++ rest) begun ∙ append_assoc old first rest)
-    ∙ drop-append_seam old (first ++ rest)
-
-pub stored_grows : (old new : Storage) (mid first rest : List ℕ) → mid ≡ old.bytes.items ++ first
-    → new.bytes.items ≡ mid ++ rest → new.closed ≡ old.closed → Grows old new
-stored_grows old new mid first rest begun ended same = record {
-  more_bytes = first ++ rest;
-  more_closed = [];
-  bytes = ended ∙ ap (λ x. x ++ rest) begun ∙ append_assoc old.bytes.items first rest;
-  closed = ap (λ v. v.items) same ∙ sym (append-nil old.closed.items);
-}
-
--- the storage has all that it had, and nothing more
-pub same_grows : (old new : Storage) → new.bytes ≡ old.bytes → new.closed ≡ old.closed
-    → Grows old new
-same_grows old new bytes closed = record {
-  more_bytes = [];
-  more_closed = [];
-  bytes = ap (λ v. v.items) bytes ∙ sym (append-nil old.bytes.items);
-  closed = ap (λ v. v.items) closed ∙ sym (append-nil old.closed.items);
-}
-
-pub bytes_grow : (old new : Storage) (more : List ℕ) → new.bytes.items ≡ old.bytes.items ++ more
-    → new.closed ≡ old.closed → Grows old new
-bytes_grow old new more grown same = record {
-  more_bytes = more;
-  more_closed = [];
-  bytes = grown;
-  closed = ap (λ v. v.items) same ∙ sym (append-nil old.closed.items);
-}
-
--- what was stored of an object
-pub object_head : (old now : Storage) (n : ℕ) (keys mid new : List ℕ) (values : OpenArray)
-    (left : List Member) (front : Entries) (start : ℕ)
-    → HeadIs old now n keys values left front → length left ≡ 0 → start ≡ length old.bytes.items
-    → mid ≡ now.bytes.items ++ values.words.items → new ≡ mid ++ keys
-    → drop start new
-    ≡ (word (OBJECT_CONTAINER_TAG + n) ++ key_entries (pairs_shapes (pairs front)))
-    ++ (values.words.items ++ keys)
-object_head old now n keys mid new values left front start h none place more last =
-    let is_done = all_done old now n keys values left front h none in
-    let head = word (OBJECT_CONTAINER_TAG + n) ++ key_entries (pairs_shapes (pairs front)) in
-    let begun : now.bytes.items ≡ old.bytes.items ++ head =
-    h.bytes ∙ ap (λ es. old.bytes.items
-    ++ (word (OBJECT_CONTAINER_TAG + n) ++ key_entries (pairs_shapes (pairs es)))) (sym is_done) in
-    stored_since old.bytes.items head (values.words.items ++ keys) now.bytes.items new start place
-    begun (last ∙ ap (λ x. x ++ keys) more
-    ∙ append_assoc now.bytes.items values.words.items keys)
-
-pub grows_further : (old mid new : Storage) → Grows old mid → Grows mid new → Grows old new
-grows_further old mid new g h = record {
-  more_bytes = g.more_bytes ++ h.more_bytes;
-  more_closed = g.more_closed ++ h.more_closed;
-  bytes = h.bytes ∙ ap (λ x. x ++ h.more_bytes) g.bytes
-      ∙ append_assoc old.bytes.items g.more_bytes h.more_bytes;
-  closed = h.closed ∙ ap (λ x. x ++ h.more_closed) g.closed
-      ∙ append_assoc old.closed.items g.more_closed h.more_closed;
-}
-
-pub closed_grown : (old mid new ps : List Piece) (x : Piece) → mid ≡ old ++ x ∷ []
-    → new ≡ mid ++ ps → new ≡ old ++ (x ∷ ps)
-closed_grown old mid new ps x pushed more =
-    more ∙ ap (λ xs. xs ++ ps) pushed ∙ append_assoc old (x ∷ []) ps
-
--- ---- the pieces of a container
-
--- all payloads are empty
-pub only_head : (s : Storage) (r : Run) (ps : List Piece) (head p : List ℕ) → IsRun s r
-    → run_bytes s r ≡ head → PiecesAre s ps p → length ps ≡ 0 → PieceIs s (piece.Run r) (head ++ p)
-only_head s r (x ∷ ps) head p is same h none = absurd (omega (arith, none))
-only_head s r [] head p is same (no_piece _ empty) none =
-    (is, ap (λ x. head ++ x) empty ∙ append-nil head ∙ sym same)
-
-pub nothing_grows : (s : Storage) → Grows s s
-nothing_grows s = record {
-  more_bytes = [];
-  more_closed = [];
-  bytes = sym (append-nil s.bytes.items);
-  closed = sym (append-nil s.closed.items);
-}
-
-pub block_closed : (s new : Storage) (r : Run) (head p : List ℕ) (ps : List Piece) (b : Block)
-    → IsRun s r → run_bytes s r ≡ head → r.start < r.end → PiecesAre s ps p → 0 < length ps
-    → Grows s new
-    → new.closed.items ≡ s.closed.items ++ (piece.Run r ∷ ps) → b.first ≡ length s.closed.items
-    → b.count ≡ length ps + 1 → b.size ≡ length (head ++ p)
-    → PieceIs new (piece.Block b) (head ++ p)
-block_closed s new r head p ps b is same some own several g closed first many size =
-    let all : List Piece = piece.Run r ∷ ps in
-    let counted : b.count ≡ length all = omega (arith, many) in
-    let sliced : block_pieces new b ≡ all =
-    ap (λ x. take b.count (drop b.first x)) closed
-    ∙ ap (λ n. take b.count (drop n (s.closed.items ++ all))) first
-    ∙ ap (take b.count) (drop-append_seam s.closed.items all)
-    ∙ ap (λ n. take n all) counted
-    ∙ take-length all in
-    let pieces : PiecesAre s all (head ++ p) =
-    run_piece r ps p (head ++ p) is some own (ap (λ x. x ++ p) (sym same)) in
-    block_piece b (head ++ p) [] [] (head ++ p)
-    (omega (arith, first, many, ap length closed, length-append s.closed.items all))
-    (omega (arith, several, many)) size (subst (λ x. PiecesAre new x (head ++ p)) (sym sliced)
-    (pieces_grow s new all (head ++ p) g pieces)) (no_piece [] refl)
-    (sym (append-nil (head ++ p)))
+-- a container that fits is closed and added to that around it
+pub close_adds : (old new : Tape) (outer : Frame) (places : List Place) (ws : List ℕ)
+    (ms : List Member) (start until n : ℕ) (size : Option ℕ) (e : Entry) (h : Head) (x : Place)
+    → x ≡ get_or old.places.items old.inner.place x → x ≡ place.Open outer
+    → h.at ≡ old.inner.start → h.until ≡ until → h.start ≡ start
+    → h.end ≡ length old.storage.heads.items → e.type_code ≡ CONTAINER_TAG → e.size ≡ n
+    → places ≡ set old.places.items old.inner.place (place.Head h)
+    → ws ≡ take old.inner.words old.words.items → ms ≡ take old.inner.members old.members.items
+    → size ≡ Some n
+    → ((ps qs : List Place) (a : ℕ) (cs : List Content) (t : Tree) → places ≡ ps ++ qs
+    → AreOpen old.storage outer ps ws ms a cs → a ≤ length old.storage.payload.items
+    → IsMade old.storage (Some e) a qs (length old.storage.payload.items) t
+    → tape_is new (put t cs))
+    → (g : Frame) (cs : List Content) (t : Tree) → IsAround old g cs
+    → IsEndedIfFit old.storage start until (drop (old.inner.place + 1) old.places.items) size t
+    → tape_is new (put t cs)
+close_adds old new outer places ws ms start until n size e h x at kept place_at goes_on begins ends
+    tag sized written words owned some ok g cs t around ended =
+    let f = old.inner in
+    let ps = take f.place old.places.items in
+    let inside = drop (f.place + 1) old.places.items in
+    let same = same_frame f.place old.places.items inside outer g x around.place_is at kept in
+    let low = place_inside f.place old.places.items inside (place.Open g) around.place_is in
+    ok ps (place.Head h ∷ inside) f.start cs t
+    (written ∙ head_put f.place old.places.items (place.Head h) (omega (arith, low)))
+    (subst (λ y. AreOpen old.storage y ps ws ms f.start cs) same
+    (subst (λ xs. AreOpen old.storage g ps xs ms f.start cs) (sym words)
+    (subst (λ xs. AreOpen old.storage g ps (take f.words old.words.items) xs f.start cs) (sym owned)
+    around.around))) around.start_from
+    (closed_made old.storage f.start start until inside n t e h
+    (subst (λ y. IsEndedIfFit old.storage start until inside y t) some ended) place_at goes_on
+    begins ends around.start_from tag sized)

@@ -1,9 +1,7 @@
--- Copying the pieces of a payload one by one.
+-- Copying payloads with their heads and parts.
 use Rattle.std.proofs.Common.{◌≡◌, ℕ, ◌+◌, ◌-◌, ◌*◌, ◌<◌, ◌≤◌, ◌^◌, refl, sym, ap, subst, ◌∙◌, List}
-use Rattle.std.proofs.Common.{[]}
-use Rattle.std.proofs.Common.{◌∷◌, ◌++◌, length, arith, length-append, drop}
-use Rattle.std.specs.Prelude.{◌≢◌, Option, Some, option_to_list, reverse}
-use Rattle.std.specs.Borrow.{Bor}
+use Rattle.std.proofs.Common.{[], ◌∷◌, ◌++◌, length, arith, length-append, drop}
+use Rattle.std.specs.Prelude.{◌≢◌, Option, Some, None, IsSome, option_to_list, reverse, ⊤}
 use Rattle.std.proofs.Common.{true, false}
 use Rattle.std.proofs.lemmas.List.{append_assoc, append-nil, length-drop, length-take-le}
 use Rattle.std.proofs.lemmas.List.{reverse-append}
@@ -12,66 +10,202 @@ use Rattle.jsonb_codec.specs.WordBytes.{word}
 use Rattle.jsonb_codec.specs.Shape.{FitsInside, shape_type}
 use Rattle.jsonb_codec.specs.Canon.{shape_of, payload_of, canon, Fits}
 use Rattle.jsonb_codec.specs.declared.constants.TheConstants.{SCALAR_CONTAINER_TAG, CONTAINER_TAG}
-use Rattle.jsonb_codec.specs.Tape.{run_bytes, IsRun, block_pieces, PiecesAre, no_piece, run_piece}
-use Rattle.jsonb_codec.specs.Tape.{block_piece}
-use Rattle.jsonb_codec.specs.declared.tape.pieces.Run.{Run}
-use Rattle.jsonb_codec.specs.declared.tape.pieces.Block.{Block}
-use Rattle.jsonb_codec.specs.declared.tape.pieces.Piece.{Piece}
-use Rattle.jsonb_codec.specs.declared.tape.pieces.Piece.TheVariants as piece
+use Rattle.jsonb_codec.specs.Tape.{cut, EntryIs, IsHeadFirst, Joined, no_place, head_place}
+use Rattle.jsonb_codec.specs.Tape.{part_place}
+use Rattle.jsonb_codec.specs.declared.tape.entry.Entry.{Entry}
+use Rattle.jsonb_codec.specs.declared.tape.place.Head.{Head}
+use Rattle.jsonb_codec.specs.declared.tape.place.Part.{Part}
+use Rattle.jsonb_codec.specs.declared.tape.place.Place.{Place}
+use Rattle.jsonb_codec.specs.declared.tape.place.Place.TheVariants as place
 use Rattle.jsonb_codec.specs.declared.tape.storage.Storage.{Storage}
+use Rattle.jsonb_codec.specs.declared.tape.write.Left.{Left}
 
--- the lists of pieces, the next one first, have these bytes
-abbrev pub ListsAre : Storage → List (Bor (List Piece)) → List ℕ → Type 0
-ListsAre s [] r = r ≡ []
-ListsAre s (x ∷ xs) r =
-    (p : List ℕ) × ((q : List ℕ) × (PiecesAre s x.now p × ((r ≡ p ++ q) × ListsAre s xs q)))
+-- the payloads that are left, the next ones first, are these bytes
+abbrev pub LeftAre : Storage → List Left → List ℕ → Type 0
+LeftAre s [] r = r ≡ []
+LeftAre s (x ∷ xs) r = (p : List ℕ) × ((q : List ℕ)
+    × (Joined s x.start x.places.now x.end p × ((r ≡ p ++ q) × LeftAre s xs q)))
+
+-- there are payloads next, or none are left
+abbrev pub HasNext : Option Left → List Left → Type 0
+HasNext None xs = xs ≡ []
+HasNext (Some x) xs = ⊤
 
 -- ---- what is left becomes less
 
-abbrev pub weight : Piece → ℕ
-weight (piece.Run r) = 2 * (r.end - r.start) - 1
-weight (piece.Block b) = 2 * b.size - 1
+abbrev pub weight : Place → ℕ
+weight (place.Open f) = 0
+weight (place.Head h) = 1
+weight (place.Part p) = 2 * p.size
 
-abbrev pub weights : List Piece → ℕ
+abbrev pub weights : List Place → ℕ
 weights [] = 0
 weights (x ∷ xs) = weight x + weights xs
 
-abbrev pub lists_weight : List (Bor (List Piece)) → ℕ
-lists_weight [] = 0
-lists_weight (x ∷ xs) = (2 * weights x.now + 1) + lists_weight xs
+abbrev pub left_weight : List Left → ℕ
+left_weight [] = 0
+left_weight (x ∷ xs) = (weights x.places.now + 1) + left_weight xs
 
-length-run : (s : Storage) (r : Run) → IsRun s r → length (run_bytes s r) ≡ r.end - r.start
-length-run s r h = length-take-le (r.end - r.start) (drop r.start s.bytes.items)
-    (omega (arith, h.0, h.1, length-drop r.start s.bytes.items))
+length_cut : {A : Type 0} (a b : ℕ) (xs : List A) → a ≤ b → b ≤ length xs
+    → length (cut a b xs) ≡ b - a
+length_cut a b xs low high =
+    length-take-le (b - a) (drop a xs) (omega (arith, low, high, length-drop a xs))
 
-length-block : (s : Storage) (b : Block) → b.first + b.count ≤ length s.closed.items
-    → length (block_pieces s b) ≡ b.count
-length-block s b h = length-take-le b.count (drop b.first s.closed.items)
-    (omega (arith, h, length-drop b.first s.closed.items))
-
-weigh : (s : Storage) (ps : List Piece) (p : List ℕ) → PiecesAre s ps p
-    → weights ps + length ps ≡ 2 * length p
-weigh s [] p (no_piece _ is) = omega (arith, ap length is)
-weigh s (piece.Run r ∷ ps) all (run_piece _ _ p _ is some rest same) = omega (
+pub weigh : (s : Storage) (a : ℕ) (ps : List Place) (b : ℕ) (r : List ℕ) → Joined s a ps b r
+    → weights ps ≤ 2 * length r
+weigh s a [] b r h = omega arith
+weigh s a (place.Head h ∷ ps) b all (head_place _ _ _ _ r _ from at long heads rest same) = omega (
   arith,
-  weigh s ps p rest,
-  length-run s r is,
-  some,
+  weigh s h.until ps b r rest,
+  long,
   ap length same,
-  length-append (run_bytes s r) p,
+  length-append (cut a h.at s.payload.items) (cut h.start h.end s.heads.items ++ r),
+  length-append (cut h.start h.end s.heads.items) r,
+  length_cut h.start h.end s.heads.items (omega arith) heads,
 )
-weigh s (piece.Block b ∷ ps) all (block_piece _ q _ p _ inside two size own rest same) = omega (
-  arith,
-  weigh s ps p rest,
-  weigh s (block_pieces s b) q own,
-  length-block s b inside,
-  two,
-  size,
-  ap length same,
-  length-append q p,
-)
+weigh s a (place.Part p ∷ ps) b all
+    (part_place _ _ _ _ q r _ low high front some size own rest same) = omega (
+      arith,
+      weigh s a ps b r rest,
+      size,
+      ap length same,
+      length-append q r,
+    )
+weigh s a (place.Open f ∷ ps) b r h = elim h [ ]
 
--- ---- the list of lists, as a stack
+-- the places of a part weigh less than it
+pub weigh_part : (s : Storage) (a : ℕ) (ps : List Place) (b : ℕ) (r : List ℕ) → IsHeadFirst ps
+    → Joined s a ps b r → 1 ≤ length r → weights ps + 2 ≤ 2 * length r
+weigh_part s a [] b r front h some = omega arith
+weigh_part s a (place.Head h ∷ ps) b all front
+    (head_place _ _ _ _ r _ from at long heads rest same) some = omega (
+      arith,
+      weigh s h.until ps b r rest,
+      long,
+      ap length same,
+      length-append (cut a h.at s.payload.items) (cut h.start h.end s.heads.items ++ r),
+      length-append (cut h.start h.end s.heads.items) r,
+      length_cut h.start h.end s.heads.items (omega arith) heads,
+    )
+weigh_part s a (place.Part p ∷ ps) b all front h some = absurd front
+weigh_part s a (place.Open f ∷ ps) b all front h some = absurd front
+
+-- ---- one step
+
+-- nothing is put into the next payloads
+pub plain_next : (s : Storage) (x : Left) (xs : List Left) (r : List ℕ) → LeftAre s (x ∷ xs) r
+    → x.places.now ≡ [] → (x.start ≤ x.end) × ((x.end ≤ length s.payload.items)
+    × ((q : List ℕ) × ((r ≡ cut x.start x.end s.payload.items ++ q) × LeftAre s xs q)))
+plain_next s x xs r (p, (q, (own, (same, others)))) is =
+    by (subst (λ ps. Joined s x.start ps x.end p) is own)
+  where
+    by : Joined s x.start [] x.end p → (x.start ≤ x.end) × ((x.end ≤ length s.payload.items)
+        × ((q : List ℕ) × ((r ≡ cut x.start x.end s.payload.items ++ q) × LeftAre s xs q)))
+    by (no_place _ _ _ low high plain) =
+        (low, (high, (q, (same ∙ ap (λ y. y ++ q) plain, others))))
+
+-- a head is put in, and what is left after it
+pub record AfterHead (s : Storage) (r : List ℕ) (x y : Left) (h : Head) (xs : List Left) : Type 0
+  where
+    pub rest : List ℕ
+    pub from : x.start ≤ h.at
+    pub at : h.at ≤ length s.payload.items
+    pub low : h.start ≤ h.end
+    pub heads : h.end ≤ length s.heads.items
+    pub same : r ≡ (cut x.start h.at s.payload.items ++ cut h.start h.end s.heads.items) ++ rest
+    pub left : LeftAre s (y ∷ xs) rest
+
+pub head_next : (s : Storage) (x y : Left) (xs : List Left) (r : List ℕ) (h : Head)
+    → LeftAre s (x ∷ xs) r → x.places.now ≡ place.Head h ∷ y.places.now → y.start ≡ h.until
+    → y.end ≡ x.end → AfterHead s r x y h xs
+head_next s x y xs r h (all, (q, (own, (whole, others)))) is start end =
+    by (subst (λ ps. Joined s x.start ps x.end all) is own)
+  where
+    by : Joined s x.start (place.Head h ∷ y.places.now) x.end all → AfterHead s r x y h xs
+    by (head_place _ _ _ _ p _ from at long heads rest same) =
+        let before = cut x.start h.at s.payload.items in
+        let head = cut h.start h.end s.heads.items in
+        record {
+          rest = p ++ q;
+          from = from;
+          at = at;
+          low = omega arith;
+          heads = heads;
+          same = whole ∙ ap (λ z. z ++ q) same ∙ append_assoc before (head ++ p) q
+              ∙ ap (λ z. before ++ z) (append_assoc head p q)
+              ∙ sym (append_assoc before head (p ++ q));
+          left = (
+            p,
+            (
+              q,
+              (
+                subst (λ k. Joined s k y.places.now y.end p) (sym start)
+                    (subst (λ k. Joined s h.until y.places.now k p) (sym end) rest),
+                (refl, others),
+              ),
+            ),
+          );
+        }
+
+-- a part is put in, and what is left after it
+pub record AfterPart (s : Storage) (r : List ℕ) (x y z : Left) (p : Part) (xs : List Left) : Type 0
+  where
+    pub low : p.first ≤ p.last
+    pub high : p.last ≤ length s.moved.items
+    pub left : z.places.now ≡ cut p.first p.last s.moved.items → LeftAre s (z ∷ y ∷ xs) r
+    pub less : z.places.now ≡ cut p.first p.last s.moved.items
+        → left_weight (z ∷ y ∷ xs) < left_weight (x ∷ xs)
+
+pub part_next : (s : Storage) (x y z : Left) (xs : List Left) (r : List ℕ) (p : Part)
+    → LeftAre s (x ∷ xs) r → x.places.now ≡ place.Part p ∷ y.places.now → y.start ≡ x.start
+    → y.end ≡ x.end → z.start ≡ p.start → z.end ≡ p.end → AfterPart s r x y z p xs
+part_next s x y z xs r p (all, (q, (own, (whole, others)))) is start end own_start own_end =
+    by (subst (λ ps. Joined s x.start ps x.end all) is own)
+  where
+    by : Joined s x.start (place.Part p ∷ y.places.now) x.end all → AfterPart s r x y z p xs
+    by (part_place _ _ _ _ o n _ low high front some size inner rest same) = record {
+      low = low;
+      high = high;
+      left = λ are. (
+        o,
+        (
+          n ++ q,
+          (
+            subst (λ k. Joined s k z.places.now z.end o) (sym own_start)
+                (subst (λ k. Joined s p.start z.places.now k o) (sym own_end)
+                (subst (λ ps. Joined s p.start ps p.end o) (sym are) inner)),
+            (
+              whole ∙ ap (λ z. z ++ q) same ∙ append_assoc o n q,
+              (
+                n,
+                (
+                  q,
+                  (
+                    subst (λ k. Joined s k y.places.now y.end n) (sym start)
+                        (subst (λ k. Joined s x.start y.places.now k n) (sym end) rest),
+                    (refl, others),
+                  ),
+                ),
+              ),
+            ),
+          ),
+        ),
+      );
+      less = λ are. omega (
+        arith,
+        ap weights are,
+        ap weights is,
+        weigh_part s p.start (cut p.first p.last s.moved.items) p.end o front inner
+            (omega (arith, some, size)),
+        size,
+      );
+    }
+
+pub one_left : (s : Storage) (x : Left) (p : List ℕ) → Joined s x.start x.places.now x.end p
+    → LeftAre s (x ∷ []) p
+one_left s x p h = (p, ([], (h, (sym (append-nil p), refl))))
+
+-- ---- a list as a stack
 
 pub popped : {X : Type 0} (old new : List X) (r : Option X) (x : X) → old ≡ new ++ option_to_list r
     → r ≡ Some x → reverse old ≡ x ∷ reverse new
@@ -81,139 +215,6 @@ popped old new r x left is =
 pub pushed : {X : Type 0} (old new : List X) (x : X) → new ≡ old ++ x ∷ []
     → reverse new ≡ x ∷ reverse old
 pushed old new x more = ap reverse more ∙ reverse-append old (x ∷ [])
-
--- ---- the next list
-
--- the next list is empty
-pub nothing_next : (s : Storage) (x : Bor (List Piece)) (xs : List (Bor (List Piece))) (r : List ℕ)
-    → ListsAre s (x ∷ xs) r → x.now ≡ [] → ListsAre s xs r
-nothing_next s x xs r h is =
-    by (h.0) (subst (λ ps. PiecesAre s ps h.0) is h.1.1.0) h.1.1.1.0 h.1.1.1.1
-  where
-    by : (p : List ℕ) → PiecesAre s [] p → r ≡ p ++ h.1.0 → ListsAre s xs h.1.0 → ListsAre s xs r
-    by p (no_piece _ empty) same rest =
-        subst (ListsAre s xs) (sym (same ∙ ap (λ y. y ++ h.1.0) empty)) rest
-
--- the bytes of the next run, and what is left after it
-pub record AfterRun (s : Storage) (r : List ℕ) (x : Run) (later : Bor (List Piece))
-    (xs : List (Bor (List Piece))) : Type 0 where
-  pub rest : List ℕ
-  pub is : IsRun s x
-  pub some : x.start < x.end
-  pub same : r ≡ run_bytes s x ++ rest
-  pub lists : ListsAre s (later ∷ xs) rest
-
-run_weighs : (r : Run) → r.start < r.end → 1 ≤ weight (piece.Run r)
-run_weighs r some = omega arith
-
--- a run is copied
-pub run_less : (s : Storage) (r : List ℕ) (y : Run) (x later : Bor (List Piece))
-    (xs old new : List (Bor (List Piece))) → AfterRun s r y later xs
-    → x.now ≡ piece.Run y ∷ later.now → old ≡ x ∷ xs → new ≡ later ∷ xs
-    → lists_weight new < lists_weight old
-run_less s r y x later xs old new after is before left = omega (
-  arith,
-  ap lists_weight before,
-  ap lists_weight left,
-  ap weights is,
-  run_weighs y after.some,
-)
-
-pub run_goes_on : (s : Storage) (r start p out new : List ℕ) (y : Run) (later : Bor (List Piece))
-    (xs left : List (Bor (List Piece))) → AfterRun s r y later xs → start ++ p ≡ out ++ r
-    → new ≡ out ++ run_bytes s y → left ≡ later ∷ xs
-    → (rest : List ℕ) × (ListsAre s left rest × (start ++ p ≡ new ++ rest))
-run_goes_on s r start p out new y later xs left after same copied is = (
-  after.rest,
-  (
-    subst (λ ys. ListsAre s ys after.rest) (sym is) after.lists,
-    same ∙ ap (λ x. out ++ x) after.same ∙ sym (append_assoc out (run_bytes s y) after.rest)
-        ∙ ap (λ x. x ++ after.rest) (sym copied),
-  ),
-)
-
-pub run_next : (s : Storage) (x later : Bor (List Piece)) (xs : List (Bor (List Piece)))
-    (r : List ℕ) (y : Run) → ListsAre s (x ∷ xs) r → x.now ≡ piece.Run y ∷ later.now
-    → AfterRun s r y later xs
-run_next s x later xs r y h is =
-    let (all, (q, (own, (same, others)))) = h in
-    by all q same others (subst (λ ps. PiecesAre s ps all) is own)
-  where
-    by : (all q : List ℕ) → r ≡ all ++ q → ListsAre s xs q
-        → PiecesAre s (piece.Run y ∷ later.now) all → AfterRun s r y later xs
-    by all q whole others (run_piece _ _ p _ is some rest same) = record {
-      rest = p ++ q;
-      is = is;
-      some = some;
-      same = whole ∙ ap (λ z. z ++ q) same ∙ append_assoc (run_bytes s y) p q;
-      lists = (p, (q, (rest, (refl, others))));
-    }
-
--- the pieces of the next block, and what is left after it
-pub record AfterBlock (s : Storage) (r : List ℕ) (b : Block) (own later : Bor (List Piece))
-    (xs : List (Bor (List Piece))) : Type 0 where
-  pub inside : b.first + b.count ≤ length s.closed.items
-  pub lists : own.now ≡ block_pieces s b → ListsAre s (own ∷ later ∷ xs) r
-  pub less : own.now ≡ block_pieces s b → weights own.now < weight (piece.Block b)
-
-pub block_next : (s : Storage) (x later own : Bor (List Piece)) (xs : List (Bor (List Piece)))
-    (r : List ℕ) (b : Block) → ListsAre s (x ∷ xs) r → x.now ≡ piece.Block b ∷ later.now
-    → AfterBlock s r b own later xs
-block_next s x later own xs r b h is =
-    let (all, (q, (pieces, (same, others)))) = h in
-    by all q same others (subst (λ ps. PiecesAre s ps all) is pieces)
-  where
-    by : (all q : List ℕ) → r ≡ all ++ q → ListsAre s xs q
-        → PiecesAre s (piece.Block b ∷ later.now) all → AfterBlock s r b own later xs
-    by all q whole others (block_piece _ o _ p _ inside two size inner rest same) = record {
-      inside = inside;
-      lists = λ are. (
-        o,
-        (
-          p ++ q,
-          (
-            subst (λ ps. PiecesAre s ps o) (sym are) inner,
-            (
-              whole ∙ ap (λ z. z ++ q) same ∙ append_assoc o p q,
-              (p, (q, (rest, (refl, others)))),
-            ),
-          ),
-        ),
-      );
-      less = λ are. omega (
-        arith,
-        ap weights are,
-        weigh s (block_pieces s b) o inner,
-        length-block s b inside,
-        two,
-        size,
-      );
-    }
-
-pub block_goes_on : (s : Storage) (r start p out : List ℕ) (b : Block)
-    (own later : Bor (List Piece))
-    (xs left : List (Bor (List Piece))) → AfterBlock s r b own later xs
-    → own.now ≡ block_pieces s b → start ++ p ≡ out ++ r → left ≡ own ∷ later ∷ xs
-    → (rest : List ℕ) × (ListsAre s left rest × (start ++ p ≡ out ++ rest))
-block_goes_on s r start p out b own later xs left after are same is =
-    (r, (subst (λ ys. ListsAre s ys r) (sym is) (after.lists are), same))
-
--- a block is replaced by its pieces
-pub block_less : (s : Storage) (r : List ℕ) (b : Block) (x own later : Bor (List Piece))
-    (xs old new : List (Bor (List Piece))) → AfterBlock s r b own later xs
-    → x.now ≡ piece.Block b ∷ later.now → own.now ≡ block_pieces s b → old ≡ x ∷ xs
-    → new ≡ own ∷ later ∷ xs → lists_weight new < lists_weight old
-block_less s r b x own later xs old new after is are before left = omega (
-  arith,
-  ap lists_weight before,
-  ap lists_weight left,
-  ap weights is,
-  after.less are,
-)
-
-pub one_list : (s : Storage) (x : Bor (List Piece)) (p : List ℕ) → PiecesAre s x.now p
-    → ListsAre s (x ∷ []) p
-one_list s x p h = (p, ([], (h, (sym (append-nil p), refl))))
 
 -- ---- the document of an entry
 
@@ -242,12 +243,48 @@ scalar_canon (extension e) other = (refl, (λ h. h, λ h. h))
 scalar_canon (array ts) other = absurd (other refl)
 scalar_canon (object ps) other = absurd (other refl)
 
--- ---- a block alone
+pub popped_all : {X : Type 0} (old new : List X) (r : Option X) → old ≡ new ++ option_to_list r
+    → reverse old ≡ option_to_list r ++ reverse new
+popped_all old new None is = ap reverse (is ∙ append-nil new)
+popped_all old new (Some x) is = ap reverse is ∙ reverse-append new (x ∷ [])
 
-pub block_own : (s : Storage) (b : Block) (p : List ℕ) → PiecesAre s (piece.Block b ∷ []) p
-    → (b.first + b.count ≤ length s.closed.items) × PiecesAre s (block_pieces s b) p
-block_own s b all (block_piece _ q _ p _ inside two size own rest same) =
-    (inside, subst (PiecesAre s (block_pieces s b)) (by p rest same) own)
-  where
-    by : (p : List ℕ) → PiecesAre s [] p → all ≡ q ++ p → q ≡ all
-    by p (no_piece _ none) same = sym (same ∙ ap (λ x. q ++ x) none ∙ append-nil q)
+pub popped_next : (old new : List Left) (r : Option Left) → old ≡ new ++ option_to_list r
+    → (0 < length old → IsSome r) → HasNext r new
+popped_next old new (Some x) is some = tt
+popped_next old [] None is some = refl
+popped_next old (x ∷ new) None is some = absurd (no (some (omega (arith, ap length is)))) where
+  no : false ≡ true → ⊥
+  no same = grind (arith, same)
+
+pub none_left : (s : Storage) (next : Option Left) (xs : List Left) (r : List ℕ) → next ≡ None
+    → HasNext next xs → LeftAre s (option_to_list next ++ reverse xs) r → r ≡ []
+none_left s None [] r none has left = left
+none_left s None (x ∷ xs) r none has left = absurd (omega (arith, ap length has))
+none_left s (Some x) xs r none has left = absurd (omega (
+  arith,
+  ap (λ o. length
+      (option_to_list o)) none,
+))
+
+pub container_written : (t : Tree) (e : Entry) (out : List ℕ) → EntryIs e t
+    → e.type_code ≡ CONTAINER_TAG → out ≡ payload_of t → Fits t × (out ≡ canon t)
+container_written t e out is tag written =
+    let canonical = container_canon t (sym is.type ∙ tag) in
+    (canonical.1 is.fits, written ∙ sym canonical.0)
+
+pub scalar_written : (t : Tree) (e : Entry) (w : ℕ) (out : List ℕ) → EntryIs e t
+    → e.type_code ≢ CONTAINER_TAG → w ≡ e.type_code + e.size → e.size < 2 ^ 28
+    → out ≡ (word SCALAR_CONTAINER_TAG ++ word w) ++ payload_of t → Fits t × (out ≡ canon t)
+scalar_written t e w out is other word_is short written =
+    let scalar = scalar_canon t (λ same. other (is.type ∙ same)) in (
+      scalar.1.0 (omega (arith, is.size, short)),
+      written ∙ append_assoc (word SCALAR_CONTAINER_TAG) (word w) (payload_of t)
+          ∙ ap (λ n. word SCALAR_CONTAINER_TAG ++ (word n ++ payload_of t))
+          (word_is ∙ omega (arith, is.type, is.size)) ∙ sym scalar.0,
+    )
+
+pub scalar_long : (t : Tree) (e : Entry) → EntryIs e t → e.type_code ≢ CONTAINER_TAG
+    → 2 ^ 28 ≤ e.size → Fits t → ⊥
+scalar_long t e is other long fits =
+    let scalar = scalar_canon t (λ same. other (is.type ∙ same)) in
+    omega (arith, is.size, long, scalar.1.1 fits)

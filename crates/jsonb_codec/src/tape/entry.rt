@@ -2,14 +2,12 @@
 
 ghost use Rattle.std.specs.Prelude.{◌≡◌, ◌+◌, ◌<◌, ◌≤◌, ◌^◌, IfSome, IfNone};
 
-use super::pieces::Piece;
 use crate::writer::measure::MAX_PAYLOAD;
 
-/// A value as it is stored: the type of its entry, and its payload, which has `size` bytes.
+/// A value: the type of its entry, and the length of its payload in bytes.
 #[derive(Clone, Copy)]
 pub struct Entry {
     pub type_code: u32,
-    pub piece: Piece,
     pub size: usize,
     ghost small: { type_code ≤ 0x70000000 },
 }

@@ -1,266 +1,194 @@
-//! What containers that are closed leave: bytes, and pieces that refer to them.
+//! What is stored of values that have been read: nothing of it is changed later.
 
-ghost use Rattle.std.specs.Prelude.{◌≡◌, ◌<◌, ◌≤◌, ◌++◌, ◌+◌, ◌^◌, ℕ, true, false, List, length};
-ghost use Rattle.std.specs.Prelude.{drop};
-ghost use Rattle.std.specs.Prelude.{IfErr, IfOk, OnOk};
-ghost use Rattle.jsonb_codec.specs.WordBytes.{word};
+ghost use Rattle.std.specs.Prelude.{◌≡◌, ◌<◌, ◌≤◌, ◌+◌, ◌^◌, ℕ, List, length, IfErr, IfOk, IfSome};
+ghost use Rattle.std.specs.Prelude.{[], OnOk};
 ghost use Rattle.jsonb_value.specs.declared.error.Error.TheVariants.{OutOfMemory};
 ghost use Rattle.jsonb_value.specs.Json.Syntax.{Entries, pairs};
-ghost use Rattle.jsonb_value.specs.NumCode.{number_payload};
-ghost use Rattle.jsonb_value.specs.Tree.{Tree, array, object, number, Ascend};
-ghost use Rattle.jsonb_value.specs.Value.{cow_bytes, trees_of};
-ghost use Rattle.jsonb_codec.specs.Tape.{TapeArrayIs, TapeMembersAre, IsMade, EntryIs, Grows};
-ghost use Rattle.jsonb_codec.specs.Tape.{PayloadsAre};
-ghost use Rattle.jsonb_codec.specs.Tape.{IsPushed, PieceIs, block_pieces, run_bytes};
+ghost use Rattle.jsonb_value.specs.Tree.{Ascend, Tree, array, object};
+ghost use Rattle.jsonb_value.specs.Value.{trees_of};
+ghost use Rattle.jsonb_value.specs.WellFormed.{AreTrees};
+ghost use Rattle.jsonb_codec.specs.WordBytes.{word};
+ghost use Rattle.jsonb_codec.specs.Shape.{AllFit, entries, key_payloads, payloads};
+ghost use Rattle.jsonb_codec.specs.Canon.{pairs_shapes};
+ghost use Rattle.jsonb_codec.specs.Keys.{IsKey, key_bytes};
+ghost use Rattle.jsonb_codec.specs.Tape.{AreKeyWordsIfFit, Grows, IsHeadIfFit, MembersAre};
+ghost use Rattle.jsonb_codec.specs.Tape.{StoresHead, shapes_of, values_of};
 
-use super::entry::Entry;
-use super::open_array::OpenArray;
-use super::open_object::Member;
-use super::pieces::{Block, Payloads, Piece, Run};
-use crate::constants::{
-    ARRAY_CONTAINER_TAG, CONTAINER_TAG, NUMBER_TAG, OBJECT_CONTAINER_TAG, STRING_TAG,
-};
-use crate::word::word_bytes;
+use super::key::{Key, bytes_of};
+use super::member::Member;
+use super::place::Place;
+use crate::constants::{ARRAY_CONTAINER_TAG, OBJECT_CONTAINER_TAG, STRING_TAG};
+use crate::word::{split_entry, word_bytes};
 use crate::writer::measure::{MAX_COUNT, MAX_PAYLOAD};
-use jsonb_value::{Error, Number};
+use jsonb_value::Error;
 use std::alloc::Global;
-use std::mem::replace;
 
-// The bytes of the keys, and of the entry words, of the values in a small object.
-const SMALL: usize = 64;
-
-/// The payloads of scalars, and the headers, entry words and keys of closed containers, as bytes;
-/// and the pieces of the payloads of closed containers.
+/// The payloads of scalars in the order of the text; the heads of closed containers: their headers,
+/// entry words and keys; the keys that were spelled with escapes; and the places inside objects
+/// whose keys did not ascend.
 #[derive(Drop)]
 pub struct Storage {
-    pub bytes: Vec<u8>,
-    pub closed: Vec<Piece>,
-    // The keys and values of an object while it is closed. They are kept for their memory.
-    keys: Vec<u8>,
-    values: OpenArray,
+    pub payload: Vec<u8>,
+    pub heads: Vec<u8>,
+    pub spelled: Vec<u8>,
+    pub moved: Vec<Place>,
 }
 
 impl Storage {
     /// Nothing.
-    pub fn new(alloc: Global) -> Storage {
+    pub fn new(alloc: Global) -> Storage
+        ensures { result.payload.items ≡ [] }
+    {
         Storage {
-            bytes: Vec::new(alloc),
-            closed: Vec::new(alloc),
-            keys: Vec::new(alloc),
-            values: OpenArray::new(alloc),
+            payload: Vec::new(alloc),
+            heads: Vec::new(alloc),
+            spelled: Vec::new(alloc),
+            moved: Vec::new(alloc),
         }
     }
 
-    /// Asks at once for the memory that a small text takes.
-    #[inline(never)]
-    pub fn reserve(&mut self) -> Result<(), Error>
-        ensures grows { OnOk result (Grows self.old self.new) }
+    // Appends a word to the heads.
+    #[inline(always)]
+    fn push_word(&mut self, number: u32) -> Result<(), Error>
+        ensures ok { OnOk result (StoresHead self.old self.new (word number)) }
         ensures memory { IfErr result (λ e. e ≡ OutOfMemory) }
     {
-        self.bytes.reserve(2 * SMALL)?;
-        self.keys.reserve(SMALL)?;
-        self.values.words.reserve(SMALL)?;
+        self.heads.extend_from_slice(&word_bytes(number))?;
         Ok(())
     }
 
-    /// Stores a scalar of this type and payload.
+    /// Stores the head of an array of items with these entry words. The answer is the length of its
+    /// payload. `None` if its count exceeds the limit.
     #[inline(always)]
-    pub fn scalar(&mut self, type_code: u32, payload: &[u8]) -> Result<Entry, Error>
-        requires { type_code ≤ 0x70000000 }
-        ensures grows { IfOk result (λ entry. Grows self.old self.new) }
-        ensures ok { IfOk result (λ entry. (entry.type_code ≡ type_code)
-            × ((entry.size ≡ length payload.now) × PieceIs self.new entry.piece payload.now)) }
+    pub fn push_array_head(&mut self, words: &[u8]) -> Result<Option<usize>, Error>
+        ensures grows { OnOk result (Grows self.old self.new) }
+        ensures ok { IfOk result (λ size. (front : List Tree) → AreTrees (trees_of front)
+            → AllFit (shapes_of front) → words.now ≡ entries (shapes_of front)
+            → IsHeadIfFit self.old self.new size (payloads (shapes_of front))
+            (array (trees_of front))) }
         ensures memory { IfErr result (λ e. e ≡ OutOfMemory) }
     {
-        let start = self.bytes.len();
-        self.bytes.extend_from_slice(payload)?;
-        Ok(self.leaf_since(type_code, start))
-    }
-
-    /// Stores a number.
-    #[inline(always)]
-    pub fn number(&mut self, value: Number) -> Result<Entry, Error>
-        ensures grows { IfOk result (λ entry. Grows self.old self.new) }
-        ensures ok { IfOk result (λ entry. EntryIs self.new entry (number value)) }
-        ensures memory { IfErr result (λ e. e ≡ OutOfMemory) }
-    {
-        let start = self.bytes.len();
-        let _ = value.compact_encode(&mut self.bytes)?;
-        Ok(self.leaf_since(NUMBER_TAG, start))
-    }
-
-    // The entry of a scalar whose payload was stored since `start`.
-    #[inline(always)]
-    fn leaf_since(&self, type_code: u32, start: usize) -> Entry
-        requires small { type_code ≤ 0x70000000 }
-        requires start { start ≤ length self.now.bytes.items }
-        ensures tag { result.type_code ≡ type_code }
-        ensures size { result.size ≡ length (drop start self.now.bytes.items) }
-        ensures piece { PieceIs self.now result.piece (drop start self.now.bytes.items) }
-    {
-        let run = self.since(start);
-        Entry {
-            type_code,
-            piece: Piece::Run(run),
-            size: run.end - run.start,
-        }
-    }
-
-    // The bytes that were stored since `start`.
-    #[inline(always)]
-    fn since(&self, start: usize) -> Run
-        requires { start ≤ length self.now.bytes.items }
-        ensures start { result.start ≡ start }
-        ensures end { result.end ≡ length self.now.bytes.items }
-        ensures bytes { run_bytes self.now result ≡ drop start self.now.bytes.items }
-    {
-        Run {
-            start,
-            end: self.bytes.len(),
-        }
-    }
-
-    /// The pieces of a block.
-    pub fn pieces(&self, block: Block) -> &[Piece]
-        requires { block.first + block.count ≤ length self.now.closed.items }
-        ensures { result.now ≡ block_pieces self.now block }
-    {
-        &self.closed[block.first..block.first + block.count]
-    }
-
-    /// Closes an array.
-    pub fn close_array(&mut self, parts: &mut OpenArray) -> Result<Option<Entry>, Error>
-        ensures grows { IfOk result (λ entry. Grows self.old self.new) }
-        ensures ok { IfOk result (λ entry. (front : List Tree)
-            → TapeArrayIs self.old parts.old front
-            → IsMade self.new entry (array (trees_of front))) }
-        ensures memory { IfErr result (λ e. e ≡ OutOfMemory) }
-    {
-        if !parts.fits {
+        let count = words.len() / 4;
+        if count > MAX_COUNT {
             return Ok(None);
         }
-        let count = parts.words.len() / 4;
-        let start = self.bytes.len();
         self.push_word(ARRAY_CONTAINER_TAG + count as u32)?;
-        self.bytes.extend_from_slice(&parts.words)?;
-        Ok(Some(self.close(start, &mut parts.payloads, parts.size)?))
+        self.heads.extend_from_slice(words)?;
+        Ok(Some(4 + words.len() + payloads_len(words)))
     }
 
-    /// Closes an object that has these members, in the order of their keys.
-    pub fn close_object(
-        &mut self,
-        alloc: Global,
-        members: &[Member<'_>],
-    ) -> Result<Option<Entry>, Error>
-        ensures grows { IfOk result (λ entry. Grows self.old self.new) }
-        ensures ok { IfOk result (λ entry. (front : Entries)
-            → TapeMembersAre self.old members.now front → Ascend (pairs front)
-            → IsMade self.new entry (object (pairs front))) }
+    /// Stores the head of an object of these members. The answer is the length of its payload.
+    /// `None` if its count, a key or a value exceeds its limit.
+    pub fn push_object_head(&mut self, members: &[Member<'_>]) -> Result<Option<usize>, Error>
+        requires { (base : ℕ) × ((ps : List Place) × ((front : Entries)
+            × MembersAre self.old base ps members.now front)) }
+        ensures grows { OnOk result (Grows self.old self.new) }
+        ensures ok { IfOk result (λ size. (base : ℕ) (ps : List Place) (front : Entries)
+            → MembersAre self.old base ps members.now front → Ascend (pairs front)
+            → IsHeadIfFit self.old self.new size (payloads (shapes_of (values_of front)))
+            (object (pairs front))) }
         ensures memory { IfErr result (λ e. e ≡ OutOfMemory) }
     {
         let count = members.len();
         if count > MAX_COUNT {
             return Ok(None);
         }
-        let start = self.bytes.len();
         self.push_word(OBJECT_CONTAINER_TAG + count as u32)?;
-        let mut keys = replace(&mut self.keys, Vec::new(alloc));
-        let mut values = replace(&mut self.values, OpenArray::new(alloc));
-        keys.clear();
-        values.clear();
+        let Some(size) = self.push_key_words(members)? else {
+            return Ok(None);
+        };
+        self.push_value_words(members)?;
+        self.push_keys(members)?;
+        Ok(Some(4 + 8 * count + size))
+    }
+
+    // Stores the entry words of the keys. The answer is the length of all keys and values. `None`
+    // if a key or a value exceeds its limit.
+    #[inline(always)]
+    fn push_key_words(&mut self, members: &[Member<'_>]) -> Result<Option<usize>, Error>
+        requires few { length members.now < 2 ^ 29 }
+        requires members { (base : ℕ) × ((ps : List Place) × ((front : Entries)
+            × MembersAre self.old base ps members.now front)) }
+        ensures most { IfOk result (λ size. IfSome size (λ n. n ≤ 2 ^ 58)) }
+        ensures grows { OnOk result (Grows self.old self.new) }
+        ensures ok { IfOk result (λ size. (base : ℕ) (ps : List Place) (front : Entries)
+            → MembersAre self.old base ps members.now front
+            → AreKeyWordsIfFit self.old self.new size (pairs_shapes (pairs front))) }
+        ensures memory { IfErr result (λ e. e ≡ OutOfMemory) }
+    {
+        let mut size = 0;
         for member in members {
-            if !self.push_member(&mut keys, &mut values, member)? {
+            let length = key_len(member.key, &self.spelled);
+            if member.word.is_none() || length > MAX_PAYLOAD {
                 return Ok(None);
             }
+            self.push_word(STRING_TAG + length as u32)?;
+            size += length + member.part.size;
         }
-        if !values.fits {
-            return Ok(None);
-        }
-        self.bytes.extend_from_slice(&values.words)?;
-        self.bytes.extend_from_slice(&keys)?;
-        let size = values.size;
-        let entry = self.close(start, &mut values.payloads, size)?;
-        self.keys = keys;
-        self.values = values;
-        Ok(Some(entry))
+        Ok(Some(size))
     }
 
-    // Stores the entry word of a member's key, and appends the key and the value to these. Returns
-    // whether an entry word can hold the length of the key.
+    // Stores the entry words of the values, all of which fit.
     #[inline(always)]
-    fn push_member(
-        &mut self,
-        keys: &mut Vec<u8>,
-        values: &mut OpenArray,
-        member: &Member<'_>,
-    ) -> Result<bool, Error>
-        ensures closed { IfOk result (λ fits. self.new.closed ≡ self.old.closed) }
-        ensures ok { IfOk result (λ fits. fits ≡ true
-            → IsPushed self.old self.new keys.old keys.new values.old values.new member.now) }
-        ensures long { IfOk result (λ fits. fits ≡ false → Grows self.old self.new
-            × (2 ^ 28 ≤ length (cow_bytes member.now.key))) }
+    fn push_value_words(&mut self, members: &[Member<'_>]) -> Result<(), Error>
+        ensures grows { OnOk result (Grows self.old self.new) }
+        ensures ok { OnOk result ((base : ℕ) (ps : List Place) (front : Entries)
+            → MembersAre self.old base ps members.now front → AllFit (pairs_shapes (pairs front))
+            → StoresHead self.old self.new (entries (pairs_shapes (pairs front)))) }
         ensures memory { IfErr result (λ e. e ≡ OutOfMemory) }
     {
-        let key = member.key.as_str();
-        if key.len() > MAX_PAYLOAD {
-            return Ok(false);
+        for member in members {
+            if let Some(word) = member.word {
+                self.push_word(word)?;
+            }
         }
-        self.push_word(STRING_TAG + key.len() as u32)?;
-        keys.extend_from_slice(key.as_bytes())?;
-        values.push(member.entry)?;
-        Ok(true)
-    }
-
-    // Stores a word.
-    #[inline(always)]
-    fn push_word(&mut self, number: u32) -> Result<(), Error>
-        ensures ok { OnOk result ((self.new.bytes.items ≡ self.old.bytes.items ++ word number)
-            × (self.new.closed ≡ self.old.closed)) }
-        ensures memory { IfErr result (λ e. e ≡ OutOfMemory) }
-    {
-        self.bytes.extend_from_slice(&word_bytes(number))?;
         Ok(())
     }
 
-    // Closes a container, whose header, entry words and keys were stored since `start`.
-    fn close(&mut self, start: usize, payloads: &mut Payloads, size: usize) -> Result<Entry, Error>
-        requires start { start < length self.old.bytes.items }
-        requires size { size ≤ 2 ^ 57 }
-        ensures grows { IfOk result (λ entry. Grows self.old self.new) }
-        ensures tag { IfOk result (λ entry. entry.type_code ≡ CONTAINER_TAG) }
-        ensures ok { IfOk result (λ entry. (p : List ℕ) → PayloadsAre self.old payloads.old p
-            → size ≡ length p
-            → (entry.size ≡ length (drop start self.old.bytes.items ++ p))
-            × PieceIs self.new entry.piece (drop start self.old.bytes.items ++ p)) }
+    // Stores the keys.
+    #[inline(always)]
+    fn push_keys(&mut self, members: &[Member<'_>]) -> Result<(), Error>
+        requires { (base : ℕ) × ((ps : List Place) × ((front : Entries)
+            × MembersAre self.old base ps members.now front)) }
+        ensures grows { OnOk result (Grows self.old self.new) }
+        ensures ok { OnOk result ((base : ℕ) (ps : List Place) (front : Entries)
+            → MembersAre self.old base ps members.now front
+            → StoresHead self.old self.new (key_payloads (pairs_shapes (pairs front)))) }
         ensures memory { IfErr result (λ e. e ≡ OutOfMemory) }
     {
-        let head = self.since(start);
-        let size = size + (head.end - head.start);
-        payloads.end_run()?;
-        if payloads.pieces.is_empty() {
-            return Ok(container(Piece::Run(head), size));
+        for member in members {
+            self.heads
+                .extend_from_slice(bytes_of(member.key, &self.spelled))?;
         }
-        let first = self.closed.len();
-        self.closed.push(Piece::Run(head))?;
-        self.closed.extend_from_slice(&payloads.pieces)?;
-        let block = Block {
-            first,
-            count: payloads.pieces.len() + 1,
-            size,
-        };
-        Ok(container(Piece::Block(block), size))
+        Ok(())
     }
 }
 
-// The entry of a container.
-fn container(piece: Piece, size: usize) -> Entry
-    ensures tag { result.type_code ≡ CONTAINER_TAG }
-    ensures piece { result.piece ≡ piece }
-    ensures size { result.size ≡ size }
+// The length of a key.
+#[inline(always)]
+fn key_len(key: Key<'_>, spelled: &[u8]) -> usize
+    requires { IsKey spelled.now key }
+    ensures { result ≡ length (key_bytes spelled.now key.entry) }
 {
-    Entry {
-        type_code: CONTAINER_TAG,
-        piece,
-        size,
+    match key {
+        Key::Text(text) => text.len(),
+        Key::Spelled { start, end } => end - start,
     }
+}
+
+// The length of the payloads of entries with these words.
+#[inline(always)]
+fn payloads_len(words: &[u8]) -> usize
+    requires { length words.now < 2 ^ 31 }
+    ensures most { result ≤ 2 ^ 57 }
+    ensures ok { (front : List Tree) → AllFit (shapes_of front)
+        → words.now ≡ entries (shapes_of front) → result ≡ length (payloads (shapes_of front)) }
+{
+    let mut size = 0;
+    let mut left = words;
+    while let Some(entry) = split_entry(left) {
+        size += entry.number;
+        left = entry.rest;
+    }
+    size
 }

@@ -1,96 +1,105 @@
 //! Copying what is stored to the document.
 
-ghost use Rattle.std.specs.Prelude.{◌≡◌, ◌⊎◌, ◌++◌, ℕ, List, Err, IfErr, IfOk, OnOk};
+ghost use Rattle.std.specs.Prelude.{◌≡◌, ◌⊎◌, ◌++◌, ℕ, length, List, Err, IfErr, IfOk, OnOk};
 ghost use Rattle.jsonb_value.specs.declared.error.Error.TheVariants.{OutOfMemory, InvalidJsonb};
 ghost use Rattle.jsonb_value.specs.Tree.{Tree};
-ghost use Rattle.jsonb_codec.specs.Canon.{canon, Fits};
-ghost use Rattle.jsonb_codec.specs.Tape.{EntryIs, IsRun, PieceIs, PiecesAre, run_bytes};
+ghost use Rattle.jsonb_codec.specs.Canon.{canon, Fits, payload_of};
+ghost use Rattle.jsonb_codec.specs.Tape.{EntryIs, Joined};
 
 use super::entry::Entry;
-use super::pieces::{Piece, Run};
+use super::place::Place;
 use super::storage::Storage;
 use crate::constants::{CONTAINER_TAG, SCALAR_CONTAINER_TAG};
 use crate::word::word_bytes;
 use jsonb_value::Error;
 use std::alloc::Global;
 
-/// The document of a value: the payload of a container, or that of a scalar after its header and
-/// entry word. `InvalidJsonb` if the payload of a scalar exceeds its limit.
-pub fn write_document(alloc: Global, storage: &Storage, entry: Entry) -> Result<Vec<u8>, Error>
-    requires { (t : Tree) × EntryIs storage.now entry t }
-    ensures ok { IfOk result (λ document. (t : Tree) → EntryIs storage.now entry t
+/// The document of a value with these places: the payload of a container, or that of a scalar after
+/// its header and entry word. `InvalidJsonb` if the payload of a scalar exceeds its limit.
+pub fn write_document(
+    alloc: Global,
+    storage: &Storage,
+    places: &[Place],
+    entry: Entry,
+) -> Result<Vec<u8>, Error>
+    requires { (t : Tree) × (EntryIs entry t × Joined storage.now 0 places.now
+        (length storage.now.payload.items) (payload_of t)) }
+    ensures ok { IfOk result (λ document. (t : Tree) → EntryIs entry t
+        → Joined storage.now 0 places.now (length storage.now.payload.items) (payload_of t)
         → Fits t × (document.items ≡ canon t)) }
-    ensures past { result ≡ Err InvalidJsonb → (t : Tree) → EntryIs storage.now entry t
-        → Fits t → ⊥ }
+    ensures past { result ≡ Err InvalidJsonb → (t : Tree) → EntryIs entry t → Fits t → ⊥ }
     ensures only { IfErr result (λ e. (e ≡ InvalidJsonb) ⊎ (e ≡ OutOfMemory)) }
 {
     let mut out = Vec::new(alloc);
     if entry.type_code == CONTAINER_TAG {
         out.try_reserve(entry.size)?;
-        append_piece(alloc, &mut out, storage, entry.piece)?;
-        return Ok(out);
+    } else {
+        let Some(word) = entry.word() else {
+            return Err(Error::InvalidJsonb);
+        };
+        out.try_reserve(8 + entry.size)?;
+        out.extend_from_slice(&word_bytes(SCALAR_CONTAINER_TAG))?;
+        out.extend_from_slice(&word_bytes(word))?;
     }
-    let Some(word) = entry.word() else {
-        return Err(Error::InvalidJsonb);
+    let all = Left {
+        start: 0,
+        end: storage.payload.len(),
+        places,
     };
-    out.extend_from_slice(&word_bytes(SCALAR_CONTAINER_TAG))?;
-    out.extend_from_slice(&word_bytes(word))?;
-    append_piece(alloc, &mut out, storage, entry.piece)?;
+    append_payloads(alloc, &mut out, storage, all)?;
     Ok(out)
 }
 
-// Appends the bytes of a piece.
-fn append_piece(
-    alloc: Global,
-    out: &mut Vec<u8>,
-    storage: &Storage,
-    piece: Piece,
-) -> Result<(), Error>
-    requires { (p : List ℕ) × PieceIs storage.now piece p }
-    ensures ok { OnOk result ((p : List ℕ) → PieceIs storage.now piece p
-        → out.new.items ≡ out.old.items ++ p) }
-    ensures memory { IfErr result (λ e. e ≡ OutOfMemory) }
-{
-    match piece {
-        Piece::Run(run) => append_run(out, storage, run),
-        Piece::Block(block) => append_pieces(alloc, out, storage, storage.pieces(block)),
-    }
+// What is left to be copied: the payloads from `start` up to `end`, with these places.
+#[derive(Clone, Copy)]
+struct Left<'t> {
+    start: usize,
+    end: usize,
+    places: &'t [Place],
 }
 
-// Appends the bytes of the pieces, and of the blocks among them. The pieces that are left are kept
-// in a list, so that nested blocks take no stack.
-fn append_pieces(
+// Appends the payloads, and the heads and parts at their places. What is left is kept in a list, so
+// that nested parts take no stack.
+fn append_payloads(
     alloc: Global,
     out: &mut Vec<u8>,
     storage: &Storage,
-    pieces: &[Piece],
+    all: Left<'_>,
 ) -> Result<(), Error>
-    requires { (p : List ℕ) × PiecesAre storage.now pieces.now p }
-    ensures ok { OnOk result ((p : List ℕ) → PiecesAre storage.now pieces.now p
+    requires { (p : List ℕ) × Joined storage.now all.start all.places.now all.end p }
+    ensures ok { OnOk result ((p : List ℕ)
+        → Joined storage.now all.entry.start all.entry.places.now all.entry.end p
         → out.new.items ≡ out.old.items ++ p) }
     ensures memory { IfErr result (λ e. e ≡ OutOfMemory) }
 {
     let mut left = Vec::new(alloc);
-    left.push(pieces)?;
-    'lists: while let Some(pieces) = left.pop() {
-        let Some((piece, later)) = pieces.split_first() else {
+    let mut next = Some(all);
+    'parts: while let Some(now) = next {
+        let Some((place, places)) = now.places.split_first() else {
+            out.extend_from_slice(&storage.payload[now.start..now.end])?;
+            next = left.pop();
             continue;
         };
-        left.push(later)?;
-        match *piece {
-            Piece::Run(run) => append_run(out, storage, run)?,
-            Piece::Block(block) => left.push(storage.pieces(block))?,
+        match *place {
+            Place::Head(head) => {
+                out.extend_from_slice(&storage.payload[now.start..head.at])?;
+                out.extend_from_slice(&storage.heads[head.start..head.end])?;
+                next = Some(Left {
+                    start: head.until,
+                    end: now.end,
+                    places,
+                });
+            }
+            Place::Part(part) => {
+                left.push(Left { places, ..now })?;
+                next = Some(Left {
+                    start: part.start,
+                    end: part.end,
+                    places: &storage.moved[part.first..part.last],
+                });
+            }
+            Place::Open(_) => unreachable!(),
         }
     }
-    Ok(())
-}
-
-// Appends the bytes of a run.
-fn append_run(out: &mut Vec<u8>, storage: &Storage, run: Run) -> Result<(), Error>
-    requires { IsRun storage.now run }
-    ensures ok { OnOk result (out.new.items ≡ out.old.items ++ run_bytes storage.now run) }
-    ensures memory { IfErr result (λ e. e ≡ OutOfMemory) }
-{
-    out.extend_from_slice(&storage.bytes[run.start..run.end])?;
     Ok(())
 }

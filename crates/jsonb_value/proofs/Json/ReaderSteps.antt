@@ -636,3 +636,8 @@ holds_members rule is sink kinds s h some = by h.1.parts h.1.kinds_are h.1.held
         (insert_entry (slice_cmp nat_cmp) front key h.1.value, (contents ps, held))
     by (in_array n turns front ∷ ps) k held =
         inner_other kinds false true _ k some (λ e. false_true e)
+
+pub holds_key : {S : Type 0} (rule : Exponents) (is : Relation S) (sink : S) (kinds : List Bool)
+    (s : List ℕ) → (target : Option Tree) × IsAtKey rule is target sink kinds s
+    → (front : Entries) × ((cs : List Content) × is sink (going (members front ∷ cs)))
+holds_key rule is sink kinds s h = (h.1.front, (contents h.1.parts, h.1.held))

@@ -3,7 +3,6 @@
 use crate::error::Error;
 use crate::number::Number;
 use crate::parser::sink::Sink;
-use std::borrow::CowStr;
 
 /// Keeps nothing of a text: for a reader that asks only whether the text is JSON.
 #[derive(Clone, Copy)]
@@ -26,11 +25,19 @@ impl<'a> Sink<'a> for Nothing {
         Ok(())
     }
 
-    fn string(&mut self, _content: CowStr<'a>) -> Result<(), Error> {
+    fn string(&mut self, _content: &'a str) -> Result<(), Error> {
         Ok(())
     }
 
-    fn key(&mut self, _content: CowStr<'a>) -> Result<(), Error> {
+    fn spelled(&mut self, _content: &str) -> Result<(), Error> {
+        Ok(())
+    }
+
+    fn key(&mut self, _content: &'a str) -> Result<(), Error> {
+        Ok(())
+    }
+
+    fn spelled_key(&mut self, _content: &str) -> Result<(), Error> {
         Ok(())
     }
 

@@ -4,16 +4,16 @@
 ghost use Rattle.std.specs.Prelude.{◌≡◌, ℕ, ◌<◌, ◌≤◌, List, [], ◌∷◌, length, chars, Option, Some};
 ghost use Rattle.std.specs.Prelude.{IfOk, IfErr, OnOk, OnErr};
 ghost use Rattle.jsonb_value.specs.declared.parser.number.Exponents.{Exponents};
-ghost use Rattle.jsonb_value.specs.Tree.{Tree};
-ghost use Rattle.jsonb_value.specs.Reader.Gives.{Fails, Gives};
+ghost use Rattle.jsonb_value.specs.Tree.{Tree, text as text_tree};
+ghost use Rattle.jsonb_value.specs.Reader.Gives.{Fails, FailsString, Gives, GivesString};
 ghost use Rattle.jsonb_value.specs.Reader.Kind.{kind_view};
 ghost use Rattle.jsonb_value.specs.Reader.OpenKinds.{kinds_held};
 ghost use Rattle.jsonb_value.specs.Reader.Reading.{read_document, read_word, kind_begun};
 ghost use Rattle.jsonb_value.specs.Reader.Resume.{Adds, AddsKey, IsAtValue, IsAfterValue};
 ghost use Rattle.jsonb_value.specs.Reader.Resume.{IsAtKey};
 ghost use Rattle.jsonb_value.specs.Reader.IsAt.{IsAtStep, left};
-ghost use Rattle.jsonb_value.specs.Reader.Resume.{going, whole};
-ghost use Rattle.jsonb_value.specs.Json.Syntax.{JsonText};
+ghost use Rattle.jsonb_value.specs.Reader.Resume.{Content, going, members, whole};
+ghost use Rattle.jsonb_value.specs.Json.Syntax.{Entries, JsonText};
 ghost use Rattle.jsonb_value.specs.Json.Characters.{open_bracket, open_brace};
 
 use crate::error::Error;
@@ -21,7 +21,7 @@ use crate::parser::cursor::{after_all, after_char, skip_blank, split_first};
 use crate::parser::number::{Exponents, read_number};
 use crate::parser::open_kinds::OpenKinds;
 use crate::parser::sink::Sink;
-use crate::parser::string::read_string;
+use crate::parser::string::{read_escapes, split_plain};
 use std::alloc::Global;
 
 // The kind of a value, known from its first character.
@@ -69,6 +69,52 @@ pub enum Step<'a> {
     After(&'a str),
     /// Nothing: the text ended after its value.
     End,
+}
+
+// Reads a string after its opening quote, for the sink; returns the text after its closing quote.
+#[inline(always)]
+fn read_string<'a, S: Sink<'a>>(
+    sink: &mut S,
+    content: &mut String,
+    text: &'a str,
+) -> Result<&'a str, Error>
+    ensures ok { IfOk result (λ after. (string : List ℕ)
+        × (GivesString (chars text.now) string (chars after.now)
+        × Adds S.is sink.old sink.new (text_tree string))) }
+    ensures err { IfErr result (FailsString (chars text.now)) }
+{
+    let (front, rest) = split_plain(text);
+    if let Some(after) = after_char(rest, '"') {
+        sink.string(front)?;
+        return Ok(after);
+    }
+    let after = read_escapes(content, front, rest)?;
+    sink.spelled(content.as_str())?;
+    Ok(after)
+}
+
+// Reads a key after its opening quote, likewise.
+#[inline(always)]
+fn read_name<'a, S: Sink<'a>>(
+    sink: &mut S,
+    content: &mut String,
+    text: &'a str,
+) -> Result<&'a str, Error>
+    requires { (front : Entries) × ((cs : List Content)
+        × S.is sink.old (going (members front ∷ cs))) }
+    ensures ok { IfOk result (λ after. (key : List ℕ)
+        × (GivesString (chars text.now) key (chars after.now)
+        × AddsKey S.is sink.old sink.new key)) }
+    ensures err { IfErr result (FailsString (chars text.now)) }
+{
+    let (front, rest) = split_plain(text);
+    if let Some(after) = after_char(rest, '"') {
+        sink.key(front)?;
+        return Ok(after);
+    }
+    let after = read_escapes(content, front, rest)?;
+    sink.spelled_key(content.as_str())?;
+    Ok(after)
 }
 
 // Reads what follows a value: a comma, the end of its container, or the end of the text.
@@ -122,9 +168,9 @@ fn go_on<'a, S: Sink<'a>>(
 
 // Reads a scalar, or the beginning of a container.
 fn begin<'a, S: Sink<'a>>(
-    alloc: Global,
     sink: &mut S,
     kinds: &mut OpenKinds,
+    content: &mut String,
     text: &'a str,
     exponents: Exponents,
 ) -> Result<Step<'a>, Error>
@@ -160,8 +206,7 @@ fn begin<'a, S: Sink<'a>>(
             Ok(Step::After(after))
         }
         Kind::String => {
-            let (content, after) = read_string(alloc, rest)?;
-            sink.string(content)?;
+            let after = read_string(sink, content, rest)?;
             Ok(Step::After(after))
         }
         Kind::Number => {
@@ -231,9 +276,9 @@ fn begin_object<'a, S: Sink<'a>>(
 
 // Reads a key and its colon.
 fn read_key<'a, S: Sink<'a>>(
-    alloc: Global,
     sink: &mut S,
     kinds: &OpenKinds,
+    content: &mut String,
     text: &'a str,
 ) -> Result<Step<'a>, Error>
     requires { (rule : Exponents) × ((target : Option Tree)
@@ -249,11 +294,10 @@ fn read_key<'a, S: Sink<'a>>(
     let Some(opened) = after_char(skip_blank(text), '"') else {
         return Err(Error::InvalidJson);
     };
-    let (key, after) = read_string(alloc, opened)?;
+    let after = read_name(sink, content, opened)?;
     let Some(later) = after_char(skip_blank(after), ':') else {
         return Err(Error::InvalidJson);
     };
-    sink.key(key)?;
     Ok(Step::Value(skip_blank(later)))
 }
 
@@ -271,11 +315,12 @@ pub fn read_text<'a, S: Sink<'a>>(
     ensures err { IfErr result (λ e. Fails e (read_document exponents (chars text.now))) }
 {
     let mut kinds = OpenKinds::new(alloc);
+    let mut content = String::new(alloc);
     let mut step = Step::Value(skip_blank(text));
     'steps: loop {
         step = match step {
-            Step::Value(rest) => begin(alloc, sink, &mut kinds, rest, exponents)?,
-            Step::Key(rest) => read_key(alloc, sink, &kinds, rest)?,
+            Step::Value(rest) => begin(sink, &mut kinds, &mut content, rest, exponents)?,
+            Step::Key(rest) => read_key(sink, &kinds, &mut content, rest)?,
             Step::After(rest) => go_on(sink, &mut kinds, rest)?,
             Step::End => return Ok(()),
         };

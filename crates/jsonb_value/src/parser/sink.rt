@@ -4,14 +4,13 @@ ghost use Rattle.std.specs.Prelude.{◌≡◌, List, [], ◌∷◌, OnOk, IfErr}
 ghost use Rattle.jsonb_value.specs.declared.error.Error.TheVariants.{OutOfMemory};
 ghost use Rattle.jsonb_value.specs.Tree.{Tree, array, object, no_trees, null, boolean, number};
 ghost use Rattle.jsonb_value.specs.Tree.{text};
-ghost use Rattle.jsonb_value.specs.Value.{trees_of, cow_bytes};
+ghost use Rattle.jsonb_value.specs.Value.{trees_of};
 ghost use Rattle.jsonb_value.specs.Json.Syntax.{Entries, pairs};
 ghost use Rattle.jsonb_value.specs.Reader.Resume.{State, going, Content, items, members, put};
 ghost use Rattle.jsonb_value.specs.Reader.Resume.{Adds, AddsKey};
 
 use crate::error::Error;
 use crate::number::Number;
-use std::borrow::CowStr;
 
 /// Receives what the reader meets, in order: scalars, keys before their values, and where arrays
 /// and objects begin and end. Each call fails only if an allocation does.
@@ -33,16 +32,28 @@ pub trait Sink<'a> {
         ensures ok { OnOk result (Adds is self.old self.new (number value)) }
         ensures memory { IfErr result (λ e. e ≡ OutOfMemory) };
 
-    /// A string, borrowed from the text if it has no escapes.
-    fn string(&mut self, content: CowStr<'a>) -> Result<(), Error>
-        ensures ok { OnOk result (Adds is self.old self.new (text (cow_bytes content.entry))) }
+    /// A string without escapes, as it stands in the text.
+    fn string(&mut self, content: &'a str) -> Result<(), Error>
+        ensures ok { OnOk result (Adds is self.old self.new (text content.now)) }
         ensures memory { IfErr result (λ e. e ≡ OutOfMemory) };
 
-    /// The key whose value comes next.
-    fn key(&mut self, content: CowStr<'a>) -> Result<(), Error>
+    /// A string with escapes: its content, without them.
+    fn spelled(&mut self, content: &str) -> Result<(), Error>
+        ensures ok { OnOk result (Adds is self.old self.new (text content.now)) }
+        ensures memory { IfErr result (λ e. e ≡ OutOfMemory) };
+
+    /// The key whose value comes next, without escapes, as it stands in the text.
+    fn key(&mut self, content: &'a str) -> Result<(), Error>
         requires { (front : Entries) × ((cs : List Content)
             × is self.old (going (members front ∷ cs))) }
-        ensures ok { OnOk result (AddsKey is self.old self.new (cow_bytes content.entry)) }
+        ensures ok { OnOk result (AddsKey is self.old self.new content.now) }
+        ensures memory { IfErr result (λ e. e ≡ OutOfMemory) };
+
+    /// The key whose value comes next, with escapes: its content, without them.
+    fn spelled_key(&mut self, content: &str) -> Result<(), Error>
+        requires { (front : Entries) × ((cs : List Content)
+            × is self.old (going (members front ∷ cs))) }
+        ensures ok { OnOk result (AddsKey is self.old self.new content.now) }
         ensures memory { IfErr result (λ e. e ≡ OutOfMemory) };
 
     /// An array begins.

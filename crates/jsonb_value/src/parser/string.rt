@@ -1,18 +1,16 @@
 //! The parser of strings; the opening quote has been read.
 
-ghost use Rattle.std.specs.Prelude.{◌≡◌, ℕ, ◌<◌, ◌++◌, true, [], Some, None, chars, length, IfSome};
-ghost use Rattle.std.specs.Prelude.{IfOk, IfErr};
+ghost use Rattle.std.specs.Prelude.{◌≡◌, ℕ, ◌<◌, ◌++◌, true, Some, None, chars, length, IfSome};
+ghost use Rattle.std.specs.Prelude.{IfErr, OnOk};
 ghost use Rattle.std.specs.Prelude.{option_map, string_bytes, encode_utf8_all};
-ghost use Rattle.jsonb_value.specs.Words.{list_all, cow_bytes, unit4, unit_value, escape_value};
+ghost use Rattle.jsonb_value.specs.Words.{list_all, unit4, unit_value, escape_value};
 ghost use Rattle.jsonb_value.specs.Words.{unit_character, pair_character, is_plain, read_unit};
 ghost use Rattle.jsonb_value.specs.Words.{read_second, read_character, read_escape, read_piece};
 ghost use Rattle.jsonb_value.specs.Words.{read_text, Gives};
 
 use crate::error::Error;
-use crate::parser::cursor::{after_char, split_first};
+use crate::parser::cursor::split_first;
 use crate::runs::plain_len;
-use std::alloc::Global;
-use std::borrow::CowStr;
 
 // How many bytes are asked for at first for what follows the front of a string that has escapes.
 const ROOM_AFTER_FRONT: usize = 40;
@@ -135,9 +133,9 @@ fn read_piece(text: &str) -> Option<(char, &str)>
     }
 }
 
-// Splits off the longest prefix of unescaped characters.
+/// Splits off the longest prefix of unescaped characters.
 #[inline(always)]
-fn split_plain(text: &str) -> (&str, &str)
+pub fn split_plain(text: &str) -> (&str, &str)
     ensures plain { list_all is_plain (chars result.0.now) ≡ true }
     ensures whole { chars text.now ≡ chars result.0.now ++ chars result.1.now }
     ensures bytes { encode_utf8_all (chars result.0.now) ≡ result.0.now }
@@ -145,33 +143,34 @@ fn split_plain(text: &str) -> (&str, &str)
     text.split_at(plain_len(text.as_bytes()))
 }
 
-// The content of a string that has escapes, as far as its front, with room for more.
+// Makes `front` the whole content, with room for more.
 #[inline(always)]
-fn begin_content(alloc: Global, front: &str) -> Result<String, Error>
-    ensures ok { IfOk result (λ content. string_bytes content ≡ front.now) }
+fn begin_content(content: &mut String, front: &str) -> Result<(), Error>
+    ensures ok { OnOk result (string_bytes content.new ≡ front.now) }
     ensures memory { IfErr result (λ e. e ≡ Error.OutOfMemory) }
 {
-    let mut content = String::with_capacity(alloc, front.len() + ROOM_AFTER_FRONT)?;
+    content.clear();
+    content.reserve(front.len() + ROOM_AFTER_FRONT)?;
     content.push_str(front)?;
-    Ok(content)
+    Ok(())
 }
 
-// Reads the rest of a string up to its closing quote and appends it to `front`; returns the text
-// after the quote.
+/// Reads the rest of a string up to its closing quote, and makes `content` the whole string, which
+/// begins with `front`; returns the text after the quote.
 #[inline(never)]
-fn read_escapes<'a>(alloc: Global, front: &str, text: &'a str) -> Result<(String, &'a str), Error>
+pub fn read_escapes<'a>(content: &mut String, front: &str, text: &'a str) -> Result<&'a str, Error>
     ensures { (n : ℕ) → length (chars text.now) < n
-        → Gives (λ found. (string_bytes found.0, chars found.1.now)) result
+        → Gives (λ after. (string_bytes content.new, chars after.now)) result
         (read_text n front.now (chars text.now)) }
 {
-    let mut content = begin_content(alloc, front)?;
+    begin_content(content, front)?;
     let mut rest = text;
     'pieces: loop {
         let Some((first, after)) = split_first(rest) else {
             return Err(Error::InvalidJson);
         };
         if first == '"' {
-            return Ok((content, after));
+            return Ok(after);
         }
         let Some((character, after)) = read_piece(rest) else {
             return Err(Error::InvalidJson);
@@ -181,20 +180,4 @@ fn read_escapes<'a>(alloc: Global, front: &str, text: &'a str) -> Result<(String
         content.push_str(plain)?;
         rest = after;
     }
-}
-
-/// Reads a string up to its closing quote; returns the text after the quote. A string without
-/// escapes is borrowed from the text.
-#[inline(always)]
-pub fn read_string<'a>(alloc: Global, text: &'a str) -> Result<(CowStr<'a>, &'a str), Error>
-    ensures { (n : ℕ) → length (chars text.now) < n
-        → Gives (λ found. (cow_bytes found.0, chars found.1.now)) result
-        (read_text n [] (chars text.now)) }
-{
-    let (front, rest) = split_plain(text);
-    if let Some(after) = after_char(rest, '"') {
-        return Ok((CowStr::Borrowed(front), after));
-    }
-    let (content, after) = read_escapes(alloc, front, rest)?;
-    Ok((CowStr::Owned(content), after))
 }

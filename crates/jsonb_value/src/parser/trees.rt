@@ -2,7 +2,8 @@
 
 ghost use Rattle.std.specs.Prelude.{◌≡◌, List, [], ◌∷◌, IfErr, OnOk};
 ghost use Rattle.jsonb_value.specs.Words.{Tree, tree_of, OutOfMemory};
-ghost use Rattle.jsonb_value.specs.Reader.Resume.{Content, going, whole, Adds};
+ghost use Rattle.jsonb_value.specs.Json.Syntax.{Entries};
+ghost use Rattle.jsonb_value.specs.Reader.Resume.{Content, going, whole, Adds, AddsKey, members};
 ghost use Rattle.jsonb_value.specs.Reader.TreesHeld.{ContainerHolds, trees_are};
 
 use crate::error::Error;
@@ -68,6 +69,20 @@ impl<'a> Trees<'a> {
         Ok(())
     }
 
+    // Takes the key whose value comes next.
+    fn set_key(&mut self, key: &str) -> Result<(), Error>
+        requires { (front : Entries) × ((cs : List Content)
+            × trees_are self.old (going (members front ∷ cs))) }
+        ensures ok { OnOk result (AddsKey trees_are self.old self.new key.now) }
+        ensures memory { IfErr result (λ e. e ≡ OutOfMemory) }
+    {
+        let Container::Object(members) = &mut self.innermost else {
+            unreachable!();
+        };
+        members.key = String::from_str(self.alloc, key)?;
+        Ok(())
+    }
+
     // Begins a container.
     fn begin(&mut self, container: Container<'a>) -> Result<(), Error>
         ensures ok { OnOk result ((content : Content) (cs : List Content)
@@ -111,16 +126,21 @@ impl<'a> Sink<'a> for Trees<'a> {
         self.add(Value::Number(value))
     }
 
-    fn string(&mut self, content: CowStr<'a>) -> Result<(), Error> {
-        self.add(Value::String(content))
+    fn string(&mut self, content: &'a str) -> Result<(), Error> {
+        self.add(Value::String(CowStr::Borrowed(content)))
     }
 
-    fn key(&mut self, content: CowStr<'a>) -> Result<(), Error> {
-        let Container::Object(members) = &mut self.innermost else {
-            unreachable!();
-        };
-        members.key = content.into_owned(self.alloc)?;
-        Ok(())
+    fn spelled(&mut self, content: &str) -> Result<(), Error> {
+        let content = String::from_str(self.alloc, content)?;
+        self.add(Value::String(CowStr::Owned(content)))
+    }
+
+    fn key(&mut self, content: &'a str) -> Result<(), Error> {
+        self.set_key(content)
+    }
+
+    fn spelled_key(&mut self, content: &str) -> Result<(), Error> {
+        self.set_key(content)
     }
 
     fn begin_array(&mut self) -> Result<(), Error> {

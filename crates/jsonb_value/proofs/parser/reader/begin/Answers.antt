@@ -73,27 +73,28 @@ returns-in_ok-truth-in-False-clause-shorter g c =
     (reads_kind c.args.exponents _ _ _ false_kind _ _ c.in-Some.ensures c.in-False.ensures (λ _ _.
     c.in_ok-after-in-False.ensures (boolean false)))
 
-pub returns-in_err-content-in-String-clause-err : goal.returns-in_err-content-in-String-clause-err
-returns-in_err-content-in-String-clause-err g c =
-    err_is _ _ _ c.from_residual-in_err-content-in-String.ensures.1
+pub returns-in_err-after-in-String-clause-err : goal.returns-in_err-after-in-String-clause-err
+returns-in_err-after-in-String-clause-err g c =
+    err_is _ _ _ c.from_residual-in_err-after-in-String.ensures.1
     (λ target h. scalar_fails c.args.exponents g.S.Sink.is target _ _ _ _ h
     (of_kind c.args.exponents (Fails _) _ _ _ string_kind c.in-Some.ensures c.in-String.ensures
     (λ n k.
-    string_fails n _ _ (c.in_err-content-in-String.ensures n k))))
+    string_fails n _ _ (c.in_err-after-in-String.ensures.err n k))))
 
-pub returns-in_ok-string-in-String-clause-ok : goal.returns-in_ok-string-in-String-clause-ok
-returns-in_ok-string-in-String-clause-ok g c = λ target h.
+pub returns-in_ok-after-in-String-clause-ok : goal.returns-in_ok-after-in-String-clause-ok
+returns-in_ok-after-in-String-clause-ok g c = λ target h.
+    let (string, (reads, adds)) = c.in_ok-after-in-String.ensures.ok in
     scalar_is_read c.args.exponents g.S.Sink.is target _ _ _ _ _ _ h
     (reads_kind c.args.exponents _ _ _ string_kind _ _ c.in-Some.ensures c.in-String.ensures (λ n k.
-    string_reads n _ _ _ (c.in_ok-content-in-String.ensures n k)))
-    c.in_ok-string-in-String.ensures.ok
+    string_reads n _ _ _ (reads n k))) adds
 
-pub returns-in_ok-string-in-String-clause-shorter :
-    goal.returns-in_ok-string-in-String-clause-shorter
-returns-in_ok-string-in-String-clause-shorter g c =
+pub returns-in_ok-after-in-String-clause-shorter :
+    goal.returns-in_ok-after-in-String-clause-shorter
+returns-in_ok-after-in-String-clause-shorter g c =
+    let (string, (reads, adds)) = c.in_ok-after-in-String.ensures.ok in
     past_scalar c.args.exponents _ _ _
     (reads_kind c.args.exponents _ _ _ string_kind _ _ c.in-Some.ensures c.in-String.ensures (λ n k.
-    string_reads n _ _ _ (c.in_ok-content-in-String.ensures n k)))
+    string_reads n _ _ _ (reads n k)))
 
 pub returns-in_default-read_number-clause-err : goal.returns-in_default-read_number-clause-err
 returns-in_default-read_number-clause-err g c = λ target h.

@@ -14,7 +14,7 @@ pieces-init c = (
     turns = n;
     enough = h;
     same = ap
-        (λ front. read_text n front (chars c.args.text.now)) (sym c.in_ok-content.ensures.ok);
+        (λ front. read_text n front (chars c.args.text.now)) (sym c.in_ok-begin_content.ensures.ok);
   },
 )
 

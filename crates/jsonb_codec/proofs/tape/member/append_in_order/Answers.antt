@@ -1,0 +1,70 @@
+use Rattle.std.proofs.Common.{rules, sym, ap, subst, ◌∙◌, ◌≡◌, ◌+◌, ◌++◌, ◌∷◌, [], arith, get_or}
+use Rattle.std.proofs.Common.{length, length-append, take}
+use Rattle.std.proofs.lemmas.List.{append_assoc, take_all, take_more}
+use Rattle.jsonb_codec.specs.Tape.{ArePicked}
+use Rattle.jsonb_codec.proofs.OnTape.Closing.{at_same}
+use Rattle.jsonb_codec.proofs.OnTape.Ordering.{at_front, pick_at, picked_snoc}
+use Rattle.jsonb_codec.proofs.tape.member.append_in_order.Goals as goal
+
+pub overflow_add-first : goal.overflow_add-first
+overflow_add-first c =
+    let (read, (es, (picks, count))) = c.requires in
+    let order = c.args.order.now in
+    let j = c.loop-index.index-index in
+    let i = get_or order j 0 in
+    let pick = pick_at read order es j i picks c.loop-index-test.true
+    (at_same order j 0 c.loop-index-test.true) in
+    omega (arith, pick.low, count, c.args.members.now.ok, c.args.members.now.small)
+
+pub index-member-requires : goal.index-member-requires
+index-member-requires c =
+    let (read, (es, (picks, count))) = c.requires in
+    let order = c.args.order.now in
+    let j = c.loop-index.index-index in
+    let i = get_or order j 0 in
+    let pick = pick_at read order es j i picks c.loop-index-test.true
+    (at_same order j 0 c.loop-index-test.true) in
+    let (picked, (grown, are)) = c.loop-index.invariant in
+    omega (
+      arith,
+      pick.low,
+      count,
+      ap length grown,
+      length-append c.args.members.now.items picked,
+      c.loop-index.members.ok,
+    )
+
+pub loop-index-preserved : goal.loop-index-preserved
+loop-index-preserved c =
+    let (read, (es, (picks, count))) = c.requires in
+    let order = c.args.order.now in
+    let j = c.loop-index.index-index in
+    let i = get_or order j 0 in
+    let pick = pick_at read order es j i picks c.loop-index-test.true
+    (at_same order j 0 c.loop-index-test.true) in
+    let (picked, (grown, are)) = c.loop-index.invariant in
+    let old = c.args.members.now.items in
+    let m = c.index-member.result.now in
+    let at : m ≡ get_or old (c.args.first + i) m =
+    c.index-member.ensures ∙ ap (λ xs. get_or xs (c.args.first + i) m) grown
+    ∙ at_front old picked (c.args.first + i) m (omega (arith, pick.low, count)) in
+    let more : c.push.new.self.items ≡ c.loop-index.members.items ++ m ∷ [] = search rules in (
+      picked ++ m ∷ [],
+      (
+        more ∙ ap (λ xs. xs ++ m ∷ []) grown ∙ append_assoc old picked (m ∷ []),
+        subst (λ xs. ArePicked old c.args.first xs (picked ++ m ∷ []))
+            (sym (take_more order j 0 c.loop-index-test.true))
+            (picked_snoc old c.args.first (take j order) picked i m are at),
+      ),
+    )
+
+pub returns-clause-ok : goal.returns-clause-ok
+returns-clause-ok c =
+    let (picked, (grown, are)) = c.loop-index.invariant in (
+      picked,
+      (
+        grown,
+        subst (λ xs. ArePicked c.args.members.now.items c.args.first xs picked)
+            (take_all c.loop-index.index-index c.args.order.now c.loop-index-test.false) are,
+      ),
+    )

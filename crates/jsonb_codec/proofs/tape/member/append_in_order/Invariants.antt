@@ -1,0 +1,9 @@
+use Rattle.std.proofs.Common.{◌≡◌, ◌++◌, List, take}
+use Rattle.jsonb_codec.specs.Tape.{ArePicked}
+use Rattle.jsonb_codec.specs.declared.tape.member.Member.{Member}
+use Rattle.jsonb_codec.proofs.tape.member.append_in_order.Given as goal
+
+abbrev pub invariant-loop-index : goal.invariant-loop-index
+invariant-loop-index l = (picked : List Member)
+    × ((l.members.items ≡ l.fn.members.items ++ picked)
+    × ArePicked l.fn.members.items l.first (take l.index-index l.fn.order) picked)

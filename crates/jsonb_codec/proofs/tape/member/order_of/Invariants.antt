@@ -1,0 +1,7 @@
+use Rattle.std.proofs.Common.{◌≡◌, ◌++◌, map}
+use Rattle.jsonb_codec.proofs.OnTape.Ordering.{number_of}
+use Rattle.jsonb_codec.proofs.tape.member.order_of.Given as goal
+
+abbrev pub invariant-loop-number : goal.invariant-loop-number
+invariant-loop-number l =
+    l.order.items ++ map number_of l.number-iterator ≡ map number_of l.initial.number-iterator
