@@ -20,5 +20,5 @@ pub use de::{Decoder, value_of};
 pub use document::{is_document, is_document_within, nests_deeper};
 pub use jentry::JEntry;
 pub use ser::{Encoder, JsonAstEncoder};
-pub use tape::encode_text;
+pub use tape::{encode_text, encode_text_within};
 pub use word::{read_header, read_jentry};

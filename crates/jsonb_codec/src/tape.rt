@@ -7,12 +7,13 @@
 //! where the text ends. Only an object whose keys do not ascend keeps the parts of its members, in
 //! the order of the keys. No step takes stack for the depth of the text.
 
-ghost use Rattle.std.specs.Prelude.{◌≡◌, ◌⊎◌, ◌≤◌, ◌<◌, ◌+◌, ◌++◌, List, [], ◌∷◌, ℕ, true, false};
+ghost use Rattle.std.specs.Prelude.{◌≡◌, ◌⊎◌, ◌↔◌, ◌≤◌, ◌<◌, ◌+◌, ◌++◌, List, [], ◌∷◌, ℕ, true, false};
 ghost use Rattle.std.specs.Prelude.{None, Err, chars, drop, length, take, IfErr, IfOk, IfNone};
 ghost use Rattle.std.specs.Prelude.{IfSome, OnOk, ◌^◌};
 ghost use Rattle.jsonb_value.specs.declared.error.Error.TheVariants.{OutOfMemory, InvalidJson};
 ghost use Rattle.jsonb_value.specs.declared.error.Error.TheVariants.{InvalidJsonb};
 ghost use Rattle.jsonb_value.specs.Json.Syntax.{Entries, JsonText, pairs};
+ghost use Rattle.jsonb_value.specs.TextDepth.{text_depth};
 ghost use Rattle.jsonb_value.specs.Tree.{Tree, object};
 ghost use Rattle.jsonb_value.specs.WellFormed.{IsTree};
 ghost use Rattle.jsonb_value.specs.Reader.Resume.{Content, going, items, members, at_key, put};
@@ -35,7 +36,8 @@ mod write;
 use crate::constants::{CONTAINER_TAG, FALSE_TAG, NULL_TAG, NUMBER_TAG, STRING_TAG, TRUE_TAG};
 use crate::word::word_bytes;
 use entry::Entry;
-use jsonb_value::{Error, Exponents, Number, Sink, read_text};
+use jsonb_value::layer::refusal_within;
+use jsonb_value::{Error, Exponents, Number, ParseError, Sink, read_text_within};
 use key::{Key, bytes_of, compare_keys, prefix_of};
 use member::{Member, append_in_order, order_of};
 use place::{Frame, Head, Kind, Part, Place};
@@ -501,8 +503,56 @@ pub fn encode_text(alloc: Global, text: &str, exponents: Exponents) -> Result<Ve
     ensures only { IfErr result
         (λ e. (e ≡ InvalidJson) ⊎ ((e ≡ InvalidJsonb) ⊎ (e ≡ OutOfMemory))) }
 {
+    // No more brackets are open than there are bytes.
+    encode_to_depth(alloc, text, exponents, text.len())
+}
+
+/// The canonical document of a JSON text that nests at most `depth` deep, as `encode_text` makes
+/// it. `TooDeep` exactly if more of its brackets are open at once, those in strings not counted,
+/// and before any other refusal; else `Refused` with the error of `encode_text`.
+pub fn encode_text_within(
+    alloc: Global,
+    text: &str,
+    exponents: Exponents,
+    depth: usize,
+) -> Result<Vec<u8>, ParseError>
+    ensures ok { IfOk result (λ document. (t : Tree) × (JsonText exponents (chars text.now) t
+        × (IsTree t × (Fits t × (document.items ≡ canon t))))) }
+    ensures deep { (result ≡ Err ParseError.TooDeep) ↔ (depth < text_depth text.now) }
+    ensures invalid { result ≡ Err (ParseError.Refused InvalidJson)
+        → (t : Tree) → JsonText exponents (chars text.now) t → ⊥ }
+    ensures past { result ≡ Err (ParseError.Refused InvalidJsonb)
+        → (t : Tree) × (JsonText exponents (chars text.now) t × (Fits t → ⊥)) }
+    ensures only { IfErr result (λ e. (e ≡ ParseError.TooDeep)
+        ⊎ ((e ≡ ParseError.Refused InvalidJson) ⊎ ((e ≡ ParseError.Refused InvalidJsonb)
+        ⊎ (e ≡ ParseError.Refused OutOfMemory)))) }
+{
+    match encode_to_depth(alloc, text, exponents, depth) {
+        Ok(document) => Ok(document),
+        Err(error) => Err(refusal_within(text.as_bytes(), depth, error)),
+    }
+}
+
+// The document of a text as `encode_text` makes it, if the text nests at most `depth` deep;
+// `InvalidJson` also if it is deeper.
+fn encode_to_depth(
+    alloc: Global,
+    text: &str,
+    exponents: Exponents,
+    depth: usize,
+) -> Result<Vec<u8>, Error>
+    ensures ok { IfOk result (λ document. (t : Tree) × (JsonText exponents (chars text.now) t
+        × (IsTree t × (Fits t × (document.items ≡ canon t))))) }
+    ensures within { IfOk result (λ document. text_depth text.now ≤ depth) }
+    ensures invalid { result ≡ Err InvalidJson → text_depth text.now ≤ depth
+        → (t : Tree) → JsonText exponents (chars text.now) t → ⊥ }
+    ensures past { result ≡ Err InvalidJsonb
+        → (t : Tree) × (JsonText exponents (chars text.now) t × (Fits t → ⊥)) }
+    ensures only { IfErr result
+        (λ e. (e ≡ InvalidJson) ⊎ ((e ≡ InvalidJsonb) ⊎ (e ≡ OutOfMemory))) }
+{
     let mut tape = Tape::new(alloc);
-    read_text(alloc, &mut tape, text, exponents)?;
+    read_text_within(alloc, &mut tape, text, exponents, depth)?;
     match tape.whole {
         Some(entry) => write_document(alloc, &tape.storage, &tape.places, entry),
         None => Err(Error::InvalidJsonb),

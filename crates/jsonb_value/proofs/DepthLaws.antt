@@ -1,7 +1,7 @@
 -- A text of JSON is as deep as what it spells, and its tree is no deeper.
 use Rattle.std.proofs.Common.{◌≡◌, ℕ, suc, ◌≤◌, ◌<◌, true, refl, sym, ap, ◌∙◌}
 use Rattle.std.proofs.Common.{List, [], ◌∷◌, ◌++◌, Some, arith, append-nil, inl, inr}
-use Rattle.std.proofs.Common.{chars, length, get_or}
+use Rattle.std.proofs.Common.{chars, length, get_or, subst}
 use Rattle.std.specs.Prelude.{IsErrAnd, Result, Ok, Err, max, ◌&&◌, encode_utf8, encode_utf8_all}
 use Rattle.std.specs.Prelude.{nat_lt}
 use Rattle.std.specs.Str.{IsUtf8}
@@ -18,7 +18,7 @@ use Rattle.jsonb_value.specs.declared.text_depth.ScanState.{ScanState}
 use Rattle.jsonb_value.specs.declared.text_depth.ScanState.TheVariants.{Outside, Inside, Escaped}
 use Rattle.jsonb_value.specs.declared.error.Error.{Error}
 use Rattle.jsonb_value.specs.declared.within.ParseError.{ParseError}
-use Rattle.jsonb_value.specs.declared.within.ParseError.TheVariants.{Refused}
+use Rattle.jsonb_value.specs.declared.within.ParseError.TheVariants.{Refused, TooDeep}
 use Rattle.jsonb_value.specs.Depth.{depth, depths, pair_depths}
 use Rattle.jsonb_value.specs.Tree.{Tree}
 use Rattle.jsonb_value.specs.Value.{trees_of}
@@ -64,7 +64,7 @@ inserted_depth front (e ∷ es) =
     let more = inserted_depth (insert_entry (slice_cmp nat_cmp) front e.0 e.1) es in
     omega arith
 
-some_depth : (a b : Tree) → Some a ≡ Some b → depth a ≡ depth b
+pub some_depth : (a b : Tree) → Some a ≡ Some b → depth a ≡ depth b
 some_depth a b e = let same : a ≡ b = cc in ap depth same
 
 mutual
@@ -206,7 +206,7 @@ characters_scanned (c ∷ cs) state level e =
           ∙ sym (wide_step state level c cs wide)
     ]
 
-bytes_scanned : (text : List ℕ) → IsUtf8 text → text_depth text ≡ text_depth (chars text)
+pub bytes_scanned : (text : List ℕ) → IsUtf8 text → text_depth text ≡ text_depth (chars text)
 bytes_scanned text utf8 =
     ap text_depth (sym (encodes-chars text utf8))
     ∙ characters_scanned (chars text) Outside 0 (scalars-chars text utf8)
@@ -227,8 +227,19 @@ spelled_within rule text t limit nests json within =
     let most = is.1 in
     omega arith
 
--- a refusal at any depth has the reader's own error
-pub its_error : {A : Type 0} (r : Result A ParseError) (e f : Error)
-    → IsErrAnd r (λ x. x ≡ Refused e) → r ≡ Err (Refused f) → e ≡ f
-its_error (Ok a) e f is same = absurd is
-its_error (Err x) e f is same = cc
+abbrev pub failed : (A : Type 0) → ParseError → Result A ParseError
+failed A r = Err r
+
+-- a refusal at any depth has the reader's own error, and the text is not too deep
+pub its_error : {A : Type 0} (read text : List ℕ) (r : ParseError) (e f : Error) (limit : ℕ)
+    → read ≡ text → (limit < text_depth read → r ≡ TooDeep)
+    → (text_depth read ≤ limit → r ≡ Refused e) → failed A r ≡ failed A (Refused f)
+    → (text_depth text ≤ limit) × (e ≡ f)
+its_error read text r e f limit is deep other same =
+    elim (bool_cases (nat_lt limit (text_depth read))) [
+      | inl h ↦ absurd (let far = deep (ltb-true limit (text_depth read) h) in let n : ⊥ = cc in n)
+      | inr h ↦
+          let near = ltb-false limit (text_depth read) h in
+          let own = other near in
+          (subst (λ (s : List ℕ). text_depth s ≤ limit) is near, cc)
+    ]

@@ -22,3 +22,5 @@ pub mod Documents
 pub mod Allowed
 pub mod Examples
 pub mod Scanned
+pub mod Levels
+pub mod Within

@@ -1,12 +1,25 @@
 -- How deep a text nests, character by character.
-use Rattle.std.proofs.Common.{◌≡◌, ◌↔◌, ℕ, ◌≤◌, ◌<◌, List, [], ◌∷◌, subst, arith}
+use Rattle.std.proofs.Common.{◌≡◌, ◌↔◌, ℕ, suc, ◌+◌, ◌≤◌, ◌<◌, List, [], ◌∷◌, subst, arith}
+use Rattle.std.proofs.Common.{length}
 use Rattle.jsonb_value.specs.declared.text_depth.ScanState.{ScanState}
 use Rattle.jsonb_value.specs.TextDepth.{state_after, level_after, greatest_level}
+
+one_more : (state : ScanState) (level c : ℕ) → level_after state level c ≤ suc level
+one_more state level c = grind arith
 
 pub level_within : (state : ScanState) (level : ℕ) (text : List ℕ)
     → level ≤ greatest_level state level text
 level_within state level [] = omega arith
 level_within state level (c ∷ text) = omega arith
+
+-- no more brackets than characters are open at once
+pub level_most : (state : ScanState) (level : ℕ) (text : List ℕ)
+    → greatest_level state level text ≤ level + length text
+level_most state level [] = omega arith
+level_most state level (c ∷ text) =
+    let more = level_most (state_after state c) (level_after state level c) text in
+    let one = one_more state level c in
+    omega (arith, more, one)
 
 module _ (A : Type 0) (state : ScanState) (level c depth : ℕ) (left rest : List ℕ)
     (cut : left ≡ c ∷ rest) (inside : level ≤ depth)

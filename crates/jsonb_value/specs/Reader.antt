@@ -9,3 +9,4 @@ pub mod Resume
 pub mod OpenKinds
 pub mod IsAt
 pub mod TreesHeld
+pub mod IsWithin

@@ -6,3 +6,4 @@ pub use crate::text::{write_number, write_string};
 pub use crate::text_depth::is_text_within;
 pub use crate::text_len::{extension_len, number_len, string_len};
 pub use crate::value::LEAF_PAIRS;
+pub use crate::within::refusal_within;

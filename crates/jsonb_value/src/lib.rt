@@ -25,7 +25,9 @@ pub use error::Error;
 pub use extension::{Date, ExtensionValue, Interval, Timestamp, TimestampTz};
 pub use number::{Decimal64, Decimal128, Number};
 pub use opaque::Opaque;
-pub use parser::{Exponents, Sink, is_json, parse_value, parse_value_with_exponents, read_text};
+pub use parser::{
+    Exponents, Sink, is_json, parse_value, parse_value_with_exponents, read_text, read_text_within,
+};
 pub use text::extension_text;
 pub use value::{Object, Value};
 pub use within::{ParseError, parse_value_with_exponents_within, parse_value_within};

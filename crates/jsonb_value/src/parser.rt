@@ -1,7 +1,8 @@
 //! The parser of JSON texts: one reader, which is a loop, and sinks for what it reads.
 
-ghost use Rattle.std.specs.Prelude.{◌≡◌, ◌⊎◌, ◌↔◌, IsTrue, Err, chars, IfOk, IfErr};
+ghost use Rattle.std.specs.Prelude.{◌≡◌, ◌≤◌, ◌⊎◌, ◌↔◌, IsTrue, Err, chars, IfOk, IfErr};
 ghost use Rattle.jsonb_value.specs.Depth.{depth as tree_depth};
+ghost use Rattle.jsonb_value.specs.TextDepth.{text_depth};
 ghost use Rattle.jsonb_value.specs.Words.{Tree, Json, JsonText, JsonWithExponents, tree_of};
 
 mod cursor;
@@ -19,7 +20,7 @@ use crate::value::Value;
 pub use cursor::{after_char, skip_blank};
 use nothing::Nothing;
 pub use number::Exponents;
-pub use reader::read_text;
+pub use reader::{read_text, read_text_within};
 pub use sink::Sink;
 use std::alloc::Global;
 use trees::Trees;
@@ -50,6 +51,25 @@ pub fn parse<'a>(alloc: Global, text: &'a str, exponents: Exponents) -> Result<V
 {
     let mut trees = Trees::new(alloc);
     read_text(alloc, &mut trees, text, exponents)?;
+    Ok(trees.into_value())
+}
+
+/// Parses a whole text as `parse` does, if at most `depth` of its brackets are open at once, those
+/// in strings not counted. `InvalidJson` also if it is deeper.
+pub fn parse_to_depth<'a>(
+    alloc: Global,
+    text: &'a str,
+    exponents: Exponents,
+    depth: usize,
+) -> Result<Value<'a>, Error>
+    ensures ok { IfOk result (λ value. JsonText exponents (chars text.now) (tree_of value)) }
+    ensures within { IfOk result (λ value. text_depth text.now ≤ depth) }
+    ensures invalid { result ≡ Err Error.InvalidJson → text_depth text.now ≤ depth
+        → (t : Tree) → JsonText exponents (chars text.now) t → ⊥ }
+    ensures errors { IfErr result (λ e. (e ≡ Error.InvalidJson) ⊎ (e ≡ Error.OutOfMemory)) }
+{
+    let mut trees = Trees::new(alloc);
+    read_text_within(alloc, &mut trees, text, exponents, depth)?;
     Ok(trees.into_value())
 }
 

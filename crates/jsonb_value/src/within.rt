@@ -6,7 +6,7 @@ ghost use Rattle.jsonb_value.specs.Words.{Refused, Tree, tree_of, Json, JsonText
 ghost use Rattle.jsonb_value.specs.Words.{JsonWithExponents, parse_error_name};
 
 use crate::error::Error;
-use crate::parser::{Exponents, parse};
+use crate::parser::{Exponents, parse_to_depth};
 use crate::text_depth::is_text_within;
 use crate::value::Value;
 use std::alloc::Global;
@@ -58,10 +58,23 @@ fn parse_within<'a>(
         ⊎ ((e ≡ ParseError.Refused Error.InvalidJson)
         ⊎ (e ≡ ParseError.Refused Error.OutOfMemory))) }
 {
-    if !is_text_within(text.as_bytes(), depth) {
-        return Err(ParseError::TooDeep);
+    match parse_to_depth(alloc, text, exponents, depth) {
+        Ok(value) => Ok(value),
+        Err(error) => Err(refusal_within(text.as_bytes(), depth, error)),
     }
-    Ok(parse(alloc, text, exponents)?)
+}
+
+/// Why a text was refused that was read within a depth: `TooDeep` if more of its brackets are open
+/// at once, those in strings not counted, else this error.
+pub fn refusal_within(text: &[u8], depth: usize, error: Error) -> ParseError
+    ensures deep { depth < text_depth text.now → result ≡ ParseError.TooDeep }
+    ensures other { text_depth text.now ≤ depth → result ≡ ParseError.Refused error }
+{
+    if is_text_within(text, depth) {
+        ParseError::Refused(error)
+    } else {
+        ParseError::TooDeep
+    }
 }
 
 /// The value of a whole text that nests at most `depth` deep, as `parse_value` reads it. Use this
@@ -69,10 +82,9 @@ fn parse_within<'a>(
 /// value does.
 ///
 /// `TooDeep` exactly if more brackets than `depth` are open at once, those in strings not counted.
-/// This is found before the text is read, so it comes before any other refusal. For JSON that
-/// number is the depth of its value, where values that a later equal key replaces count too
-/// (`json_laws`): a scalar has depth 0, an empty array or object 1, any other one more than its
-/// deepest child. `Refused` has the errors of `parse_value`: `InvalidJson` and `OutOfMemory`.
+/// It comes before any other refusal. For JSON that number is the depth of its value, where values
+/// that a later equal key replaces count too (`json_laws`): a scalar has depth 0, an empty array or
+/// object 1, any other one more than its deepest child. `Refused` has the errors of `parse_value`: `InvalidJson` and `OutOfMemory`.
 pub fn parse_value_within<'a>(
     alloc: Global,
     text: &'a str,

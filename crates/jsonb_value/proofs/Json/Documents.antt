@@ -9,7 +9,8 @@ use Rattle.jsonb_value.proofs.Json.Tests.{no_error}
 use Rattle.jsonb_value.proofs.Json.SpelledLaws.{document-again}
 use Rattle.jsonb_value.specs.declared.error.Error.{Error}
 use Rattle.jsonb_value.specs.declared.error.Error.TheVariants.{InvalidJson}
-use Rattle.jsonb_value.specs.Reader.Gives.{Fails}
+use Rattle.jsonb_value.specs.Reader.Gives.{Fails, FailsIf}
+use Rattle.jsonb_value.proofs.Json.ValueSteps.{fails_sure}
 
 pub nothing_read : (rule : Exponents) (s : List ℕ) (t : Tree) → read_document rule s ≡ None
     → JsonText rule s t → ⊥
@@ -23,3 +24,10 @@ refused rule s (Ok x) e is fails invalid t json = absurd is
 refused rule s (Err y) e is fails invalid t json =
     let same : y ≡ InvalidJson = cc in
     nothing_read rule s t (subst (λ z. Fails z (read_document rule s)) (sym is ∙ same) fails) json
+
+-- the same of a text that was read within a depth
+pub refused_within : (rule : Exponents) {X : Type 0} (A : Type 0) (s : List ℕ) (r : Result X Error)
+    (e : Error) → IsErrAnd r (λ y. y ≡ e) → FailsIf A e (read_document rule s)
+    → r ≡ Err InvalidJson → A → (t : Tree) → JsonText rule s t → ⊥
+refused_within rule A s r e is fails invalid a =
+    refused rule s r e is (fails_sure A e (read_document rule s) a fails) invalid

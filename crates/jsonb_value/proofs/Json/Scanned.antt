@@ -71,7 +71,7 @@ neutral_step : (c level : ℕ) (rest : List ℕ) → is_neutral c ≡ true
     → greatest_level Outside level (c ∷ rest) ≡ max level (greatest_level Outside level rest)
 neutral_step c level rest e = grind (arith, nat_tests)
 
-Passes-neutral : (s : List ℕ) → all_neutral s ≡ true → Passes s 0
+pub Passes-neutral : (s : List ℕ) → all_neutral s ≡ true → Passes s 0
 Passes-neutral [] e = Passes-nil
 Passes-neutral (c ∷ s) e = λ level rest.
     let parts = and_true _ _ e in
@@ -79,7 +79,7 @@ Passes-neutral (c ∷ s) e = λ level rest.
     let more = Passes-neutral s parts.1 level rest in
     omega arith
 
-blank_neutral : (s : List ℕ) → all_blank s ≡ true → all_neutral s ≡ true
+pub blank_neutral : (s : List ℕ) → all_blank s ≡ true → all_neutral s ≡ true
 blank_neutral [] e = refl
 blank_neutral (c ∷ s) e = grind (arith, nat_tests, blank_neutral s)
 
@@ -185,7 +185,7 @@ pieces_stay (p ∷ ps) bytes e =
     bind_then (pieces_meaning ps) _ _ more (λ bs are end.
     Stays-append (piece_text p) (pieces_text ps) (piece_stays p c is) (pieces_stay ps bs are)))
 
-string_passes : (ps : List Piece) (bytes : List ℕ) → pieces_meaning ps ≡ Some bytes
+pub string_passes : (ps : List Piece) (bytes : List ℕ) → pieces_meaning ps ≡ Some bytes
     → Passes (string_characters ps) 0
 string_passes ps bytes e = λ level rest.
     let inside = pieces_stay ps bytes e level (34 ∷ rest) in
@@ -228,7 +228,7 @@ one_less level rest =
     ap (λ (n : ℕ). max (suc level) (greatest_level Outside n rest)) down ∙ omega arith
 
 mutual
-  syntax_passes : (rule : Exponents) (x : Syntax) (t : Tree) → meaning rule x ≡ Some t
+  pub syntax_passes : (rule : Exponents) (x : Syntax) (t : Tree) → meaning rule x ≡ Some t
       → Passes (syntax_text x) (syntax_depth x)
   syntax_passes rule nothing t e = Passes-neutral (codes "null") refl
   syntax_passes rule (truth b) t e = Passes-neutral (syntax_text (truth b)) (truth_neutral b)

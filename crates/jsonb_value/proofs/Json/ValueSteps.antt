@@ -1,7 +1,7 @@
 -- Steps of reading values.
 use Rattle.std.proofs.Common.{◌≡◌, ℕ, zero, suc, ◌<◌, ◌≤◌, sym}
 use Rattle.std.proofs.Common.{ap, ◌∙◌, List, [], ◌∷◌, length, arith, Option, Some}
-use Rattle.std.proofs.Common.{None, Result}
+use Rattle.std.proofs.Common.{None, Result, Ok, Err, ◌⊎◌}
 use Rattle.std.specs.Prelude.{IsErrAnd}
 use Rattle.std.specs.Prelude.{IfErr}
 use Rattle.jsonb_value.specs.declared.parser.number.Exponents.{Exponents}
@@ -11,12 +11,36 @@ use Rattle.jsonb_value.specs.Reader.Reading.{skip_blank, expect, read_text}
 use Rattle.jsonb_value.specs.Reader.Reading.{read_value, read_kind, Kind, kind_begun}
 use Rattle.jsonb_value.proofs.Json.Shorter.{skip_shorter, expect_shorter, text_shorter}
 use Rattle.jsonb_value.specs.declared.error.Error.{Error}
-use Rattle.jsonb_value.specs.Reader.Gives.{Gives, Fails}
+use Rattle.jsonb_value.specs.Reader.Gives.{Gives, Fails, FailsIf}
+use Rattle.jsonb_value.specs.declared.error.Error.TheVariants.{InvalidJson, OutOfMemory}
 
 -- an error that is passed on
 pub fails_on : {Y Y' : Type 0} (e : Error) (read : Option Y) (other : Option Y')
     → (read ≡ None → other ≡ None) → Fails e read → Fails e other
 fails_on e read other handed g = grind arith
+
+pub fails_if : {Y : Type 0} (A : Type 0) (e : Error) (read : Option Y) → Fails e read
+    → FailsIf A e read
+fails_if A InvalidJson read fails = λ a. fails
+fails_if A OutOfMemory read fails = tt
+fails_if A e read fails = absurd (let h : ⊥ = grind arith in h)
+
+pub fails_sure : {Y : Type 0} (A : Type 0) (e : Error) (read : Option Y) → A → FailsIf A e read
+    → Fails e read
+fails_sure A e read a fails = grind arith
+
+pub all_sure : {X Y : Type 0} (A : Type 0) (r : Result X Error) (read : Option Y) → A
+    → IfErr r (λ e. FailsIf A e read) → IfErr r (λ e. Fails e read)
+all_sure A (Ok x) read a fails = tt
+all_sure A (Err e) read a fails = fails_sure A e read a fails
+
+pub fails_less : {Y : Type 0} (A B : Type 0) (e : Error) (read : Option Y) → (B → A)
+    → FailsIf A e read → FailsIf B e read
+fails_less A B e read less fails = grind arith
+
+pub fails_as : {Y : Type 0} (A : Type 0) (e : Error) (read : Option Y) → FailsIf A e read
+    → (e ≡ InvalidJson) ⊎ (e ≡ OutOfMemory)
+fails_as A e read fails = grind arith
 
 -- a value of the kind that its first character determines
 pub of_kind : (rule : Exponents) (P : Option (Tree × List ℕ) → Type 0) (s rest : List ℕ) (c : ℕ)

@@ -10,6 +10,12 @@ Fails InvalidJson read = read ≡ None
 Fails OutOfMemory read = ⊤
 Fails _ read = ⊥
 
+-- The same, where `InvalidJson` says so only if A holds.
+abbrev pub FailsIf : {Y : Type 0} → Type 0 → Error → Option Y → Type 0
+FailsIf A InvalidJson read = A → read ≡ None
+FailsIf A OutOfMemory read = ⊤
+FailsIf A _ read = ⊥
+
 -- A success is, seen through `view`, what is read; an error is as `Fails` says.
 abbrev pub Gives : {X Y : Type 0} → (X → Y) → Result X Error → Option Y → Type 0
 Gives view (Ok x) read = read ≡ Some (view x)

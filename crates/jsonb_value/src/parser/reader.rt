@@ -1,17 +1,19 @@
 //! The reader: a loop over the values, keys and brackets of a text, with a call of a sink for each.
 //! Nested values take no stack: of each open container it keeps whether it is an object.
 
-ghost use Rattle.std.specs.Prelude.{◌≡◌, ℕ, ◌<◌, ◌≤◌, List, [], ◌∷◌, length, chars, Option, Some};
+ghost use Rattle.std.specs.Prelude.{◌≡◌, ◌↔◌, ℕ, ◌<◌, ◌≤◌, List, [], ◌∷◌, length, chars, Option, Some};
 ghost use Rattle.std.specs.Prelude.{IfOk, IfErr, OnOk, OnErr};
 ghost use Rattle.jsonb_value.specs.declared.parser.number.Exponents.{Exponents};
 ghost use Rattle.jsonb_value.specs.Tree.{Tree, text as text_tree};
-ghost use Rattle.jsonb_value.specs.Reader.Gives.{Fails, FailsString, Gives, GivesString};
+ghost use Rattle.jsonb_value.specs.Reader.Gives.{Fails, FailsIf, FailsString, Gives, GivesString};
 ghost use Rattle.jsonb_value.specs.Reader.Kind.{kind_view};
 ghost use Rattle.jsonb_value.specs.Reader.OpenKinds.{kinds_held};
 ghost use Rattle.jsonb_value.specs.Reader.Reading.{read_document, read_word, kind_begun};
 ghost use Rattle.jsonb_value.specs.Reader.Resume.{Adds, AddsKey, IsAtValue, IsAfterValue};
 ghost use Rattle.jsonb_value.specs.Reader.Resume.{IsAtKey};
 ghost use Rattle.jsonb_value.specs.Reader.IsAt.{IsAtStep, left};
+ghost use Rattle.jsonb_value.specs.Reader.IsWithin.{IsWithin, IsStepWithin};
+ghost use Rattle.jsonb_value.specs.TextDepth.{text_depth};
 ghost use Rattle.jsonb_value.specs.Reader.Resume.{Content, going, members, whole};
 ghost use Rattle.jsonb_value.specs.Json.Syntax.{Entries, JsonText};
 ghost use Rattle.jsonb_value.specs.Json.Characters.{open_bracket, open_brace};
@@ -21,7 +23,7 @@ use crate::parser::cursor::{after_all, after_char, skip_blank, split_first};
 use crate::parser::number::{Exponents, read_number};
 use crate::parser::open_kinds::OpenKinds;
 use crate::parser::sink::Sink;
-use crate::parser::string::{read_escapes, split_plain};
+use crate::parser::string::{read_string, split_plain};
 use std::alloc::Global;
 
 // The kind of a value, known from its first character.
@@ -71,9 +73,9 @@ pub enum Step<'a> {
     End,
 }
 
-// Reads a string after its opening quote, for the sink; returns the text after its closing quote.
+// Gives the sink a string, from after its opening quote; returns the text after its closing quote.
 #[inline(always)]
-fn read_string<'a, S: Sink<'a>>(
+fn give_string<'a, S: Sink<'a>>(
     sink: &mut S,
     content: &mut String,
     text: &'a str,
@@ -88,14 +90,14 @@ fn read_string<'a, S: Sink<'a>>(
         sink.string(front)?;
         return Ok(after);
     }
-    let after = read_escapes(content, front, rest)?;
+    let after = read_string(content, front, rest)?;
     sink.spelled(content.as_str())?;
     Ok(after)
 }
 
-// Reads a key after its opening quote, likewise.
+// Gives the sink a key, likewise.
 #[inline(always)]
-fn read_name<'a, S: Sink<'a>>(
+fn give_key<'a, S: Sink<'a>>(
     sink: &mut S,
     content: &mut String,
     text: &'a str,
@@ -112,7 +114,7 @@ fn read_name<'a, S: Sink<'a>>(
         sink.key(front)?;
         return Ok(after);
     }
-    let after = read_escapes(content, front, rest)?;
+    let after = read_string(content, front, rest)?;
     sink.spelled_key(content.as_str())?;
     Ok(after)
 }
@@ -131,6 +133,8 @@ fn go_on<'a, S: Sink<'a>>(
     ensures err { IfErr result (λ e. (rule : Exponents) (target : Option Tree)
         → IsAfterValue rule S.is target sink.old (kinds_held kinds.old) (chars text.now)
         → Fails e target) }
+    ensures deep { IfOk result
+        (λ step. IsWithin kinds.old (chars text.now) ↔ IsStepWithin kinds.new step) }
     ensures shorter { IfOk result (λ step. left step ≤ length (chars text.now)) }
 {
     let rest = skip_blank(text);
@@ -181,7 +185,9 @@ fn begin<'a, S: Sink<'a>>(
         → IsAtStep exponents S.is target sink.new (kinds_held kinds.new) step) }
     ensures err { IfErr result (λ e. (target : Option Tree)
         → IsAtValue exponents S.is target sink.old (kinds_held kinds.old) (chars text.now)
-        → Fails e target) }
+        → FailsIf (IsWithin kinds.old (chars text.now)) e target) }
+    ensures deep { IfOk result
+        (λ step. IsWithin kinds.old (chars text.now) ↔ IsStepWithin kinds.new step) }
     ensures shorter { IfOk result (λ step. left step ≤ length (chars text.now)) }
 {
     let Some((first, rest)) = split_first(text) else {
@@ -206,7 +212,7 @@ fn begin<'a, S: Sink<'a>>(
             Ok(Step::After(after))
         }
         Kind::String => {
-            let after = read_string(sink, content, rest)?;
+            let after = give_string(sink, content, rest)?;
             Ok(Step::After(after))
         }
         Kind::Number => {
@@ -219,7 +225,8 @@ fn begin<'a, S: Sink<'a>>(
     }
 }
 
-// Reads the beginning of an array, and its end if it is empty.
+// Reads the beginning of an array, and its end if it is empty. An array that is one too deep is
+// refused.
 fn begin_array<'a, S: Sink<'a>>(
     sink: &mut S,
     kinds: &mut OpenKinds,
@@ -231,12 +238,18 @@ fn begin_array<'a, S: Sink<'a>>(
     ensures ok { IfOk result (λ step. (rule : Exponents) (target : Option Tree)
         → IsAtValue rule S.is target sink.old (kinds_held kinds.old) (chars text.now)
         → IsAtStep rule S.is target sink.new (kinds_held kinds.new) step) }
-    ensures memory { IfErr result (λ e. e ≡ Error.OutOfMemory) }
+    ensures err { IfErr result (λ e. (target : Option Tree)
+        → FailsIf (IsWithin kinds.old (chars text.now)) e target) }
+    ensures deep { IfOk result
+        (λ step. IsWithin kinds.old (chars text.now) ↔ IsStepWithin kinds.new step) }
     ensures shorter { IfOk result (λ step. left step ≤ length (chars text.now)) }
 {
     let Some((_, rest)) = split_first(text) else {
         unreachable!();
     };
+    if kinds.is_full() {
+        return Err(Error::InvalidJson);
+    }
     sink.begin_array()?;
     let inside = skip_blank(rest);
     if let Some(after) = after_char(inside, ']') {
@@ -247,7 +260,7 @@ fn begin_array<'a, S: Sink<'a>>(
     Ok(Step::Value(inside))
 }
 
-// Reads the beginning of an object, and its end if it is empty.
+// Reads the beginning of an object, likewise.
 fn begin_object<'a, S: Sink<'a>>(
     sink: &mut S,
     kinds: &mut OpenKinds,
@@ -259,12 +272,18 @@ fn begin_object<'a, S: Sink<'a>>(
     ensures ok { IfOk result (λ step. (rule : Exponents) (target : Option Tree)
         → IsAtValue rule S.is target sink.old (kinds_held kinds.old) (chars text.now)
         → IsAtStep rule S.is target sink.new (kinds_held kinds.new) step) }
-    ensures memory { IfErr result (λ e. e ≡ Error.OutOfMemory) }
+    ensures err { IfErr result (λ e. (target : Option Tree)
+        → FailsIf (IsWithin kinds.old (chars text.now)) e target) }
+    ensures deep { IfOk result
+        (λ step. IsWithin kinds.old (chars text.now) ↔ IsStepWithin kinds.new step) }
     ensures shorter { IfOk result (λ step. left step ≤ length (chars text.now)) }
 {
     let Some((_, rest)) = split_first(text) else {
         unreachable!();
     };
+    if kinds.is_full() {
+        return Err(Error::InvalidJson);
+    }
     sink.begin_object()?;
     if let Some(after) = after_char(skip_blank(rest), '}') {
         sink.end_object()?;
@@ -289,12 +308,14 @@ fn read_key<'a, S: Sink<'a>>(
     ensures err { IfErr result (λ e. (rule : Exponents) (target : Option Tree)
         → IsAtKey rule S.is target sink.old (kinds_held kinds.now) (chars text.now)
         → Fails e target) }
+    ensures deep { IfOk result
+        (λ step. IsWithin kinds.now (chars text.now) ↔ IsStepWithin kinds.now step) }
     ensures shorter { IfOk result (λ step. left step ≤ length (chars text.now)) }
 {
     let Some(opened) = after_char(skip_blank(text), '"') else {
         return Err(Error::InvalidJson);
     };
-    let after = read_name(sink, content, opened)?;
+    let after = give_key(sink, content, opened)?;
     let Some(later) = after_char(skip_blank(after), ':') else {
         return Err(Error::InvalidJson);
     };
@@ -314,7 +335,28 @@ pub fn read_text<'a, S: Sink<'a>>(
         × (JsonText exponents (chars text.now) t × S.is sink.new (whole t))) }
     ensures err { IfErr result (λ e. Fails e (read_document exponents (chars text.now))) }
 {
-    let mut kinds = OpenKinds::new(alloc);
+    // No more brackets are open than there are bytes.
+    read_text_within(alloc, sink, text, exponents, text.len())
+}
+
+/// Reads a whole text as `read_text` does, if at most `depth` of its brackets are open at once,
+/// those in strings not counted. `InvalidJson` also if the text is deeper, which is found where it
+/// is: `refusal_within` tells why a text was refused.
+pub fn read_text_within<'a, S: Sink<'a>>(
+    alloc: Global,
+    sink: &mut S,
+    text: &'a str,
+    exponents: Exponents,
+    depth: usize,
+) -> Result<(), Error>
+    requires { S.is sink.old (going []) }
+    ensures ok { OnOk result ((t : Tree)
+        × (JsonText exponents (chars text.now) t × S.is sink.new (whole t))) }
+    ensures within { OnOk result (text_depth text.now ≤ depth) }
+    ensures err { IfErr result (λ e. FailsIf (text_depth text.now ≤ depth) e
+        (read_document exponents (chars text.now))) }
+{
+    let mut kinds = OpenKinds::new(alloc, depth);
     let mut content = String::new(alloc);
     let mut step = Step::Value(skip_blank(text));
     'steps: loop {

@@ -158,7 +158,7 @@ fn begin_content(content: &mut String, front: &str) -> Result<(), Error>
 /// Reads the rest of a string up to its closing quote, and makes `content` the whole string, which
 /// begins with `front`; returns the text after the quote.
 #[inline(never)]
-pub fn read_escapes<'a>(content: &mut String, front: &str, text: &'a str) -> Result<&'a str, Error>
+pub fn read_string<'a>(content: &mut String, front: &str, text: &'a str) -> Result<&'a str, Error>
     ensures { (n : ℕ) → length (chars text.now) < n
         → Gives (λ after. (string_bytes content.new, chars after.now)) result
         (read_text n front.now (chars text.now)) }

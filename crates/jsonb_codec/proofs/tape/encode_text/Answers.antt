@@ -1,6 +1,8 @@
-use Rattle.jsonb_value.proofs.Json.Documents.{refused}
+use Rattle.std.proofs.Common.{arith}
+use Rattle.jsonb_value.specs.declared.text_depth.ScanState.TheVariants.{Outside}
+use Rattle.jsonb_value.proofs.ScanLaws.{level_most}
 use Rattle.jsonb_codec.proofs.tape.encode_text.Goals as goal
 
-pub returns-in_err-read_text-clause-invalid : goal.returns-in_err-read_text-clause-invalid
-returns-in_err-read_text-clause-invalid c =
-    refused c.args.exponents _ _ _ c.from_residual.ensures.1 c.in_err-read_text.ensures.err
+pub returns-clause-invalid : goal.returns-clause-invalid
+returns-clause-invalid c = λ is.
+    c.encode_to_depth.ensures.invalid is (omega (arith, level_most Outside 0 c.args.text.now))

@@ -1,26 +1,27 @@
-use Rattle.std.proofs.Common.{rules, sym, true, false}
+use Rattle.std.proofs.Common.{rules, sym, true, false, refl}
 use Rattle.jsonb_value.specs.Tree.{null, boolean}
 use Rattle.jsonb_value.specs.Reader.Gives.{Fails}
 use Rattle.jsonb_value.specs.declared.error.Error.TheVariants.{InvalidJson}
 use Rattle.jsonb_value.specs.Reader.Reading.{null_kind, true_kind, false_kind, string_kind}
 use Rattle.jsonb_value.specs.Reader.Reading.{number_kind}
-use Rattle.jsonb_value.proofs.Json.ValueSteps.{err_is, of_kind, reads_kind}
+use Rattle.jsonb_value.proofs.Json.ValueSteps.{err_is, fails_if, of_kind, reads_kind}
 use Rattle.jsonb_value.proofs.Json.ReaderSteps.{at_nothing, scalar_is_read, scalar_fails}
 use Rattle.jsonb_value.proofs.Json.ReaderSteps.{past_scalar}
 use Rattle.jsonb_value.proofs.Json.ReaderSteps.{number_reads, number_fails, string_reads}
 use Rattle.jsonb_value.proofs.Json.ReaderSteps.{string_fails}
+use Rattle.jsonb_value.proofs.Json.Within.{scalar_within}
 use Rattle.jsonb_value.proofs.parser.reader.begin.Goals as goal
 
 pub returns-in_default-clause-err : goal.returns-in_default-clause-err
-returns-in_default-clause-err g c = λ target h.
+returns-in_default-clause-err g c = λ target h within.
     at_nothing c.args.exponents g.S.Sink.is target _ _ _ h (search rules)
 
 pub returns-in_err-after-in-Null-clause-err : goal.returns-in_err-after-in-Null-clause-err
 returns-in_err-after-in-Null-clause-err g c =
     err_is _ _ _ c.from_residual.ensures.1
-    (λ target h. scalar_fails c.args.exponents g.S.Sink.is target _ _ _ _ h
+    (λ target h. fails_if _ _ _ (scalar_fails c.args.exponents g.S.Sink.is target _ _ _ _ h
     (of_kind c.args.exponents (Fails _) _ _ _ null_kind c.in-Some.ensures c.in-Null.ensures (λ _ _.
-    c.in_err-after-in-Null.ensures null)))
+    c.in_err-after-in-Null.ensures null))))
 
 pub returns-in_ok-null-in-Null-clause-ok : goal.returns-in_ok-null-in-Null-clause-ok
 returns-in_ok-null-in-Null-clause-ok g c = λ target h.
@@ -37,9 +38,9 @@ returns-in_ok-null-in-Null-clause-shorter g c =
 pub returns-in_err-after-in-True-clause-err : goal.returns-in_err-after-in-True-clause-err
 returns-in_err-after-in-True-clause-err g c =
     err_is _ _ _ c.from_residual-in_err-after-in-True.ensures.1
-    (λ target h. scalar_fails c.args.exponents g.S.Sink.is target _ _ _ _ h
+    (λ target h. fails_if _ _ _ (scalar_fails c.args.exponents g.S.Sink.is target _ _ _ _ h
     (of_kind c.args.exponents (Fails _) _ _ _ true_kind c.in-Some.ensures c.in-True.ensures (λ _ _.
-    c.in_err-after-in-True.ensures (boolean true))))
+    c.in_err-after-in-True.ensures (boolean true)))))
 
 pub returns-in_ok-truth-in-True-clause-ok : goal.returns-in_ok-truth-in-True-clause-ok
 returns-in_ok-truth-in-True-clause-ok g c = λ target h.
@@ -56,10 +57,10 @@ returns-in_ok-truth-in-True-clause-shorter g c =
 pub returns-in_err-after-in-False-clause-err : goal.returns-in_err-after-in-False-clause-err
 returns-in_err-after-in-False-clause-err g c =
     err_is _ _ _ c.from_residual-in_err-after-in-False.ensures.1
-    (λ target h. scalar_fails c.args.exponents g.S.Sink.is target _ _ _ _ h
+    (λ target h. fails_if _ _ _ (scalar_fails c.args.exponents g.S.Sink.is target _ _ _ _ h
     (of_kind c.args.exponents (Fails _) _ _ _ false_kind c.in-Some.ensures c.in-False.ensures
     (λ _ _.
-    c.in_err-after-in-False.ensures (boolean false))))
+    c.in_err-after-in-False.ensures (boolean false)))))
 
 pub returns-in_ok-truth-in-False-clause-ok : goal.returns-in_ok-truth-in-False-clause-ok
 returns-in_ok-truth-in-False-clause-ok g c = λ target h.
@@ -76,10 +77,10 @@ returns-in_ok-truth-in-False-clause-shorter g c =
 pub returns-in_err-after-in-String-clause-err : goal.returns-in_err-after-in-String-clause-err
 returns-in_err-after-in-String-clause-err g c =
     err_is _ _ _ c.from_residual-in_err-after-in-String.ensures.1
-    (λ target h. scalar_fails c.args.exponents g.S.Sink.is target _ _ _ _ h
+    (λ target h. fails_if _ _ _ (scalar_fails c.args.exponents g.S.Sink.is target _ _ _ _ h
     (of_kind c.args.exponents (Fails _) _ _ _ string_kind c.in-Some.ensures c.in-String.ensures
     (λ n k.
-    string_fails n _ _ (c.in_err-after-in-String.ensures.err n k))))
+    string_fails n _ _ (c.in_err-after-in-String.ensures.err n k)))))
 
 pub returns-in_ok-after-in-String-clause-ok : goal.returns-in_ok-after-in-String-clause-ok
 returns-in_ok-after-in-String-clause-ok g c = λ target h.
@@ -97,7 +98,7 @@ returns-in_ok-after-in-String-clause-shorter g c =
     string_reads n _ _ _ (reads n k)))
 
 pub returns-in_default-read_number-clause-err : goal.returns-in_default-read_number-clause-err
-returns-in_default-read_number-clause-err g c = λ target h.
+returns-in_default-read_number-clause-err g c = λ target h within.
     scalar_fails c.args.exponents g.S.Sink.is target _ _ _ InvalidJson h
     (of_kind c.args.exponents
     (Fails InvalidJson) _ _ _ number_kind c.in-Some.ensures c.in-Number.ensures (λ _ _.
@@ -116,3 +117,34 @@ returns-in_ok-number-in-Number-clause-shorter g c =
     past_scalar c.args.exponents _ _ _
     (reads_kind c.args.exponents _ _ _ number_kind _ _ c.in-Some.ensures c.in-Number.ensures (λ _ _.
     number_reads c.args.exponents _ _ _ _ _ c.in-Some.ensures (sym c.in-Some-read_number.ensures)))
+
+pub returns-in_ok-null-in-Null-clause-deep : goal.returns-in_ok-null-in-Null-clause-deep
+returns-in_ok-null-in-Null-clause-deep g c =
+    scalar_within _ c.args.exponents _ null _
+    (reads_kind c.args.exponents _ _ _ null_kind _ _ c.in-Some.ensures c.in-Null.ensures (λ _ _.
+    c.in_ok-after-in-Null.ensures null)) refl
+
+pub returns-in_ok-truth-in-True-clause-deep : goal.returns-in_ok-truth-in-True-clause-deep
+returns-in_ok-truth-in-True-clause-deep g c =
+    scalar_within _ c.args.exponents _ (boolean true) _
+    (reads_kind c.args.exponents _ _ _ true_kind _ _ c.in-Some.ensures c.in-True.ensures (λ _ _.
+    c.in_ok-after-in-True.ensures (boolean true))) refl
+
+pub returns-in_ok-truth-in-False-clause-deep : goal.returns-in_ok-truth-in-False-clause-deep
+returns-in_ok-truth-in-False-clause-deep g c =
+    scalar_within _ c.args.exponents _ (boolean false) _
+    (reads_kind c.args.exponents _ _ _ false_kind _ _ c.in-Some.ensures c.in-False.ensures (λ _ _.
+    c.in_ok-after-in-False.ensures (boolean false))) refl
+
+pub returns-in_ok-after-in-String-clause-deep : goal.returns-in_ok-after-in-String-clause-deep
+returns-in_ok-after-in-String-clause-deep g c =
+    let (string, (reads, adds)) = c.in_ok-after-in-String.ensures.ok in
+    scalar_within _ c.args.exponents _ _ _
+    (reads_kind c.args.exponents _ _ _ string_kind _ _ c.in-Some.ensures c.in-String.ensures (λ n k.
+    string_reads n _ _ _ (reads n k))) refl
+
+pub returns-in_ok-number-in-Number-clause-deep : goal.returns-in_ok-number-in-Number-clause-deep
+returns-in_ok-number-in-Number-clause-deep g c =
+    scalar_within _ c.args.exponents _ _ _
+    (reads_kind c.args.exponents _ _ _ number_kind _ _ c.in-Some.ensures c.in-Number.ensures (λ _ _.
+    number_reads c.args.exponents _ _ _ _ _ c.in-Some.ensures (sym c.in-Some-read_number.ensures))) refl

@@ -1,8 +1,10 @@
-use Rattle.std.proofs.Common.{ap, ◌∙◌}
+use Rattle.std.proofs.Common.{inr, ap, ◌∙◌, refl}
 use Rattle.jsonb_value.specs.Json.Characters.{close_brace}
 use Rattle.jsonb_value.specs.Reader.Reading.{expect}
 use Rattle.jsonb_value.proofs.Json.ReaderSteps.{object_begins, object_is_empty, first_is}
 use Rattle.jsonb_value.proofs.Json.ReaderSteps.{past_empty}
+use Rattle.jsonb_value.proofs.Json.Within.{empty_within, full_is_deeper, room}
+use Rattle.jsonb_value.proofs.Json.Within.{opens_unskipped_within}
 use Rattle.jsonb_value.proofs.parser.reader.begin_object.Goals as goal
 
 pub returns-in-Some-after_char-clause-ok : goal.returns-in-Some-after_char-clause-ok
@@ -23,3 +25,22 @@ returns-clause-ok g c = λ rule target h.
     (first_is _ _ _ _ c.in-Some.ensures c.requires.first)
     (c.in_default-after_char.ensures ∙ ap (expect close_brace) c.skip_blank.ensures)
     c.in_ok-begin_object.ensures.ok c.in_ok-push.ensures.ok
+
+pub returns-then-is_full-clause-err : goal.returns-then-is_full-clause-err
+returns-then-is_full-clause-err g c = λ target h.
+    absurd (full_is_deeper c.args.kinds.now _ _ _ (c.is_full.ensures.0 c.if-is_full.true) c.in-Some.ensures
+    (inr (first_is _ _ _ _ c.in-Some.ensures c.requires.first)) h)
+
+pub returns-in-Some-after_char-clause-deep : goal.returns-in-Some-after_char-clause-deep
+returns-in-Some-after_char-clause-deep g c =
+    empty_within c.args.kinds.now _ _ _ _ _ _ (room c.args.kinds.now _ c.is_full.ensures c.if-is_full.false)
+    c.in-Some.ensures (inr (first_is _ _ _ _ c.in-Some.ensures c.requires.first))
+    c.skip_blank.ensures c.in-Some-after_char.ensures (inr refl)
+
+pub returns-clause-deep : goal.returns-clause-deep
+returns-clause-deep g c =
+    opens_unskipped_within c.args.kinds.now _ _ _ _ _ c.in_ok-push.ensures.ok c.in_ok-push.ensures.limit
+    c.in-Some.ensures (inr (first_is _ _ _ _ c.in-Some.ensures c.requires.first))
+
+pub push-requires : goal.push-requires
+push-requires g c = room c.args.kinds.now _ c.is_full.ensures c.if-is_full.false

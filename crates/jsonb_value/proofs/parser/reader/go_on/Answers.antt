@@ -1,4 +1,6 @@
-use Rattle.std.proofs.Common.{rules, sym, ap, ◌∙◌, Some, refl}
+use Rattle.std.proofs.Common.{rules, sym, ap, ◌∙◌, Some, refl, inl, inr}
+use Rattle.jsonb_value.proofs.Json.Within.{ends_within, closes_within, member_comma_within}
+use Rattle.jsonb_value.proofs.Json.Within.{item_comma_within}
 use Rattle.jsonb_value.proofs.Json.ReaderSteps.{after_end, after_more, after_cut, after_item_comma}
 use Rattle.jsonb_value.proofs.Json.ReaderSteps.{after_member_comma, after_array, after_object}
 use Rattle.jsonb_value.proofs.Json.ReaderSteps.{after_no_array, after_no_object, past_mark}
@@ -45,7 +47,7 @@ returns-then-is_object-2-clause-ok g c = λ rule target h.
     after_object rule g.S.Sink.is target _ _ _ _ _ _ _ _ h
     (sym c.innermost-2.ensures ∙ c.in-Some-innermost-2.is ∙ ap Some c.if-is_object-2.true)
     c.skip_blank-rest.ensures c.in-Some.ensures c.if-mark-ne125.false
-    c.in_ok-end_object.ensures.ok c.pop.ensures
+    c.in_ok-end_object.ensures.ok c.pop.ensures.rest
 
 pub returns-then-mark-ne93-clause-err : goal.returns-then-mark-ne93-clause-err
 returns-then-mark-ne93-clause-err g c = λ rule target h.
@@ -58,7 +60,7 @@ returns-clause-ok g c = λ rule target h.
     after_array rule g.S.Sink.is target _ _ _ _ _ _ _ _ h
     (sym c.innermost-2.ensures ∙ c.in-Some-innermost-2.is ∙ ap Some c.if-is_object-2.false)
     c.skip_blank-rest.ensures c.in-Some.ensures c.if-mark-ne93.false
-    c.in_ok-end_array.ensures.ok c.pop-2.ensures
+    c.in_ok-end_array.ensures.ok c.pop-2.ensures.rest
 
 pub returns-then-is_object-clause-shorter : goal.returns-then-is_object-clause-shorter
 returns-then-is_object-clause-shorter g c =
@@ -88,3 +90,30 @@ end_array-requires g c κs = (
   holds_items _ g.S.Sink.is _ _ _ c.requires.1
       (sym c.innermost-2.ensures ∙ c.in-Some-innermost-2.is ∙ ap Some c.if-is_object-2.false),
 )
+
+pub returns-in-None-clause-deep : goal.returns-in-None-clause-deep
+returns-in-None-clause-deep g c = (
+  λ h. tt,
+  λ h. ends_within _ _ _ c.skip_blank-rest.ensures (search rules),
+)
+
+pub returns-then-is_object-clause-deep : goal.returns-then-is_object-clause-deep
+returns-then-is_object-clause-deep g c =
+    member_comma_within _ _ _ _ _ c.skip_blank-rest.ensures c.in-Some.ensures c.if-mark-eq44.true
+
+pub returns-else-is_object-clause-deep : goal.returns-else-is_object-clause-deep
+returns-else-is_object-clause-deep g c =
+    item_comma_within _ _ _ _ _ _ c.skip_blank-rest.ensures c.in-Some.ensures c.if-mark-eq44.true
+    c.skip_blank.ensures
+
+pub returns-then-is_object-2-clause-deep : goal.returns-then-is_object-2-clause-deep
+returns-then-is_object-2-clause-deep g c =
+    closes_within _ _ _ _ _ _ _ (sym c.innermost-2.ensures ∙ c.in-Some-innermost-2.is)
+    c.pop.ensures.rest c.pop.ensures.limit c.skip_blank-rest.ensures c.in-Some.ensures
+    (inr c.if-mark-ne125.false)
+
+pub returns-clause-deep : goal.returns-clause-deep
+returns-clause-deep g c =
+    closes_within _ _ _ _ _ _ _ (sym c.innermost-2.ensures ∙ c.in-Some-innermost-2.is)
+    c.pop-2.ensures.rest c.pop-2.ensures.limit c.skip_blank-rest.ensures c.in-Some.ensures
+    (inl c.if-mark-ne93.false)

@@ -3,6 +3,7 @@ use Rattle.jsonb_value.proofs.Json.ReaderSteps.{key_is_read, key_unquoted, key_u
 use Rattle.jsonb_value.proofs.Json.ReaderSteps.{key_uncoloned}
 use Rattle.jsonb_value.proofs.Json.ReaderSteps.{past_key, holds_key}
 use Rattle.jsonb_value.proofs.Json.ValueSteps.{err_is}
+use Rattle.jsonb_value.proofs.Json.Within.{key_within}
 use Rattle.jsonb_value.proofs.parser.reader.read_key.Goals as goal
 
 pub returns-in_default-clause-err : goal.returns-in_default-clause-err
@@ -34,8 +35,14 @@ returns-clause-shorter g c =
     past_key _ _ _ _ _ _ _ _ c.skip_blank.ensures c.in-Some.ensures reads
     c.skip_blank-2.ensures c.in-Some-after_char.ensures c.skip_blank-3.ensures
 
-pub read_name-requires : goal.read_name-requires
-read_name-requires g c κs = (
+pub give_key-requires : goal.give_key-requires
+give_key-requires g c κs = (
   (refl, tt),
   holds_key _ g.S.Sink.is _ _ _ c.requires.1,
 )
+
+pub returns-clause-deep : goal.returns-clause-deep
+returns-clause-deep g c =
+    let (key, (reads, adds)) = c.in_ok-after.ensures.ok in
+    key_within _ _ _ _ _ _ _ _ _ c.skip_blank.ensures c.in-Some.ensures reads
+    c.skip_blank-2.ensures c.in-Some-after_char.ensures c.skip_blank-3.ensures

@@ -1,21 +1,11 @@
-use Rattle.std.proofs.Common.{chars}
-use Rattle.jsonb_value.specs.Reader.IsAt.{IsAtStep}
-use Rattle.jsonb_value.specs.Reader.OpenKinds.{kinds_held}
-use Rattle.jsonb_value.specs.Reader.Reading.{read_document}
-use Rattle.std.proofs.Common.{subst}
-use Rattle.jsonb_value.proofs.Json.ReaderSteps.{text_begins, text_ends}
+use Rattle.std.proofs.Common.{arith}
+use Rattle.jsonb_value.specs.declared.text_depth.ScanState.TheVariants.{Outside}
+use Rattle.jsonb_value.proofs.Json.ValueSteps.{all_sure}
+use Rattle.jsonb_value.proofs.ScanLaws.{level_most}
 use Rattle.jsonb_value.proofs.parser.reader.read_text.Goals as goal
 
-pub steps-init : goal.steps-init
-steps-init g c =
-    text_begins c.args.exponents g.S.Sink.is _ _ _ _ c.skip_blank.ensures c.new-kinds.ensures
-    c.requires
-
-pub returns-in-End-clause-ok : goal.returns-in-End-clause-ok
-returns-in-End-clause-ok g c =
-    text_ends c.args.exponents g.S.Sink.is _ _
-    (subst
-    (λ x. IsAtStep c.args.exponents g.S.Sink.is
-    (read_document c.args.exponents (chars c.args.text.now)) c.steps.sink
-    (kinds_held c.steps.kinds) x)
-    c.in-End.is c.steps.invariant)
+pub returns-clause-err : goal.returns-clause-err
+returns-clause-err g c =
+    all_sure _ _ _
+    (omega (arith, level_most Outside 0 c.args.text.now))
+    c.read_text_within.ensures.err

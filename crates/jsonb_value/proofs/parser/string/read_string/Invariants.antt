@@ -3,7 +3,7 @@ use Rattle.std.specs.Prelude.{string_bytes}
 use denote.Text.{Utf8}
 use denote.Shadow.{shadow}
 use Rattle.jsonb_value.proofs.Json.TextSteps.{GoesOn}
-use Rattle.jsonb_value.proofs.parser.string.read_escapes.Given as goal
+use Rattle.jsonb_value.proofs.parser.string.read_string.Given as goal
 
 -- reading continues after the characters read so far
 abbrev pub invariant-pieces : goal.invariant-pieces

@@ -5,7 +5,7 @@ use Rattle.jsonb_value.specs.Reader.Reading.{read_text}
 use Rattle.jsonb_value.proofs.Json.TextSteps.{text_ends, text_closes, text_fails}
 use Rattle.jsonb_value.proofs.Json.TextSteps.{goes_on_past_piece, goes_on_past_plain, goes_on_as}
 use Rattle.jsonb_value.proofs.Json.TextSteps.{plain_shorter}
-use Rattle.jsonb_value.proofs.parser.string.read_escapes.Goals as goal
+use Rattle.jsonb_value.proofs.parser.string.read_string.Goals as goal
 
 pub pieces-init : goal.pieces-init
 pieces-init c = (

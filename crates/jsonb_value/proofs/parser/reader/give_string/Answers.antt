@@ -1,6 +1,6 @@
 use Rattle.jsonb_value.proofs.Json.StringSteps.{string_stands, string_spelled, string_refused}
 use Rattle.jsonb_value.proofs.Json.ValueSteps.{err_is}
-use Rattle.jsonb_value.proofs.parser.reader.read_string.Goals as goal
+use Rattle.jsonb_value.proofs.parser.reader.give_string.Goals as goal
 
 pub returns-in-Some-clause-ok : goal.returns-in-Some-clause-ok
 returns-in-Some-clause-ok g c = (
