@@ -1,11 +1,11 @@
 -- Why a text gives no document; and a document is as deep as the tree of its text.
-use Rattle.std.proofs.Common.{◌≡◌, ◌⊎◌, ℕ, suc, ◌≤◌, refl, ap, sym, subst, inl, inr, List, chars}
-use Rattle.std.proofs.Common.{Result, Ok, Err, IsErrAnd, arith}
+use Rattle.std.proofs.Common.{◌≡◌, ◌⊎◌, ◌↔◌, ℕ, suc, ◌<◌, ◌≤◌, refl, ap, sym, subst, inl, inr}
+use Rattle.std.proofs.Common.{List, chars, Result, Ok, Err, arith, ◌∙◌}
 use Rattle.jsonb_value.specs.declared.error.Error.{Error}
 use Rattle.jsonb_value.specs.declared.error.Error.TheVariants.{InvalidJson, InvalidJsonb}
 use Rattle.jsonb_value.specs.declared.error.Error.TheVariants.{OutOfMemory}
 use Rattle.jsonb_value.specs.declared.within.ParseError.{ParseError}
-use Rattle.jsonb_value.specs.declared.within.ParseError.TheVariants.{Refused}
+use Rattle.jsonb_value.specs.declared.within.ParseError.TheVariants.{Refused, TooDeep}
 use Rattle.jsonb_value.specs.Depth.{depth, depths, pair_depths}
 use Rattle.jsonb_value.specs.Norm.{norm, norms, norm_pairs}
 use Rattle.jsonb_value.specs.Tree as trees
@@ -14,13 +14,17 @@ use Rattle.jsonb_value.specs.Tree.{Trees, no_trees, tree, Pairs, no_pairs, pair}
 use Rattle.jsonb_value.specs.declared.parser.number.Exponents.{Exponents}
 use Rattle.jsonb_value.specs.Json.Syntax.{JsonText}
 use Rattle.jsonb_value.specs.TextDepth.{text_depth, HasDepthOfSpelled}
-use Rattle.jsonb_value.proofs.DepthLaws.{spelled_within}
-use Rattle.jsonb_codec.specs.Canon.{Fits}
+use Rattle.jsonb_value.specs.Text.{in_one_line, on_lines}
+use Rattle.jsonb_value.proofs.DepthLaws.{failed, spelled_within}
+use Rattle.jsonb_value.proofs.Json.SpelledLaws.{same_meaning}
+use Rattle.jsonb_value.proofs.NormTexts.{laid_out-norm}
+use Rattle.jsonb_value.specs.WellFormed.{IsTree}
+use Rattle.jsonb_codec.specs.Canon.{canon, Fits}
 use Rattle.jsonb_codec.specs.Depth.{IsDocumentWithin}
 use Rattle.jsonb_codec.specs.Doc.{Doc}
-use Rattle.jsonb.specs.declared.owned.OwnedJsonb.{OwnedJsonb}
-use Rattle.jsonb.specs.Owned.{result_bytes}
-use Rattle.jsonb.specs.Parsing.{ParsesUnder, ParsesUnderWithin}
+use Rattle.jsonb_codec.proofs.CanonLaws.{Doc-canon}
+use Rattle.jsonb.specs.Parsing.{IsParsedUnder, ParsesUnder, ParsesUnderWithin}
+use Rattle.jsonb.proofs.TextLaws.{display_text-Doc, pretty_display_text-Doc}
 
 -- a text that gives no document
 pub refused : (rule : Exponents) (text : List ℕ) (e : Error)
@@ -34,14 +38,59 @@ refused rule text e invalid past (inr (inl is)) =
 refused rule text e invalid past (inr (inr is)) =
     subst (λ (x : Error). ParsesUnder rule text (Err x)) (sym is) tt
 
--- a text that nests within the depth, and is refused
-pub refused_within : (rule : Exponents) (depth : ℕ) (text : List ℕ)
-    (r : Result OwnedJsonb ParseError) (e : Error) → IsErrAnd r (λ x. x ≡ Refused e)
-    → text_depth text ≤ depth → ParsesUnder rule text (Err e)
-    → ParsesUnderWithin rule depth text (result_bytes r)
-refused_within rule depth text (Ok owned) e is low why = absurd is
-refused_within rule depth text (Err x) e is low why =
-    subst (λ (y : ParseError). ParsesUnderWithin rule depth text (Err y)) (sym is) (low, why)
+abbrev pub made : (A : Type 0) → A → Result A ParseError
+made A a = Ok a
+
+-- a refusal for another reason is of a text that nests within the depth
+near : (n limit : ℕ) → (limit < n → ⊥) → n ≤ limit
+near n limit other = omega (arith, other)
+
+-- a document is of a text that nests within the depth
+pub near_of : (A : Type 0) (n limit : ℕ) (a : A) → (made A a ≡ failed A TooDeep) ↔ (limit < n)
+    → n ≤ limit
+near_of A n limit a deep =
+    near n limit (λ far. let same = deep.1 far in let never : ⊥ = cc in never)
+
+-- a text that gives no document within a depth
+pub refused_as : (A : Type 0) (rule : Exponents) (limit : ℕ) (text : List ℕ) (e : ParseError)
+    → (failed A e ≡ failed A TooDeep) ↔ (limit < text_depth text)
+    → (failed A e ≡ failed A (Refused InvalidJson) → (t : Tree) → JsonText rule (chars text) t → ⊥)
+    → (failed A e ≡ failed A (Refused InvalidJsonb)
+    → (t : Tree) × (JsonText rule (chars text) t × (Fits t → ⊥)))
+    → (e ≡ TooDeep) ⊎ ((e ≡ Refused InvalidJson) ⊎ ((e ≡ Refused InvalidJsonb)
+    ⊎ (e ≡ Refused OutOfMemory)))
+    → ParsesUnderWithin rule limit text (Err e)
+refused_as A rule limit text e deep invalid past only = by only
+  where
+    of : (f : ParseError) → e ≡ f → ParsesUnderWithin rule limit text (Err f)
+        → ParsesUnderWithin rule limit text (Err e)
+    of f is = subst (λ (x : ParseError). ParsesUnderWithin rule limit text (Err x)) (sym is)
+
+    low : (f : Error) → e ≡ Refused f → text_depth text ≤ limit
+    low f is = near (text_depth text) limit
+        (λ far. let same = deep.1 far in let never : ⊥ = cc in never)
+
+    by : (e ≡ TooDeep) ⊎ ((e ≡ Refused InvalidJson) ⊎ ((e ≡ Refused InvalidJsonb)
+        ⊎ (e ≡ Refused OutOfMemory))) → ParsesUnderWithin rule limit text (Err e)
+    by (inl is) = of TooDeep is (deep.0 (ap (failed A) is))
+    by (inr (inl is)) = of (Refused InvalidJson) is (low InvalidJson is, invalid (ap (failed A) is))
+    by (inr (inr (inl is))) =
+        of (Refused InvalidJsonb) is (low InvalidJsonb is, past (ap (failed A) is))
+    by (inr (inr (inr is))) = of (Refused OutOfMemory) is (low OutOfMemory is, tt)
+
+-- a document that was made of a text means its tree and prints as it
+pub parsed_as : (rule : Exponents) (text bytes : List ℕ) (u : Tree) → JsonText rule (chars text) u
+    → IsTree u → Fits u → bytes ≡ canon u → IsParsedUnder rule text bytes
+parsed_as rule text bytes u json is fits same =
+    let doc = subst (λ (x : List ℕ). Doc x (norm u)) (sym same) (Doc-canon u is fits) in
+    let means : (t : Tree) → JsonText rule (chars text) t → Doc bytes (norm t) =
+    λ t h. rw (same_meaning rule (chars text) u t json h) at doc in
+    record {
+      means = means;
+      prints = λ t h. display_text-Doc bytes (norm t) (means t h) ∙ laid_out-norm in_one_line t;
+      prints_pretty = λ t h.
+          pretty_display_text-Doc bytes (norm t) (means t h) ∙ laid_out-norm (on_lines 0) t;
+    }
 
 mutual
   norm-depth : (t : Tree) → depth (norm t) ≡ depth t

@@ -11,6 +11,6 @@ pub use jsonb_codec::layer::{
 };
 pub use jsonb_codec::{parts, writer};
 pub use jsonb_value::layer::{
-    LEAF_PAIRS, extension_len, is_text_within, number_len, parse_scalar, parse_string, string_len,
-    write_number, write_string,
+    LEAF_PAIRS, extension_len, is_text_within, number_len, parse_scalar, parse_string,
+    refusal_within, string_len, write_number, write_string,
 };

@@ -7,9 +7,8 @@ use crate::document::Document;
 use crate::item::JsonbItem;
 use crate::raw::RawJsonb;
 use crate::text::write_view;
-use jsonb_codec::encode_text;
 use jsonb_codec::writer::{Level, Stored, StoredEntry, append_document};
-use jsonb_value::layer::is_text_within;
+use jsonb_codec::{encode_text, encode_text_within};
 use jsonb_value::{Error, Exponents, ParseError};
 use std::alloc::Global;
 use std::collections::BTreeMap;
@@ -166,9 +165,8 @@ impl OwnedJsonb {
     /// the document by recursion later.
     ///
     /// `TooDeep` exactly if more brackets than `depth` are open at once, those in strings not
-    /// counted. This is found before the text is read, so it comes before any other refusal. For
-    /// JSON that number is the depth of its value, where values that a later equal key replaces
-    /// count too (`json_laws`). Every other text has the result of `parse`: its document, which is
+    /// counted, and before any other refusal. For JSON that number is the depth of its value, where
+    /// values that a later equal key replaces count too (`json_laws`). Every other text has the result of `parse`: its document, which is
     /// within the depth, or `Refused` with the error of `parse`.
     pub fn parse_within(alloc: Global, text: &str, depth: usize) -> Result<OwnedJsonb, ParseError>
         ensures value { ParsesWithin depth text.now (result_bytes result) }
@@ -206,10 +204,7 @@ impl OwnedJsonb {
             (λ owned. IsParsedUnder exponents text.now (owned_bytes owned)) }
         ensures within { IfOk result (λ owned. IsDocumentWithin depth (owned_bytes owned)) }
     {
-        if !is_text_within(text.as_bytes(), depth) {
-            return Err(ParseError::TooDeep);
-        }
-        Ok(OwnedJsonb::parse_under(alloc, text, exponents)?)
+        Ok(OwnedJsonb::new(encode_text_within(alloc, text, exponents, depth)?))
     }
 }
 

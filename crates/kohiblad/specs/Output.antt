@@ -1,5 +1,5 @@
 -- The results of printing, parsing and bringing to canonical form, as C receives them.
-use Rattle.std.specs.Prelude.{◌<◌, ◌≤◌, ◌⊎◌, ℕ, zero, suc, List, length}
+use Rattle.std.specs.Prelude.{◌<◌, ◌≤◌, ◌⊎◌, ℕ, zero, suc, List, length, Result, Err}
 use Rattle.std.specs.Str.{IsUtf8}
 use Rattle.jsonb_value.specs.declared.error.Error.TheVariants as errors
 use Rattle.jsonb_value.specs.TextDepth.{text_depth}
@@ -7,7 +7,9 @@ use Rattle.jsonb_codec.specs.Depth.{IsDocumentWithin}
 use Rattle.jsonb.specs.Canonical.{RewritesTo}
 use Rattle.jsonb_value.specs.declared.parser.number.Exponents.{Exponents}
 use Rattle.jsonb_value.specs.declared.parser.number.Exponents.TheVariants.{Forbidden, Allowed}
-use Rattle.jsonb.specs.Parsing.{ParsesUnder}
+use Rattle.jsonb.specs.Parsing.{ParsesUnder, ParsesUnderWithin}
+use Rattle.jsonb_value.specs.declared.within.ParseError.{ParseError}
+use Rattle.jsonb_value.specs.declared.within.ParseError.TheVariants.{TooDeep, Refused}
 use Rattle.kohiblad.specs.Status.{code, too_deep, IsHandedOver, IsLongHandedOver, IsOneAnswered}
 use Rattle.kohiblad.specs.Status.{IsRefused}
 
@@ -50,6 +52,17 @@ abbrev pub IsReadAsText : Exponents → List ℕ → List ℕ → List ℕ → �
 IsReadAsText rule text before after size status =
     ((IsUtf8 text → ⊥) × IsRefused (code errors.InvalidUtf8) before after size status)
     ⊎ (IsUtf8 text × IsRead rule text before after size status)
+
+-- Bytes that are no UTF-8 are refused, by their depth first.
+abbrev pub IsNoText : ℕ → List ℕ → Result (List ℕ) ParseError → Type 0
+IsNoText depth text (Err TooDeep) = depth < text_depth text
+IsNoText depth text (Err (Refused errors.InvalidUtf8)) = text_depth text ≤ depth
+IsNoText depth text _ = ⊥
+
+-- The result of reading bytes as a text within a depth.
+abbrev pub ReadsAs : Exponents → ℕ → List ℕ → Result (List ℕ) ParseError → Type 0
+ReadsAs rule depth text made = (IsUtf8 text × ParsesUnderWithin rule depth text made)
+    ⊎ ((IsUtf8 text → ⊥) × IsNoText depth text made)
 
 -- The text is refused if it nests deeper than `depth`, and otherwise read as `IsReadAsText` says.
 abbrev pub IsReadWithin : Exponents → ℕ → List ℕ → List ℕ → List ℕ → ℕ → ℕ → Type 0

@@ -44,7 +44,7 @@ pub use Rattle.kohiblad.specs.Functions.{MakesOfOne, MakesOfTwo}
 pub use Rattle.kohiblad.specs.Functions.{exists_answer, operation_in, operation_asked}
 pub use Rattle.kohiblad.specs.KindAnswer.{kind_answer}
 pub use Rattle.kohiblad.specs.Output.{IsLongWrittenOut, IsReadWithin, IsRewrittenWithin}
-pub use Rattle.kohiblad.specs.Output.{IsWrittenOut, rule_of}
+pub use Rattle.kohiblad.specs.Output.{IsWrittenOut, ReadsAs, rule_of}
 pub use Rattle.kohiblad.specs.Parts.{IsPartDocument, is_entry_type, is_too_long, part_document}
 pub use Rattle.kohiblad.specs.Places.{AreBothInside, AreMemberPlaces, IsInside, IsItemPlace}
 pub use Rattle.kohiblad.specs.Places.{IsMemberHandedOver, IsPartPlace, IsPlaceFound}

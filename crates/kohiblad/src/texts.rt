@@ -1,13 +1,13 @@
 //! Printing bytes as texts, and parsing texts into documents.
 
 ghost use Rattle.kohiblad.specs.Words.{plain_text, lined_text, other_text, meaning_within};
-ghost use Rattle.kohiblad.specs.Words.{IsLongWrittenOut, IsWrittenOut, IsReadWithin, ParsesUnder};
-ghost use Rattle.kohiblad.specs.Words.{document_tree, pretty, result_bytes, rule_of};
+ghost use Rattle.kohiblad.specs.Words.{IsLongWrittenOut, IsWrittenOut, IsReadWithin};
+ghost use Rattle.kohiblad.specs.Words.{ReadsAs, document_tree, pretty, result_bytes, rule_of};
 
-use crate::answer::{NO_ROOM, TOO_DEEP, code, hand_over, hand_over_made, refuse};
+use crate::answer::{NO_ROOM, TOO_DEEP, code, hand_over, refuse};
 use bstr::ByteSlice;
-use jsonb::layer::is_text_within;
-use jsonb::{Document, Error, OwnedJsonb, SortKey};
+use jsonb::layer::refusal_within;
+use jsonb::{Document, Error, OwnedJsonb, ParseError, SortKey};
 use simdutf8::basic;
 use std::alloc::Global;
 
@@ -96,7 +96,7 @@ fn write_pretty(alloc: Global, document: Document<'_>, out: &mut [u8], length: &
 /// Parses a JSON text and copies the canonical document of its value to `out`, and its length in
 /// bytes to `length`. With `exponents` 0 a number with an exponent is refused; otherwise it means
 /// exactly its value, as `1e5` means 100000. `TOO_DEEP` if more than `depth` brackets outside
-/// strings are open at once, tested before anything else; `InvalidUtf8` if the text is not UTF-8;
+/// strings are open at once, before any other status; `InvalidUtf8` if the text is not UTF-8;
 /// `InvalidJson` if it is not accepted JSON; `InvalidJsonb` if a limit of the format is exceeded;
 /// `OutOfMemory` if an allocation fails; `NO_ROOM` if `out` is shorter than the document. If the
 /// status is not `OK`, `out` is unchanged, and `length` is 0, or for `NO_ROOM` the length of the
@@ -112,22 +112,26 @@ pub extern "C" fn kohiblad_parse(
 ) -> u32
     ensures { IsReadWithin (rule_of exponents) depth text.now out.old out.new length.new result }
 {
-    if !is_text_within(text, depth) {
-        return refuse(TOO_DEEP, out, length);
+    match document_of(alloc, text, depth, exponents) {
+        Ok(document) => hand_over(document.as_bytes(), out, length),
+        Err(ParseError::TooDeep) => refuse(TOO_DEEP, out, length),
+        Err(ParseError::Refused(error)) => refuse(code(error), out, length),
     }
-    let Ok(text) = basic::from_utf8(text) else {
-        return refuse(code(Error::InvalidUtf8), out, length);
-    };
-    hand_over_made(parsed(alloc, text, exponents), out, length)
 }
 
-// The document of a JSON text, whose numbers have no exponent if `exponents` is 0.
-fn parsed(alloc: Global, text: &str, exponents: u32) -> Result<OwnedJsonb, Error>
-    ensures { ParsesUnder (rule_of exponents) text.now (result_bytes result) }
+// The document of a JSON text within a depth, whose numbers have no exponent if `exponents` is 0.
+// `InvalidUtf8` if the text is not UTF-8.
+fn document_of(
+    alloc: Global,
+    text: &[u8],
+    depth: usize,
+    exponents: u32,
+) -> Result<OwnedJsonb, ParseError>
+    ensures { ReadsAs (rule_of exponents) depth text.now (result_bytes result) }
 {
-    if exponents == 0 {
-        OwnedJsonb::parse(alloc, text)
-    } else {
-        OwnedJsonb::parse_with_exponents(alloc, text)
+    match basic::from_utf8(text) {
+        Ok(text) if exponents == 0 => OwnedJsonb::parse_within(alloc, text, depth),
+        Ok(text) => OwnedJsonb::parse_with_exponents_within(alloc, text, depth),
+        Err(_) => Err(refusal_within(text, depth, Error::InvalidUtf8)),
     }
 }
