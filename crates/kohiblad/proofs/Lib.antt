@@ -2,6 +2,7 @@ pub mod CheckedRows
 pub mod ChildWalkLaws
 pub mod CutLaws
 pub mod ExponentRules
+pub mod ReadLaws
 pub mod FoundPlaces
 pub mod KeyTestLaws
 pub mod LongTexts

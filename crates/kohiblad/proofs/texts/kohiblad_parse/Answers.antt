@@ -1,12 +1,25 @@
-use Rattle.std.proofs.Common.{ℕ, List, subst, inr, rules}
-use Rattle.kohiblad.specs.Output.{IsRead, rule_of}
+use Rattle.std.proofs.Common.{subst, Err, List, ℕ}
+use Rattle.kohiblad.specs.Output.{ReadsAs, rule_of}
+use Rattle.kohiblad.specs.Status.{IsHandedOver, IsRefused}
+use Rattle.kohiblad.proofs.ReadLaws.{read_made, read_refused}
 use Rattle.kohiblad.proofs.texts.kohiblad_parse.Goals as goal
 
-pub returns : goal.returns
-returns c =
-    let text = c.in-Ok.ensures in
-    let read = subst
-    (λ (t : List ℕ). IsRead (rule_of c.args.exponents) t c.args.out.now c.hand_over_made.new.out
-    c.hand_over_made.new.size c.hand_over_made.result) text.0
-    (_, (c.parsed.ensures, c.hand_over_made.ensures)) in
-    inr (c.is_text_within.ensures.0 (search rules), inr (text.1, read))
+pub returns-in-Ok : goal.returns-in-Ok
+returns-in-Ok c =
+    read_made (rule_of c.args.exponents) c.args.depth c.args.text.now _ c.args.out.now
+    c.hand_over.new.out c.hand_over.new.size c.hand_over.result c.in-Ok.ensures
+    (subst
+    (λ (b : List ℕ). IsHandedOver b c.args.out.now c.hand_over.new.out c.hand_over.new.size
+    c.hand_over.result) c.as_bytes.ensures c.hand_over.ensures)
+
+pub returns-in-Err-Refused : goal.returns-in-Err-Refused
+returns-in-Err-Refused c =
+    let refuse = c.refuse-in-Err-Refused in
+    read_refused (rule_of c.args.exponents) c.args.depth c.args.text.now c.args.out.now
+    refuse.new.out c.in-Err-Refused.error refuse.new.size refuse.result
+    (subst
+    (λ f. ReadsAs (rule_of c.args.exponents) c.args.depth c.args.text.now (Err f))
+    c.in-Err-Refused.field-0-is c.in-Err-Refused.ensures)
+    (subst
+    (λ (k : ℕ). IsRefused k c.args.out.now refuse.new.out refuse.new.size refuse.result)
+    c.code.ensures refuse.ensures)
