@@ -74,7 +74,7 @@
 #include <stdint.h>
 
 /* The version that this header describes: millions, thousands and ones. */
-#define KOHIBLAD_VERSION 7000
+#define KOHIBLAD_VERSION 8000
 
 /* The stack that is enough, in bytes: see STACK above. These were measured, on x86-64. */
 #define KOHIBLAD_LEVEL_STACK 1024

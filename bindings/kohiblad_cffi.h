@@ -1,6 +1,6 @@
 /* The exports, for cffi's cdef: tools/pages makes this file of kohiblad.h. */
 
-#define KOHIBLAD_VERSION 7000
+#define KOHIBLAD_VERSION 8000
 
 enum kohiblad_exponents { KOHIBLAD_EXPONENTS_FORBIDDEN = 0, KOHIBLAD_EXPONENTS_ALLOWED = 1 };
 

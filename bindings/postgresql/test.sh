@@ -239,8 +239,11 @@ run_trusted() {
     note "an owner's extension"
     psql -c "CREATE ROLE owner LOGIN" -c "CREATE DATABASE owned OWNER owner"
     psql -U owner -d owned -c "CREATE EXTENSION kohiblad VERSION '0.6'" \
-        -c "ALTER EXTENSION kohiblad UPDATE" -c "CREATE EXTENSION kohiblad_compat"
+        -c "ALTER EXTENSION kohiblad UPDATE" -c "CREATE EXTENSION kohiblad_compat VERSION '0.7'" \
+        -c "ALTER EXTENSION kohiblad_compat UPDATE"
     expect "a member" 7 "$("$bin/psql" -XAt -U owner -d owned -c "SELECT '[7]'::kohiblad -> 0")"
+    expect "one version" 1 "$(query "SELECT count(DISTINCT extversion) FROM pg_extension
+        WHERE extname LIKE 'kohiblad%'" owned)"
 }
 
 catalogue_of() { psql -At -d "$1" -f "$folder/tests/catalogue.sql"; }

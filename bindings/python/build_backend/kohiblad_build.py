@@ -29,7 +29,7 @@ import zipfile
 TOP = os.path.dirname(os.path.dirname(os.path.abspath(__file__)))
 SOURCE = os.path.join(TOP, "src")
 NATIVE = os.path.join(SOURCE, "native")
-LIBRARY = "libkohiblad.so.0.7"
+LIBRARY = "libkohiblad.so.0.8"
 HEADER = "kohiblad.h"
 # The extension module for this Python.
 EXTENSION = f"_native{sysconfig.get_config_var('EXT_SUFFIX')}"

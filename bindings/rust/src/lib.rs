@@ -98,10 +98,10 @@ pub const LEVEL_STACK: usize = 1024;
 /// the document and of the result.
 pub const EDIT_LEVEL_STACK: usize = 2048;
 
-/// The version of the library: millions, thousands and ones. 7000 is 0.7.0.
+/// The version of the library: millions, thousands and ones. 8000 is 0.8.0.
 ///
 /// ```
-/// assert!(kohiblad::version() >= 7000);
+/// assert!(kohiblad::version() >= 8000);
 /// ```
 pub fn version() -> u32 {
     ffi::version()

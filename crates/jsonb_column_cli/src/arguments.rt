@@ -19,4 +19,4 @@ load HEX          these stored rows in place of the others
 ";
 
 /// What `--version` prints.
-pub const VERSION: &str = "jsonb_column_cli 0.7.0\n";
+pub const VERSION: &str = "jsonb_column_cli 0.8.0\n";

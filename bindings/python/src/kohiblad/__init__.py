@@ -7,7 +7,7 @@
 
 Numbers are exact: whole ones and decimals of 128 bits. There is no floating point.
 """
-__version__ = "0.7.0"  # before the imports, since a module that is imported reads it
+__version__ = "0.8.0"  # before the imports, since a module that is imported reads it
 
 from ._changes import DocumentPath
 from ._document import (ArrayDocument, Document, ObjectDocument, ScalarDocument, Value, dumps,

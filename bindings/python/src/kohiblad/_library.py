@@ -19,8 +19,8 @@ from . import __version__
 from ._errors import (ExtensionError, InvalidDocumentError, InvalidTextError, KohibladError,
                       NumberError, OutOfMemoryError, PathError, TooDeepError, TooManyStepsError)
 
-FILE_NAME = "libkohiblad.so.0.7"
-OLDEST_VERSION = 7000
+FILE_NAME = "libkohiblad.so.0.8"
+OLDEST_VERSION = 8000
 
 OK = 0
 INVALID_EOF = 1
