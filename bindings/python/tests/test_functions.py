@@ -224,11 +224,11 @@ class PathTest(FunctionTest):
                            ("?(@.of >= 1e0)", [0, 1, 2]), ("?(@.of < 1.5)", [0]),
                            ("?(@.of <= \"1\")", [0, 1]), ("?(@.of <> null)", [0, 1]),
                            ("?(@.\"a b\" == 2)", [3]), ("?(@ != true)", [0, 1, 2, 3, 4]),
-                           ("?(@.of > 0)?(@.of < \"2\")", [0, 1])):
+                           ("?(@.of > 0)?(@.of < \"2\")", [0, 1]), ("? (@.of == 1)", [0]),
+                           (" ?  ( @.of == 1 )", [0])):
             self.assertEqual(row.select("$[*]" + text), [row[number] for number in kept], text)
-        for text in ("?(@.of == 1", "?(@.of ==  1)", "?(@.of = 1)", "?(@.of == 1 )", "?(@.of == a)",
-                     "?(@.of[*] == 1)", "?(@ == [1])", "?(@.of == \"\"\")", "? (@.of == 1)",
-                     "?(@.a b == 1)", ".a?"):
+        for text in ("?(@.of == 1", "?(@.of ==  1)", "?(@.of = 1)", "?(@.of == a)",
+                     "?(@.of[*] == 1)", "?(@ == [1])", "?(@.of == \"\"\")", "?(@.a b == 1)", ".a?"):
             self.assertRaises(PathError, row.select, "$[*]" + text)
 
     def test_many_values_and_texts_that_are_no_paths(self):

@@ -29,8 +29,8 @@ class SignalTest(unittest.TestCase):
         def end(number, frame):
             raise KeyboardInterrupt
 
-        # 400,000,000 steps take half a minute.
-        left, right = Document.of([0] * 20_000 + [1]), Document.of([1] * 20_000)
+        # 400,000,000 pairs of arrays take a minute.
+        left, right = Document.of([[0]] * 20_000 + [[1]]), Document.of([[1]] * 20_000)
         signal.signal(signal.SIGALRM, end)
         began = time.process_time()
         signal.setitimer(signal.ITIMER_REAL, 0.2)
@@ -39,11 +39,16 @@ class SignalTest(unittest.TestCase):
         self.assertLess(time.process_time() - began, 10)
 
     def test_rounds_of_steps_give_the_answer(self):
-        left, right = Document.of([0] * 2_500 + [1]), Document.of([1] * 2_500)
+        # Fewer steps than there are pairs do not do, and the product of both weights does.
+        left, right = Document.of([[0]] * 2_500 + [[1]]), Document.of([[1]] * 2_500)
         self.assertTrue(left.contains(right))
-        self.assertTrue(left.contains(right, steps=7_000_000))
+        self.assertTrue(left.contains(right, steps=5_003 * 5_001))
         with self.assertRaises(TooManyStepsError):
             left.contains(right, steps=6_000_000)
+
+    def test_many_scalars_are_looked_for_in_few_steps(self):
+        numbers = Document.of(list(range(20_000)))
+        self.assertTrue(numbers.contains(numbers, steps=10_000_000))
 
     @unittest.skipUnless(kohiblad.IS_NATIVE, "the loops are those of the extension module")
     def test_signals_are_handled_while_values_are_read_and_written(self):
