@@ -92,6 +92,32 @@ class CommandTest(unittest.TestCase):
         with open(back, "rb") as file:
             self.assertEqual(len(file.readlines()), len(LINES))
 
+    def test_an_error_leaves_the_output_as_it_was(self):
+        output, rows = self.path("out.docs", b"kept"), self.path("rows", stored("1")[:-1])
+        for words, given in ((("encode",), b"1\n[1,]\n"), (("sort", rows), b""),
+                             (("decode", rows), b""), (("merge", rows), b"")):
+            self.assertEqual(run(*words, "-o", output, given=given)[0], 1, words)
+            with open(output, "rb") as file:
+                self.assertEqual(file.read(), b"kept", words)
+            self.assertEqual(run(*words, "-o", self.path("none"), given=given)[0], 1, words)
+        self.assertEqual(sorted(os.listdir(self.folder)), ["out.docs", "rows"])
+
+    def test_bad_lines_are_left_out_and_named(self):
+        given = b'1\n[1,]\n\n{"a" 1}\n[\xff]\n2\n'
+        named = ("standard input: line 2: InvalidJson: expected a value at byte 3, found ']'\n"
+                 "standard input: line 4: InvalidJson: expected ':' at byte 5, found '1'\n"
+                 "standard input: line 5: InvalidUtf8: no UTF-8 at byte 1, found 0xff\n")
+        count = "kohiblad: 3 lines were left out\n"
+        self.assertEqual(run("encode", "--skip-bad", given=given),
+                         (0, stored("1", "2"), named + count))
+        errors = self.path("errors")
+        self.assertEqual(run("encode", "--errors", errors, given=given),
+                         (0, stored("1", "2"), count))
+        with open(errors, encoding="utf-8") as file:
+            self.assertEqual(file.read(), named)
+        self.assertEqual(run("encode", "--errors", errors, given=b"1"), (0, stored("1"), ""))
+        self.assertEqual(os.path.getsize(errors), 0)
+
     def test_input_is_not_written_over(self):
         source = self.path("in", NDJSON)
         status, _, message = run("encode", source, "-o", source)

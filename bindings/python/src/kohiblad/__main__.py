@@ -13,7 +13,7 @@ from typing import (IO, Any, Callable, ContextManager, Dict, Iterator, List, Opt
 
 from . import Document, KohibladError, __version__
 from ._fault import fault_of
-from ._files import documents_of_lines, rest_of, stored, stored_documents
+from ._files import documents_of_lines, rest_of, stored, stored_documents, target_of
 from ._key_lines import add_key_options, add_range_options, key_line, key_row, range_lines
 from ._show import lines_of, page_of
 
@@ -171,6 +171,12 @@ def _parser() -> argparse.ArgumentParser:
              "merge": "sorted documents of several files to one, with one of each file in memory"}
     for name, text in helps.items():
         command = commands.add_parser(name, help=text, description=text)
+        if name == "encode":
+            command.add_argument("--skip-bad", action="store_true",
+                                 help="leave out the lines that are not JSON, and name them on "
+                                      "standard error")
+            command.add_argument("--errors", metavar="FILE",
+                                 help="the same, and name them in this file")
         if name == "get":
             command.add_argument("name", metavar="NAME", help="the member's key")
         if name == "keys":
@@ -233,11 +239,35 @@ def _input_name(path: str) -> str:
     return "standard input" if path == "-" else path
 
 
-def _run(options: argparse.Namespace, sources: List[IO[bytes]], target: IO[bytes]) -> None:
+class Refusals:
+    """The lines that are left out, each with its error on a line of a file or of standard error."""
+
+    def __init__(self, file: IO[bytes]) -> None:
+        self._file = file
+        self.count = 0
+
+    def add(self, error: KohibladError) -> None:
+        self.count += 1
+        self._file.write(f"{error}\n".encode("utf-8", "backslashreplace"))
+        self._file.flush()
+
+
+def _refusals(options: argparse.Namespace, files: contextlib.ExitStack) -> Optional[Refusals]:
+    if options.command != "encode" or not (options.skip_bad or options.errors):
+        return None
+    if not options.errors:
+        return Refusals(sys.stderr.buffer)
+    return Refusals(files.enter_context(target_of(options.errors)))
+
+
+def _run(options: argparse.Namespace, sources: List[IO[bytes]], target: IO[bytes],
+         refusals: Optional[Refusals]) -> None:
     names = list(map(_input_name, options.inputs))
     is_encode = options.command == "encode"
-    read = documents_of_lines if is_encode else stored_documents
-    inputs = list(map(read, sources, names))
+    if is_encode:
+        inputs = [documents_of_lines(sources[0], names[0], refusals.add if refusals else None)]
+    else:
+        inputs = list(map(stored_documents, sources, names))
     rows = merged(list(map(in_order, inputs, names))) if options.command == "merge" else inputs[0]
     is_shown = options.progress or sys.stderr.isatty()
     progress = Progress(is_shown, "line" if is_encode else "document", sources)
@@ -251,6 +281,8 @@ def _run(options: argparse.Namespace, sources: List[IO[bytes]], target: IO[bytes
     for document in documents:
         target.write(written[options.command](document))
     target.flush()
+    if refusals and refusals.count:
+        print(f"kohiblad: {refusals.count:,} lines were left out", file=sys.stderr)
 
 
 def _shown_input(given: str, is_json: bool) -> Tuple[bytes, str]:
@@ -272,8 +304,8 @@ def _shown_input(given: str, is_json: bool) -> Tuple[bytes, str]:
 def _row(options: argparse.Namespace) -> Tuple[bytes, str]:
     """The document of a row, and a name for it."""
     name = _input_name(options.input)
-    with _opened(options.input, "rb", sys.stdin.buffer) as file:
-        rows = (documents_of_lines if options.json else stored_documents)(file, name)
+    with _opened(options.input) as file:
+        rows = documents_of_lines(file, name) if options.json else stored_documents(file, name)
         for document in islice(rows, options.row - 1, None):
             return bytes(document), f"{name}, {options.row}"
     raise InputError(f"{name}: there is no document {options.row}")
@@ -309,7 +341,7 @@ def _show(options: argparse.Namespace) -> None:
             page = page_of(document, os.path.basename(name)).encode()
         except ValueError as error:
             raise InputError(f"{name}: {error}") from None
-        with _opened(options.html, "wb", sys.stdout.buffer) as target:
+        with _written(options.html) as target:
             target.write(page)
         return
     for line in lines_of(document, options.whole, _is_colored(options.color)):
@@ -317,10 +349,17 @@ def _show(options: argparse.Namespace) -> None:
     sys.stdout.buffer.flush()
 
 
-def _opened(path: str, mode: str, standard: IO[bytes]) -> ContextManager[IO[bytes]]:
+def _opened(path: str) -> ContextManager[IO[bytes]]:
     if path == "-":
-        return contextlib.nullcontext(standard)
-    return open(path, mode)
+        return contextlib.nullcontext(sys.stdin.buffer)
+    return open(path, "rb")
+
+
+def _written(path: str) -> ContextManager[IO[bytes]]:
+    """The output: a file takes the place of an earlier one when all of it is there."""
+    if path == "-":
+        return contextlib.nullcontext(sys.stdout.buffer)
+    return target_of(path)
 
 
 def _expect_two_files(input_path: str, output_path: str) -> None:
@@ -333,10 +372,10 @@ def _convert(options: argparse.Namespace) -> None:
     with contextlib.ExitStack() as files:
         for it in options.inputs:
             _expect_two_files(it, options.output)
-        sources = [files.enter_context(_opened(it, "rb", sys.stdin.buffer))
-                   for it in options.inputs]
-        target = files.enter_context(_opened(options.output, "wb", sys.stdout.buffer))
-        _run(options, sources, target)
+        sources = [files.enter_context(_opened(it)) for it in options.inputs]
+        refusals = _refusals(options, files)
+        target = files.enter_context(_written(options.output))
+        _run(options, sources, target, refusals)
 
 
 def main(arguments: Optional[List[str]] = None) -> int:

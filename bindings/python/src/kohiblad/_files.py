@@ -18,6 +18,8 @@ Path = Union[str, bytes, "os.PathLike[Any]"]
 File = Union[Path, IO[bytes]]
 # Takes how many documents were read or written, of how many bytes, and how many bytes there are.
 Report = Callable[[int, int, Optional[int]], Any]
+# Takes why a line is left out.
+Refused = Callable[[KohibladError], Any]
 
 LENGTH_BYTES = 8
 _READ_AT_ONCE = 1 << 20
@@ -58,7 +60,7 @@ def write(file: File, documents: Iterable[Any], *, progress: Optional[Report] = 
     there once all of it was written: an error leaves what was there before. ``progress`` is as of
     ``read``, without the number of all bytes.
     """
-    with _target(file) as target:
+    with target_of(file) as target:
         counter = _Counter(progress, None)
         for it in documents:
             data = stored(it if isinstance(it, Document) else Document.of(it))
@@ -74,9 +76,11 @@ def stored(document: Document) -> bytes:
     return len(data).to_bytes(LENGTH_BYTES, "big") + data
 
 
-def documents_of_lines(file: IO[bytes], name: str) -> Iterator[Document]:
-    """The documents of JSON lines; empty lines are left out."""
-    return (document for document, _ in _sized_lines(file, name, True))
+def documents_of_lines(file: IO[bytes], name: str,
+                       refused: Optional[Refused] = None) -> Iterator[Document]:
+    """The documents of JSON lines; empty lines are left out, and with ``refused``, which is called
+    with the error, also those that are no document."""
+    return (document for document, _ in _sized_lines(file, name, True, refused))
 
 
 def stored_documents(file: IO[bytes], name: str) -> Iterator[Document]:
@@ -118,7 +122,8 @@ def _read(file: IO[bytes], size: int) -> bytes:
     return b"".join(parts)
 
 
-def _sized_lines(file: IO[bytes], name: str, exponents: bool) -> Iterator[Tuple[Document, int]]:
+def _sized_lines(file: IO[bytes], name: str, exponents: bool,
+                 refused: Optional[Refused] = None) -> Iterator[Tuple[Document, int]]:
     """The document of each line that is not empty, and how many bytes were read for it."""
     size = 0
     for number, line in enumerate(file, 1):
@@ -132,7 +137,11 @@ def _sized_lines(file: IO[bytes], name: str, exponents: bool) -> Iterator[Tuple[
             if number == 1 and line.startswith(_GZIP):
                 error = library.error_of(error.status, "the file is compressed by gzip")
             error.line = number
-            raise _at(f"{name}: line {number}", error) from None
+            _at(f"{name}: line {number}", error)
+            if not refused or error.status == library.OUT_OF_MEMORY:
+                raise error from None
+            refused(error)
+            continue
         yield document, size
         size = 0
 
@@ -201,7 +210,7 @@ def rest_of(source: IO[bytes]) -> Optional[int]:
 
 
 @contextlib.contextmanager
-def _target(file: File) -> Iterator[IO[bytes]]:
+def target_of(file: File) -> Iterator[IO[bytes]]:
     """The file that is written to; at a path a new one, which takes its place at the end."""
     if not isinstance(file, (str, bytes, os.PathLike)):
         yield file
