@@ -48,16 +48,16 @@
  *
  *     256 bytes: check, is_canonical, build_array, build_object, exists, object_keys, top_keys,
  *                get_path, path_in
- *     320 bytes: print, pretty, key, key_cut, member_key, select, compare, sort,
- *                array_intersection, array_overlap
+ *     320 bytes: print, print_at, pretty, pretty_at, key, key_cut, member_key, select, compare,
+ *                sort, array_intersection, array_overlap
  *     448 bytes: canonical, strip_nulls, index_keys
  *     576 bytes: pick, array_distinct, array_except
  *
  * kohiblad_edit takes KOHIBLAD_EDIT_LEVEL_STACK bytes for each level of its result, which may nest
  * as deep as the path is long and the value nests together, also where these are within the depth;
- * the result of kohiblad_concat may nest one level deeper than that. parse and text_fault do not
- * recurse, but the depth given to kohiblad_parse is also how deep its document nests. The calls
- * without a depth do not recurse.
+ * the result of kohiblad_concat may nest one level deeper than that. parse, text_fault and
+ * text_expected do not recurse, but the depth given to kohiblad_parse is also how deep its document
+ * nests. The calls without a depth do not recurse.
  *
  * NULL is allowed for bytes, texts, offsets, out and order whose length is 0, and for `key` of
  * kohiblad_next. A `length`, a `count`, a cursor and `value` of kohiblad_next are never null.
@@ -80,6 +80,9 @@
 #define KOHIBLAD_LEVEL_STACK 1024
 #define KOHIBLAD_EDIT_LEVEL_STACK 2048
 #define KOHIBLAD_CALL_STACK 8192
+
+/* The room that is enough for the words of a fault. */
+#define KOHIBLAD_WORDS_ROOM 512
 
 /* How the functions of this header are named to the assembler: an inline function must not have its
  * export's name, and an export is declared here by another. */
@@ -127,6 +130,31 @@ enum kohiblad_status {
     KOHIBLAD_TOO_MANY_STEPS = 18          /* the call took more steps than it may */
 };
 
+/* What may come in a text: kohiblad_text_expected returns the sum of some of them. */
+enum kohiblad_expected_class {
+    KOHIBLAD_EXPECTED_STRING = 0x1,      /* the rest of a string: any but control characters */
+    KOHIBLAD_EXPECTED_VALUE = 0x2,
+    KOHIBLAD_EXPECTED_KEY = 0x4,
+    KOHIBLAD_EXPECTED_ESCAPE = 0x8,      /* what follows a backslash */
+    KOHIBLAD_EXPECTED_HEX_DIGIT = 0x10,  /* of an escape */
+    KOHIBLAD_EXPECTED_LOW_HALF = 0x20,   /* the escape that ends a surrogate pair */
+    KOHIBLAD_EXPECTED_DIGIT = 0x40,      /* of a number, where no value may begin */
+    KOHIBLAD_EXPECTED_SIGN = 0x80,       /* of an exponent */
+    KOHIBLAD_EXPECTED_POINT = 0x100,
+    KOHIBLAD_EXPECTED_COLON = 0x200,
+    KOHIBLAD_EXPECTED_COMMA = 0x400,
+    KOHIBLAD_EXPECTED_ARRAY_END = 0x800,
+    KOHIBLAD_EXPECTED_OBJECT_END = 0x1000,
+    KOHIBLAD_EXPECTED_EXPONENT = 0x2000,
+    KOHIBLAD_EXPECTED_A = 0x4000,        /* this letter of true, false or null, and those below */
+    KOHIBLAD_EXPECTED_E = 0x8000,
+    KOHIBLAD_EXPECTED_L = 0x10000,
+    KOHIBLAD_EXPECTED_R = 0x20000,
+    KOHIBLAD_EXPECTED_S = 0x40000,
+    KOHIBLAD_EXPECTED_U = 0x80000,       /* and that of the escape that ends a surrogate pair */
+    KOHIBLAD_EXPECTED_END = 0x100000     /* the text may end */
+};
+
 /* The kinds of values, as kohiblad_kind returns them. */
 enum kohiblad_kind_number {
     KOHIBLAD_NULL = 0,
@@ -138,8 +166,8 @@ enum kohiblad_kind_number {
     KOHIBLAD_OBJECT = 6
 };
 
-/* The types of entries, as kohiblad_find_index and kohiblad_find_key return them, and kohiblad_copy
- * takes them. */
+/* The types of entries, as kohiblad_find_index and kohiblad_find_key return them, and as
+ * kohiblad_copy, kohiblad_print_at and kohiblad_pretty_at take them. */
 enum kohiblad_type {
     KOHIBLAD_TYPE_NULL = 0x00000000,      /* no payload */
     KOHIBLAD_TYPE_STRING = 0x10000000,    /* the payload is the text */
@@ -176,6 +204,12 @@ struct kohiblad_place {
 struct kohiblad_fault {
     uint32_t status;
     uint64_t offset; /* after the longest beginning of the text that begins some JSON text */
+};
+
+/* What may come where a text is not JSON. */
+struct kohiblad_expected {
+    uint32_t status;
+    uint32_t classes; /* the sum of some of enum kohiblad_expected_class */
 };
 
 /* The state of a walk: the index of the next child, and the offsets of its key and value. */
@@ -276,6 +310,34 @@ static inline const char *kohiblad_status_reason(uint32_t status) {
     case KOHIBLAD_BAD_NUMBER: return "the text has an unfinished or too large number";
     case KOHIBLAD_TOO_MANY_STEPS: return "the call took more steps than it may";
     default: return "the status is unknown";
+    }
+}
+
+/* What may come in a text, in a few words: the name of one class, or `Unknown`. */
+static inline const char *kohiblad_expected_text(uint32_t expected_class) {
+    switch (expected_class) {
+    case KOHIBLAD_EXPECTED_STRING: return "the rest of a string";
+    case KOHIBLAD_EXPECTED_VALUE: return "a value";
+    case KOHIBLAD_EXPECTED_KEY: return "a key";
+    case KOHIBLAD_EXPECTED_ESCAPE: return "an escape";
+    case KOHIBLAD_EXPECTED_HEX_DIGIT: return "a hexadecimal digit";
+    case KOHIBLAD_EXPECTED_LOW_HALF: return "the other half of a surrogate pair";
+    case KOHIBLAD_EXPECTED_DIGIT: return "a digit";
+    case KOHIBLAD_EXPECTED_SIGN: return "a sign";
+    case KOHIBLAD_EXPECTED_POINT: return "'.'";
+    case KOHIBLAD_EXPECTED_COLON: return "':'";
+    case KOHIBLAD_EXPECTED_COMMA: return "','";
+    case KOHIBLAD_EXPECTED_ARRAY_END: return "']'";
+    case KOHIBLAD_EXPECTED_OBJECT_END: return "'}'";
+    case KOHIBLAD_EXPECTED_EXPONENT: return "an exponent";
+    case KOHIBLAD_EXPECTED_A: return "'a'";
+    case KOHIBLAD_EXPECTED_E: return "'e'";
+    case KOHIBLAD_EXPECTED_L: return "'l'";
+    case KOHIBLAD_EXPECTED_R: return "'r'";
+    case KOHIBLAD_EXPECTED_S: return "'s'";
+    case KOHIBLAD_EXPECTED_U: return "'u'";
+    case KOHIBLAD_EXPECTED_END: return "the end";
+    default: return "Unknown";
     }
 }
 
@@ -467,6 +529,25 @@ static inline uint32_t kohiblad_print(const uint8_t *bytes, size_t size, size_t 
 static inline uint32_t kohiblad_pretty(const uint8_t *bytes, size_t size, size_t depth,
     uint8_t *out, size_t room, size_t *length) KOHIBLAD_INLINE("kohiblad_pretty");
 
+/* Copies the compact text of an entry's value to `out`. The entry is given by its type and its
+ * payload, as a place in a document says them, and is not copied: the text is that which
+ * kohiblad_print makes of the document that kohiblad_copy makes of it. INVALID_JSONB_JENTRY if
+ * entries have no such type; INVALID_JSONB if the payload is not that of a value which nests at
+ * most `depth` deep. OUT_OF_MEMORY if an allocation fails; NO_ROOM if `out` is shorter than the
+ * text. */
+static inline uint32_t kohiblad_print_at(uint32_t type, const uint8_t *payload, size_t size,
+    size_t depth, uint8_t *out, size_t room, size_t *length) KOHIBLAD_INLINE("kohiblad_print_at");
+
+/* Copies the pretty text of an entry's value to `out`: that which kohiblad_pretty makes of the
+ * document that kohiblad_copy makes of the entry, which is given by its type and its payload, as a
+ * place in a document says them, and is not copied. INVALID_JSONB_JENTRY if entries have no such
+ * type; INVALID_JSONB if the payload is not that of a value which nests at most `depth` deep.
+ * NO_ROOM if `out` is shorter than the text, which is counted first, in one walk over the bytes and
+ * without memory; the length is `SIZE_MAX` if the text is longer. OUT_OF_MEMORY if an allocation
+ * fails, which is asked for only if there is room. */
+static inline uint32_t kohiblad_pretty_at(uint32_t type, const uint8_t *payload, size_t size,
+    size_t depth, uint8_t *out, size_t room, size_t *length) KOHIBLAD_INLINE("kohiblad_pretty_at");
+
 /* Parses a JSON text and copies the canonical document of its value to `out`. With
  * KOHIBLAD_EXPONENTS_FORBIDDEN a number with an exponent is refused; otherwise it means exactly its
  * value, as `1e5` means 100000. TOO_DEEP if more than `depth` brackets outside strings are open at
@@ -490,6 +571,25 @@ static inline uint32_t kohiblad_parse(const uint8_t *text, size_t size, size_t d
  * OK it is 0. */
 static inline struct kohiblad_fault kohiblad_text_fault(const uint8_t *text, size_t size,
     size_t depth, uint32_t exponents) KOHIBLAD_INLINE("kohiblad_text_fault");
+
+/* What may come after the longest beginning of a text that begins some JSON text, which is of JSON
+ * the whole text, and otherwise what is before its fault: the sum of the classes that may come.
+ * With KOHIBLAD_EXPONENTS_FORBIDDEN no number has an exponent. OK with the classes: each comes
+ * exactly if that beginning with one of its characters after it begins some JSON text, and the
+ * class of the end if that beginning is JSON. A quote is a key only if no value may begin, and a
+ * digit one of a number only if neither a value nor a hexadecimal digit may come; in a string the
+ * one class is the rest of the string. White space has no class. TOO_DEEP if more than `depth`
+ * brackets outside strings are open at once, tested before anything else; INVALID_UTF8 if the text
+ * is not UTF-8; OUT_OF_MEMORY if an allocation fails. So of {"a"1 it is KOHIBLAD_EXPECTED_COLON. */
+static inline struct kohiblad_expected kohiblad_text_expected(const uint8_t *text, size_t size,
+    size_t depth, uint32_t exponents) KOHIBLAD_INLINE("kohiblad_text_expected");
+
+/* The same as kohiblad_text_fault, and writes why the text is refused, in words that are put after
+ * what was tried: "expected ':' at byte 5, found '1'", "at byte 3 of a number that is unfinished or
+ * too long, in '1.'", or the reason of the status. Writes no more bytes than `room`, the last of
+ * them zero; KOHIBLAD_WORDS_ROOM are enough. If an allocation fails, there are fewer words. */
+static inline struct kohiblad_fault kohiblad_fault_words(const uint8_t *text, size_t size,
+    size_t depth, uint32_t exponents, char *out, size_t room);
 
 /* ROWS follow one another in `bytes` without gaps. `offsets` are `count` numbers, one more than
  * there are rows: row k begins at offsets[k] and ends at offsets[k + 1]. The first need not be 0,
@@ -843,10 +943,16 @@ uint32_t kohiblad_export_print(const uint8_t *bytes, size_t size, size_t depth, 
     size_t room, size_t *length) KOHIBLAD_EXPORT("kohiblad_print");
 uint32_t kohiblad_export_pretty(const uint8_t *bytes, size_t size, size_t depth, uint8_t *out,
     size_t room, size_t *length) KOHIBLAD_EXPORT("kohiblad_pretty");
+uint32_t kohiblad_export_print_at(uint32_t type, const uint8_t *payload, size_t size, size_t depth,
+    uint8_t *out, size_t room, size_t *length) KOHIBLAD_EXPORT("kohiblad_print_at");
+uint32_t kohiblad_export_pretty_at(uint32_t type, const uint8_t *payload, size_t size, size_t depth,
+    uint8_t *out, size_t room, size_t *length) KOHIBLAD_EXPORT("kohiblad_pretty_at");
 uint32_t kohiblad_export_parse(const uint8_t *text, size_t size, size_t depth, uint32_t exponents,
     uint8_t *out, size_t room, size_t *length) KOHIBLAD_EXPORT("kohiblad_parse");
 struct kohiblad_fault kohiblad_export_text_fault(const uint8_t *text, size_t size, size_t depth,
     uint32_t exponents) KOHIBLAD_EXPORT("kohiblad_text_fault");
+struct kohiblad_expected kohiblad_export_text_expected(const uint8_t *text, size_t size,
+    size_t depth, uint32_t exponents) KOHIBLAD_EXPORT("kohiblad_text_expected");
 uint32_t kohiblad_export_build_array(const uint8_t *bytes, size_t size, const size_t *offsets,
     size_t count, size_t depth, uint8_t *out, size_t room, size_t *length)
     KOHIBLAD_EXPORT("kohiblad_build_array");
@@ -1114,6 +1220,22 @@ static inline uint32_t kohiblad_pretty(const uint8_t *bytes, size_t size, size_t
         return KOHIBLAD_OVERLAP;
     return kohiblad_export_pretty(kohiblad_in(bytes), size, depth, kohiblad_out(out), room, length);
 }
+static inline uint32_t kohiblad_print_at(uint32_t type, const uint8_t *payload, size_t size,
+    size_t depth, uint8_t *out, size_t room, size_t *length) {
+    if (!kohiblad_is_room(out, room, length)
+        || !kohiblad_is_apart(out, room, length, payload, size))
+        return KOHIBLAD_OVERLAP;
+    return kohiblad_export_print_at(type, kohiblad_in(payload), size, depth, kohiblad_out(out),
+        room, length);
+}
+static inline uint32_t kohiblad_pretty_at(uint32_t type, const uint8_t *payload, size_t size,
+    size_t depth, uint8_t *out, size_t room, size_t *length) {
+    if (!kohiblad_is_room(out, room, length)
+        || !kohiblad_is_apart(out, room, length, payload, size))
+        return KOHIBLAD_OVERLAP;
+    return kohiblad_export_pretty_at(type, kohiblad_in(payload), size, depth, kohiblad_out(out),
+        room, length);
+}
 static inline uint32_t kohiblad_parse(const uint8_t *text, size_t size, size_t depth,
     uint32_t exponents, uint8_t *out, size_t room, size_t *length) {
     if (!kohiblad_is_room(out, room, length)
@@ -1125,6 +1247,10 @@ static inline uint32_t kohiblad_parse(const uint8_t *text, size_t size, size_t d
 static inline struct kohiblad_fault kohiblad_text_fault(const uint8_t *text, size_t size,
     size_t depth, uint32_t exponents) {
     return kohiblad_export_text_fault(kohiblad_in(text), size, depth, exponents);
+}
+static inline struct kohiblad_expected kohiblad_text_expected(const uint8_t *text, size_t size,
+    size_t depth, uint32_t exponents) {
+    return kohiblad_export_text_expected(kohiblad_in(text), size, depth, exponents);
 }
 static inline uint32_t kohiblad_build_array(const uint8_t *bytes, size_t size,
     const size_t *offsets, size_t count, size_t depth, uint8_t *out, size_t room, size_t *length) {
@@ -1348,6 +1474,117 @@ static inline uint32_t kohiblad_top_keys(const uint8_t *bytes, size_t size, size
         return KOHIBLAD_OVERLAP;
     return kohiblad_export_top_keys(kohiblad_in(bytes), size, depth, kohiblad_keys_out(out), room,
         count);
+}
+
+/* Words one after another, of which `out` has those for which there is room. */
+typedef struct {
+    char *out;
+    size_t room;
+    size_t length;
+} kohiblad_words;
+
+static inline void kohiblad_words_add_byte(kohiblad_words *words, uint8_t byte) {
+    if (words->length + 1 < words->room) words->out[words->length] = (char)byte;
+    words->length++;
+}
+static inline void kohiblad_words_add(kohiblad_words *words, const char *more) {
+    for (; *more; more++) kohiblad_words_add_byte(words, (uint8_t)*more);
+}
+static inline void kohiblad_words_add_offset(kohiblad_words *words, uint64_t offset) {
+    char digits[20];
+    size_t count = 0;
+    kohiblad_words_add(words, "at byte ");
+    do digits[count++] = (char)('0' + offset % 10);
+    while (offset /= 10);
+    while (count > 0) kohiblad_words_add_byte(words, (uint8_t)digits[--count]);
+}
+static inline void kohiblad_words_add_expected(kohiblad_words *words, uint32_t classes) {
+    const char *between = "expected ";
+    for (uint32_t one = 1; classes; one <<= 1) {
+        if (!(classes & one)) continue;
+        classes -= one;
+        kohiblad_words_add(words, between);
+        kohiblad_words_add(words, kohiblad_expected_text(one));
+        between = classes & (classes - 1) ? ", " : " or ";
+        if (!classes) kohiblad_words_add(words, " ");
+    }
+}
+
+static inline bool kohiblad_is_digit(uint8_t byte) { return byte >= '0' && byte <= '9'; }
+
+/* Whether words that are quoted have the byte; all bytes of characters past ASCII are taken. */
+static inline bool kohiblad_is_of_word(uint8_t byte) {
+    uint8_t small = byte | 0x20;
+    return byte >= 0x80 || byte == '_' || kohiblad_is_digit(byte) || (small >= 'a' && small <= 'z');
+}
+static inline bool kohiblad_is_of_number(uint8_t byte) {
+    return kohiblad_is_digit(byte) || byte == '-' || byte == '+' || byte == '.'
+        || (byte | 0x20) == 'e';
+}
+
+/* What is at a byte of a text: a word of at most 20 characters, or one character. */
+static inline void kohiblad_words_add_found(kohiblad_words *words, const uint8_t *at,
+    size_t left) {
+    const char *digits = "0123456789abcdef", *quote = "'";
+    size_t size = 0, characters = 0;
+    if (left == 0) {
+        kohiblad_words_add(words, "the end");
+        return;
+    }
+    if (left >= 3 && at[0] == 0xef && at[1] == 0xbb && at[2] == 0xbf) {
+        kohiblad_words_add(words, "a byte order mark");
+        return;
+    }
+    if (at[0] < 0x20 || at[0] == 0x7f) {
+        kohiblad_words_add(words, "0x");
+        kohiblad_words_add_byte(words, (uint8_t)digits[at[0] >> 4]);
+        kohiblad_words_add_byte(words, (uint8_t)digits[at[0] & 15]);
+        return;
+    }
+    if (at[0] == '\'') quote = "\"";
+    kohiblad_words_add(words, quote);
+    for (; size < left && kohiblad_is_of_word(at[size]); size++) {
+        if ((at[size] & 0xc0) != 0x80 && ++characters > 20) break;
+        kohiblad_words_add_byte(words, at[size]);
+    }
+    if (size == 0) kohiblad_words_add_byte(words, at[0]);
+    if (characters > 20) kohiblad_words_add(words, "..");
+    kohiblad_words_add(words, quote);
+}
+
+/* The number around a byte of a text, of at most 40 characters. */
+static inline void kohiblad_words_add_number(kohiblad_words *words, const uint8_t *text,
+    size_t size, size_t offset) {
+    size_t begin = offset, end = offset;
+    while (begin > 0 && offset - begin < 40 && kohiblad_is_of_number(text[begin - 1])) begin--;
+    while (end < size && end - begin < 41 && kohiblad_is_of_number(text[end])) end++;
+    kohiblad_words_add(words, "'");
+    for (size_t i = begin; i < end && i - begin < 40; i++) kohiblad_words_add_byte(words, text[i]);
+    kohiblad_words_add(words, end - begin > 40 ? "..'" : "'");
+}
+
+static inline struct kohiblad_fault kohiblad_fault_words(const uint8_t *text, size_t size,
+    size_t depth, uint32_t exponents, char *out, size_t room) {
+    kohiblad_words words = { out, room, 0 };
+    const uint8_t *in = kohiblad_in(text);
+    struct kohiblad_fault fault = kohiblad_text_fault(in, size, depth, exponents);
+    size_t offset = (size_t)fault.offset;
+    if (fault.status == KOHIBLAD_INVALID_JSON) {
+        struct kohiblad_expected it = kohiblad_text_expected(in, size, depth, exponents);
+        kohiblad_words_add_expected(&words, it.classes);
+        kohiblad_words_add_offset(&words, offset);
+        kohiblad_words_add(&words, ", found ");
+        kohiblad_words_add_found(&words, in + offset, size - offset);
+    } else if (fault.status == KOHIBLAD_BAD_NUMBER) {
+        kohiblad_words_add_offset(&words, offset);
+        kohiblad_words_add(&words, exponents ? " of a number that is unfinished or too long, in "
+            : " of a number that is unfinished, too long, or has an exponent, in ");
+        kohiblad_words_add_number(&words, in, size, offset);
+    } else {
+        kohiblad_words_add(&words, kohiblad_status_reason(fault.status));
+    }
+    if (room > 0) out[words.length < room ? words.length : room - 1] = 0;
+    return fault;
 }
 
 #ifdef __cplusplus

@@ -223,7 +223,13 @@ class Document {
     Bytes bytes_;
 };
 
-/* Where a text is not JSON, and why. */
+/* Where a text is not JSON, and why: also in words, as `expected ':' at byte 5, found '1'`. */
+inline std::string fault_words(std::string_view text, std::size_t depth = usual_depth) {
+    char words[KOHIBLAD_WORDS_ROOM];
+    kohiblad_fault_words(bytes_of(text), text.size(), depth, KOHIBLAD_EXPONENTS_ALLOWED, words,
+                         sizeof words);
+    return words;
+}
 inline kohiblad_fault fault_of(std::string_view text, std::size_t depth = usual_depth) {
     return kohiblad_text_fault(bytes_of(text), text.size(), depth, KOHIBLAD_EXPONENTS_ALLOWED);
 }

@@ -37,6 +37,30 @@ enum kohiblad_status {
     KOHIBLAD_TOO_MANY_STEPS = 18
 };
 
+enum kohiblad_expected_class {
+    KOHIBLAD_EXPECTED_STRING = 0x1,
+    KOHIBLAD_EXPECTED_VALUE = 0x2,
+    KOHIBLAD_EXPECTED_KEY = 0x4,
+    KOHIBLAD_EXPECTED_ESCAPE = 0x8,
+    KOHIBLAD_EXPECTED_HEX_DIGIT = 0x10,
+    KOHIBLAD_EXPECTED_LOW_HALF = 0x20,
+    KOHIBLAD_EXPECTED_DIGIT = 0x40,
+    KOHIBLAD_EXPECTED_SIGN = 0x80,
+    KOHIBLAD_EXPECTED_POINT = 0x100,
+    KOHIBLAD_EXPECTED_COLON = 0x200,
+    KOHIBLAD_EXPECTED_COMMA = 0x400,
+    KOHIBLAD_EXPECTED_ARRAY_END = 0x800,
+    KOHIBLAD_EXPECTED_OBJECT_END = 0x1000,
+    KOHIBLAD_EXPECTED_EXPONENT = 0x2000,
+    KOHIBLAD_EXPECTED_A = 0x4000,
+    KOHIBLAD_EXPECTED_E = 0x8000,
+    KOHIBLAD_EXPECTED_L = 0x10000,
+    KOHIBLAD_EXPECTED_R = 0x20000,
+    KOHIBLAD_EXPECTED_S = 0x40000,
+    KOHIBLAD_EXPECTED_U = 0x80000,
+    KOHIBLAD_EXPECTED_END = 0x100000
+};
+
 enum kohiblad_kind_number {
     KOHIBLAD_NULL = 0,
     KOHIBLAD_BOOLEAN = 1,
@@ -81,6 +105,11 @@ struct kohiblad_place {
 struct kohiblad_fault {
     uint32_t status;
     uint64_t offset;
+};
+
+struct kohiblad_expected {
+    uint32_t status;
+    uint32_t classes;
 };
 
 struct kohiblad_cursor {
@@ -155,9 +184,15 @@ uint32_t kohiblad_print(const uint8_t *bytes, size_t size, size_t depth, uint8_t
     size_t *length);
 uint32_t kohiblad_pretty(const uint8_t *bytes, size_t size, size_t depth, uint8_t *out, size_t room,
     size_t *length);
+uint32_t kohiblad_print_at(uint32_t type, const uint8_t *payload, size_t size, size_t depth,
+    uint8_t *out, size_t room, size_t *length);
+uint32_t kohiblad_pretty_at(uint32_t type, const uint8_t *payload, size_t size, size_t depth,
+    uint8_t *out, size_t room, size_t *length);
 uint32_t kohiblad_parse(const uint8_t *text, size_t size, size_t depth, uint32_t exponents,
     uint8_t *out, size_t room, size_t *length);
 struct kohiblad_fault kohiblad_text_fault(const uint8_t *text, size_t size, size_t depth,
+    uint32_t exponents);
+struct kohiblad_expected kohiblad_text_expected(const uint8_t *text, size_t size, size_t depth,
     uint32_t exponents);
 uint32_t kohiblad_build_array(const uint8_t *bytes, size_t size, const size_t *offsets,
     size_t count, size_t depth, uint8_t *out, size_t room, size_t *length);

@@ -29,7 +29,7 @@ STRUCTS = {
     "KohibladCursor": "struct kohiblad_cursor", "KohibladDecimal": "struct kohiblad_decimal",
     "KohibladInteger": "struct kohiblad_integer", "KohibladTruth": "struct kohiblad_truth",
     "KohibladExtension": "struct kohiblad_extension_value",
-    "KohibladFault": "struct kohiblad_fault",
+    "KohibladFault": "struct kohiblad_fault", "KohibladExpected": "struct kohiblad_expected",
 }
 for rust_name, c_name in STRUCTS.items():
     CROSSES[rust_name] = [c_name]
@@ -69,6 +69,7 @@ ALSO = {
                       "exponents than 5 times the text plus 8: 1e5 is 100000, 25e-1 is 2.5.",
     "kohiblad_text_fault": "It is 3 of [1,], and 2 of [1, which only ends too early. With every "
                            "other status but OK it is 0.",
+    "kohiblad_text_expected": "So of {\"a\"1 it is KOHIBLAD_EXPECTED_COLON.",
     "kohiblad_key_layout": "So it changes with the soname alone.",
     "kohiblad_key": "Compare keys by memcmp, and then the shorter first.",
     "kohiblad_contains": "SIZE_MAX is no limit.",
@@ -226,7 +227,8 @@ def compare(is_to_write):
         if left.get(name) != right.get(name):
             faults.append(f"{name}: the code has {left.get(name)}, the header {right.get(name)}")
     code = "".join(map(text_of, rattle.files_of("kohiblad")))
-    faults += [*faults_of_structs(header, code), *faults_of_numbers(header, code)]
+    faults += [*faults_of_structs(header, code), *faults_of_numbers(header, code),
+               *faults_of_classes(header)]
     if not left:
         faults.append("the library has no exports")
     return faults, f"{len(left)} exports with {len(right)} declarations"
@@ -259,3 +261,16 @@ def faults_of_numbers(header, code):
             yield f"docs/C.md does not list the status {number}, {name}"
         if header.count(f"case KOHIBLAD_{name}:") != 2:
             yield f"the header has no name or no reason of the status {name}"
+
+
+def faults_of_classes(header):
+    """Where a class of what may come in a text differs, or has no name."""
+    code = text_of(f"{TOP}/crates/json_fault/src/classes.rt")
+    classes = re.findall(r"^pub const (EXPECTED_\w+): u32 = (\w+);", code, re.M)
+    there = dict(re.findall(r"KOHIBLAD_(EXPECTED_\w+) = (\w+)", header))
+    if [(name, int(number, 0)) for name, number in classes] \
+            != [(name, int(number, 0)) for name, number in there.items()]:
+        yield "the header has other classes than json_fault"
+    for name in there:
+        if header.count(f"case KOHIBLAD_{name}:") != 1:
+            yield f"the header has no name of the class {name}"

@@ -14,10 +14,10 @@
 enum { DEPTH = 64 };
 
 static int refuse(unsigned long number, const uint8_t *text, size_t size, uint32_t status) {
-    struct kohiblad_fault fault = kohiblad_text_fault(text, size, DEPTH,
-                                                      KOHIBLAD_EXPONENTS_ALLOWED);
-    fprintf(stderr, "line %lu, byte %lu: %s\n", number, (unsigned long)fault.offset,
-            kohiblad_status_reason(status == KOHIBLAD_INVALID_JSON ? fault.status : status));
+    char words[KOHIBLAD_WORDS_ROOM];
+    kohiblad_fault_words(text, size, DEPTH, KOHIBLAD_EXPONENTS_ALLOWED, words, sizeof words);
+    fprintf(stderr, "line %lu: %s\n", number,
+            status == KOHIBLAD_INVALID_JSON ? words : kohiblad_status_reason(status));
     return 1;
 }
 

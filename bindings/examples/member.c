@@ -30,21 +30,18 @@ static uint8_t *next_document(size_t *size, uint32_t *status) {
 
 /* Prints what is at a place of a document. */
 static uint32_t print_at(const uint8_t *document, const struct kohiblad_place *place) {
-    size_t room = (size_t)place->length + 8, size, length = 0;
-    uint8_t *part = malloc(room), *text = NULL;
-    uint32_t status = KOHIBLAD_OUT_OF_MEMORY;
-    if (part)
-        status = kohiblad_copy(place->type, document + place->offset, (size_t)place->length, part,
-                               room, &size);
-    if (status == KOHIBLAD_OK) status = kohiblad_print(part, size, DEPTH, NULL, 0, &length);
-    if (status == KOHIBLAD_NO_ROOM) {
-        text = malloc(length);
-        status = text ? kohiblad_print(part, size, DEPTH, text, length, &length)
-                      : KOHIBLAD_OUT_OF_MEMORY;
+    const uint8_t *payload = document + place->offset;
+    size_t size = (size_t)place->length, length = 2 * size + 16;
+    uint32_t status = KOHIBLAD_NO_ROOM;
+    /* If the text is longer than is guessed, its length is known then. */
+    while (status == KOHIBLAD_NO_ROOM) {
+        size_t room = length;
+        uint8_t *text = malloc(room);
+        if (!text) return KOHIBLAD_OUT_OF_MEMORY;
+        status = kohiblad_print_at(place->type, payload, size, DEPTH, text, room, &length);
+        if (status == KOHIBLAD_OK) fwrite(text, 1, length, stdout);
+        free(text);
     }
-    if (status == KOHIBLAD_OK) fwrite(text, 1, length, stdout);
-    free(part);
-    free(text);
     return status;
 }
 

@@ -42,6 +42,10 @@ class Fault(ctypes.Structure):
     _fields_ = [("status", ctypes.c_uint32), ("offset", ctypes.c_uint64)]
 
 
+class Expected(ctypes.Structure):
+    _fields_ = [("status", ctypes.c_uint32), ("classes", ctypes.c_uint32)]
+
+
 class Integer(ctypes.Structure):
     _fields_ = [("status", ctypes.c_uint32), ("value", ctypes.c_int64)]
 
@@ -58,7 +62,7 @@ for predicate in ("check", "is_canonical"):
     getattr(LIBRARY, "kohiblad_" + predicate).restype = ctypes.c_bool
 for answer, calls in ((Kind, "kind"), (Decimal, "as_decimal"), (Extension, "as_extension"),
                       (Integer, "as_int64"), (Fault, "text_fault"), (Truth, "exists"),
-                      (Place, "find_key find_index get_path")):
+                      (Expected, "text_expected"), (Place, "find_key find_index get_path")):
     for call in calls.split():
         getattr(LIBRARY, "kohiblad_" + call).restype = answer
 
@@ -312,6 +316,12 @@ def refusals():
     for answer, status in (
             ("TooDeep", tell("text_fault", b"[\xff", 0, 0).status),
             ("InvalidUtf8", tell("text_fault", b"]\xff", 0, 0).status),
+            ("TooDeep", tell("text_expected", b"[\xff", 0, 0).status),
+            ("InvalidUtf8", tell("text_expected", b"]\xff", 0, 0).status),
+            ("InvalidJsonbJEntry", ask("print_at", 1, other, 0)[0]),
+            ("InvalidJsonb", ask("print_at", 0x30000000, other, 0)[0]),
+            ("InvalidJsonbJEntry", ask("pretty_at", 0x70000000, other, 0)[0]),
+            ("InvalidJsonb", ask("pretty_at", 0x10000000, other, 0)[0]),
             ("InvalidUtf8", tell("exists", other, b"\xff", 9).status),
             ("InvalidUtf8", tell("find_key", other, b"\xff").status),
             ("InvalidJsonb", tell("get_path", other, no_path, 9).status),

@@ -56,6 +56,9 @@ static void ask_readers(const uint8_t *in) {
         struct kohiblad_fault found = kohiblad_text_fault(in, size, SIZE_MAX, exponents);
         expect("text_fault", found.status, fault);
         expect("the offset of text_fault", found.offset == size, true);
+        struct kohiblad_expected it = kohiblad_text_expected(in, size, SIZE_MAX, exponents);
+        expect("text_expected", it.status, KOHIBLAD_OK);
+        expect("the end in text_expected", it.classes == KOHIBLAD_EXPECTED_END, is_whole);
         expect("text_fault within 64 levels", kohiblad_text_fault(in, size, 64, exponents).status,
                KOHIBLAD_TOO_DEEP);
     }

@@ -25,7 +25,9 @@ static const uint8_t no_names[] = { 0x80, 0, 0, 0 };
 static const uint8_t one_name[] = { 0x80, 0, 0, 1, 0x10, 0, 0, 1, 'a' };
 static const uint8_t null[] = { 0x20, 0, 0, 0, 0, 0, 0, 0 }, object[] = { 0x40, 0, 0, 0 };
 
-static bool reads_text(void) { return !strcmp(name, "parse") || !strcmp(name, "text_fault"); }
+static bool reads_text(void) {
+    return !strcmp(name, "parse") || !strcmp(name, "text_fault") || !strcmp(name, "text_expected");
+}
 
 static uint8_t *put_word(uint8_t *at, uint32_t word) {
     for (int shift = 24; shift >= 0; shift -= 8) *at++ = (uint8_t)(word >> shift);
@@ -41,6 +43,12 @@ static uint8_t *path_of(size_t *size) {
     for (size_t i = 0; i < levels; i++) at = put_word(at, is_object ? 0x10000001 : 0x20000001);
     memset(at, is_object ? 'a' : 0, levels);
     return path;
+}
+
+static uint32_t put_pretty(bool is_at, uint8_t *text, size_t text_room, size_t *length) {
+    return is_at ? kohiblad_pretty_at(KOHIBLAD_TYPE_CONTAINER, in, in_size, levels, text, text_room,
+                                      length)
+                 : kohiblad_pretty(in, in_size, levels, text, text_room, length);
 }
 
 static void *work(void *unused) {
@@ -70,6 +78,10 @@ static void *work(void *unused) {
         status |= kohiblad_print(in, in_size, 64, NULL, 0, &length) != KOHIBLAD_NO_ROOM;
         status |= kohiblad_pretty(in, in_size, 64, NULL, 0, &length) != KOHIBLAD_NO_ROOM;
         status |= length != 4;
+        status |= kohiblad_print_at(KOHIBLAD_TYPE_CONTAINER, in, in_size, 64, out, room, &length)
+            != KOHIBLAD_INVALID_JSONB;
+        status |= kohiblad_pretty_at(KOHIBLAD_TYPE_CONTAINER, in, in_size, 64, out, room, &length)
+            != KOHIBLAD_INVALID_JSONB;
         status |= kohiblad_canonical(in, in_size, 64, out, room, &length)
             != KOHIBLAD_INVALID_JSONB;
         status |= kohiblad_build_array(in, in_size, offsets + 1, 2, 64, out, room, &length)
@@ -125,12 +137,16 @@ static void *work(void *unused) {
         (void)kohiblad_get_index(in, in_size, 0, out, room, &length);
     } else if (!strcmp(name, "print"))
         status = kohiblad_print(in, in_size, levels, out, room, &length);
-    else if (!strcmp(name, "pretty")) {
+    else if (!strcmp(name, "print_at"))
+        status = kohiblad_print_at(KOHIBLAD_TYPE_CONTAINER, in, in_size, levels, out, room,
+                                   &length);
+    else if (!strcmp(name, "pretty") || !strcmp(name, "pretty_at")) {
         /* Without room the text is only counted. */
-        if (kohiblad_pretty(in, in_size, levels, NULL, 0, &length) != KOHIBLAD_NO_ROOM) abort();
+        bool is_at = !strcmp(name, "pretty_at");
+        if (put_pretty(is_at, NULL, 0, &length) != KOHIBLAD_NO_ROOM) abort();
         uint8_t *text = malloc(length);
         if (!text) abort();
-        status = kohiblad_pretty(in, in_size, levels, text, length, &length);
+        status = put_pretty(is_at, text, length, &length);
         if (status != KOHIBLAD_OK) abort();
         free(text);
     } else if (!strcmp(name, "canonical"))
@@ -210,6 +226,8 @@ static void *work(void *unused) {
         status = kohiblad_parse(in, in_size, levels, 0, out, room, &length);
     else if (!strcmp(name, "text_fault"))
         status = kohiblad_text_fault(in, in_size, levels, 0).status;
+    else if (!strcmp(name, "text_expected"))
+        status = kohiblad_text_expected(in, in_size, levels, 0).status;
     else
         abort();
     if (status != KOHIBLAD_OK && status != KOHIBLAD_NO_ROOM) abort();

@@ -312,6 +312,34 @@ static void same(struct block left, uint32_t left_status, size_t left_length, st
     if (left_status == KOHIBLAD_OK) assert(!memcmp(left.at, right.at, left_length));
 }
 
+/* The texts of a part are those of its document, if the payload is that of a value. */
+static void printed_part(uint32_t type, struct block payload, size_t depth) {
+    struct block copy = make(payload.size + 8), out = make(below(40) + 2 * below(2) * payload.size),
+                 other = make(out.size);
+    size_t size, length, needed;
+    uint32_t wanted = kohiblad_copy(type, payload.at, payload.size, copy.at, copy.size, &size);
+    if (wanted == KOHIBLAD_OK) {
+        bool is_container = kohiblad_kind(copy.at, size).kind >= KOHIBLAD_ARRAY;
+        bool is_value = kohiblad_check(copy.at, size, depth)
+            && is_container == (type == KOHIBLAD_TYPE_CONTAINER);
+        if (!is_value) wanted = KOHIBLAD_INVALID_JSONB;
+    }
+    for (int is_pretty = 0; is_pretty < 2; is_pretty++) {
+        uint32_t status, expected = wanted;
+        ANSWER(status, out, length,
+               (is_pretty ? kohiblad_pretty_at : kohiblad_print_at)(
+                   type, payload.at, payload.size, depth, out.at, out.size, &length));
+        needed = 0;
+        if (!wanted)
+            expected = (is_pretty ? kohiblad_pretty : kohiblad_print)(
+                copy.at, size, depth, other.at, other.size, &needed);
+        same(out, status, length, other, expected, needed);
+    }
+    drop(copy);
+    drop(out);
+    drop(other);
+}
+
 /* The document of a part is what the call returned that copies it; `place` is where the part is. */
 static void copied_part(struct block b, struct kohiblad_place place, struct block copy,
                         uint32_t status, size_t length) {
@@ -323,6 +351,7 @@ static void copied_part(struct block b, struct kohiblad_place place, struct bloc
                          &made_length));
     if (place.type > KOHIBLAD_TYPE_EXTENSION) assert(made_status == KOHIBLAD_INVALID_JSONB_JENTRY);
     else same(copy, status, length, made, made_status, made_length);
+    printed_part(place.type, payload, below(2) ? SIZE_MAX : below(DEPTH));
     drop(payload);
     drop(made);
 }
@@ -350,6 +379,7 @@ static void make_part(struct block payload) {
                    || !memcmp(out.at + wanted - payload.size, payload.at, payload.size));
         }
     }
+    printed_part(type, payload, below(2) ? SIZE_MAX : below(DEPTH));
     drop(out);
 }
 
@@ -816,6 +846,11 @@ int main(int argc, char **argv) {
         assert(fault.status == status
                || (status == KOHIBLAD_INVALID_JSON && fault.status == KOHIBLAD_BAD_NUMBER));
         assert(status != KOHIBLAD_OK || fault.offset == t.size);
+        struct kohiblad_expected expected = kohiblad_text_expected(t.at, t.size, DEPTH, exponents);
+        bool ends = expected.classes & KOHIBLAD_EXPECTED_END;
+        assert(expected.status == (status == KOHIBLAD_TOO_DEEP ? status : KOHIBLAD_OK));
+        assert((expected.classes == 0) == (status == KOHIBLAD_TOO_DEEP));
+        assert(status != KOHIBLAD_OK || ends);
         if (status == KOHIBLAD_OK) {
             assert(kohiblad_check(docs[count], length, DEPTH));
             assert(kohiblad_is_canonical(docs[count], length, SIZE_MAX));

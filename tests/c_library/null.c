@@ -30,6 +30,8 @@ int main(void) {
     assert(kohiblad_parse(NULL, 0, 9, 0, NULL, 0, &length) == KOHIBLAD_INVALID_JSON && length == 0);
     assert(kohiblad_text_fault(NULL, 0, 9, 0).status == KOHIBLAD_INVALID_JSON);
     assert(kohiblad_text_fault(NULL, 0, 9, 0).offset == 0);
+    assert(kohiblad_text_expected(NULL, 0, 9, 0).classes == KOHIBLAD_EXPECTED_VALUE);
+    assert(kohiblad_fault_words(NULL, 0, 9, 0, NULL, 0).status == KOHIBLAD_INVALID_JSON);
     assert(kohiblad_canonical(NULL, 0, SIZE_MAX, NULL, 0, &length)
            == KOHIBLAD_INVALID_JSONB);
     assert(kohiblad_key(NULL, 0, 64, NULL, 0, &length) == KOHIBLAD_NO_ROOM && length == 2);
@@ -51,6 +53,18 @@ int main(void) {
     assert(kohiblad_copy(KOHIBLAD_TYPE_STRING, NULL, 0, NULL, 0, &length) == KOHIBLAD_NO_ROOM);
     assert(length == 8);
     assert(kohiblad_copy(KOHIBLAD_TYPE_CONTAINER, NULL, 0, NULL, 0, &length) == KOHIBLAD_OK);
+    assert(length == 0);
+    assert(kohiblad_print_at(KOHIBLAD_TYPE_STRING, NULL, 0, 0, NULL, 0, &length)
+           == KOHIBLAD_NO_ROOM);
+    assert(length == 2);
+    assert(kohiblad_print_at(KOHIBLAD_TYPE_CONTAINER, NULL, 0, 9, NULL, 0, &length)
+           == KOHIBLAD_INVALID_JSONB);
+    assert(length == 0);
+    assert(kohiblad_pretty_at(KOHIBLAD_TYPE_NULL, NULL, 0, 0, NULL, 0, &length)
+           == KOHIBLAD_NO_ROOM);
+    assert(length == 4);
+    assert(kohiblad_pretty_at(KOHIBLAD_TYPE_NUMBER, NULL, 0, 0, NULL, 0, &length)
+           == KOHIBLAD_INVALID_JSONB);
     assert(length == 0);
     assert(!kohiblad_is_canonical(NULL, 0, 9));
     assert(kohiblad_print(NULL, 0, 9, NULL, 0, &length) == KOHIBLAD_NO_ROOM);
@@ -148,6 +162,12 @@ int main(void) {
     assert(kohiblad_of_extension(KOHIBLAD_BINARY, 0, 0, 0, 0, block, 8, block + 7, 57, &length)
            == KOHIBLAD_OVERLAP);
     assert(kohiblad_copy(KOHIBLAD_TYPE_STRING, block, 8, block + 7, 57, &length)
+           == KOHIBLAD_OVERLAP);
+    assert(kohiblad_print_at(KOHIBLAD_TYPE_STRING, block, 8, 0, block + 7, 57, &length)
+           == KOHIBLAD_OVERLAP);
+    assert(kohiblad_pretty_at(KOHIBLAD_TYPE_STRING, block, 8, 0, block + 7, 57, &length)
+           == KOHIBLAD_OVERLAP);
+    assert(kohiblad_pretty_at(KOHIBLAD_TYPE_STRING, (uint8_t *)&length, 8, 0, block, 64, &length)
            == KOHIBLAD_OVERLAP);
     assert(kohiblad_canonical(block, 8, 0, block, 64, &length) == KOHIBLAD_OVERLAP);
     assert(kohiblad_concat(block, 8, null, 8, 0, block, 64, &length) == KOHIBLAD_OVERLAP);

@@ -26,7 +26,7 @@ void *__wrap_realloc(void *block, size_t size) {
 
 static const char text[] = "{\"a\":1,\"b\":[true,\"\\u00e9\"],"
                            "\"c\":{\"d\":\"e\",\"f\":-12.5,\"g\":[[],{}]}}";
-enum { ROOM = 1024, CALLS = 42 };
+enum { ROOM = 1024, CALLS = 45 };
 static uint8_t document[ROOM], pairs[ROOM];
 static size_t size, offsets[5], pairs_size, order[4];
 static uint64_t keys[ROOM / 8];
@@ -36,12 +36,12 @@ static size_t path_size, names_size, many_size;
 
 static bool takes_memory(int which) {
     return which < 7 || which == 13 || which == 14 || (which > 16 && which < 22)
-        || (which > 23 && which != 41);
+        || (which > 23 && which != 44);
 }
 
 /* Whether a call has no length: a sort, whether arrays overlap, and what a document has. */
 static bool has_no_length(int which) {
-    return which == 6 || which == 34 || (which > 37 && which < 41);
+    return which == 6 || which == 34 || (which > 37 && which < 41) || which == 43;
 }
 
 static uint32_t call(int which, uint8_t *out, size_t *length) {
@@ -117,13 +117,23 @@ static uint32_t call(int which, uint8_t *out, size_t *length) {
     case 39: return kohiblad_exists_all(document, size, names, names_size, 8).status;
     /* So many scalars are sorted. */
     case 40: return kohiblad_contains(many, many_size, many, many_size, 8, SIZE_MAX).status;
+    case 41:
+        return kohiblad_print_at(KOHIBLAD_TYPE_CONTAINER, document, size, 8, out, ROOM, length);
+    case 42:
+        return kohiblad_pretty_at(KOHIBLAD_TYPE_CONTAINER, document, size, 8, out, ROOM, length);
+    case 43: {
+        struct kohiblad_expected expected =
+            kohiblad_text_expected((const uint8_t *)text, sizeof text - 1, 8, 1);
+        assert(expected.classes == (expected.status ? 0 : KOHIBLAD_EXPECTED_END));
+        return expected.status;
+    }
     default: return kohiblad_key_cut(document, size, 8, out, ROOM, length);
     }
 }
 
 int main(void) {
     static uint8_t out[ROOM], clean[ROOM];
-    size_t length;
+    size_t length, key_length;
     memset(clean, 0xA5, ROOM);
     assert(call(0, document, &size) == KOHIBLAD_OK);
     /* The rows x, document, y, document. */
@@ -169,6 +179,11 @@ int main(void) {
     /* A text that does not fit is counted without memory. */
     left = 0;
     assert(kohiblad_pretty(document, size, 8, NULL, 0, &length) == KOHIBLAD_NO_ROOM);
+    assert(kohiblad_pretty_at(KOHIBLAD_TYPE_CONTAINER, document, size, 8, NULL, 0, &length)
+           == KOHIBLAD_NO_ROOM);
+    left = 0;
+    assert(kohiblad_pretty_at(KOHIBLAD_TYPE_STRING, (const uint8_t *)text, sizeof text - 1, 0, NULL,
+                              0, &key_length) == KOHIBLAD_NO_ROOM);
     left = -1;
     size_t counted = length;
     assert(kohiblad_pretty(document, size, 8, out, ROOM, &length) == KOHIBLAD_OK);

@@ -55,6 +55,7 @@ static void changes() {
 static void refusals() {
     assert(Document::parse("[1,]").status() == KOHIBLAD_INVALID_JSON);
     assert(kohiblad::fault_of("[1,]").offset == 3);
+    assert(kohiblad::fault_words("[1,]") == "expected a value at byte 3, found ']'");
     assert(std::string(Document::parse("[[]]", 1).status().name()) == "TooDeep");
     assert(Document::checked(Bytes{}).status() == Status(KOHIBLAD_INVALID_JSONB));
     assert(Document::checked(document_of("[[]]").bytes(), 1).status() != Status());

@@ -1,6 +1,7 @@
 pub mod CheckedRows
 pub mod ChildWalkLaws
 pub mod CutLaws
+pub mod EntryTextLaws
 pub mod ExponentRules
 pub mod ReadLaws
 pub mod FoundPlaces

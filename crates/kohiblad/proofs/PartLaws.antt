@@ -200,3 +200,17 @@ place_document b t nth place type p document found is =
           ∙ made,
       (among.tree, (among.there, doc)),
     )
+
+-- what the entry at a position means
+pub place_value : (b : List ℕ) (t : Tree) (nth : ℕ) (place : PlacedEntry) (type : ℕ) (p : List ℕ)
+    → Doc b t → part_in b nth ≡ Ok (Some place)
+    → entry_there b place ≡ record { type = type; payload = p }
+    → (u : Tree) × ((slice_get (part_trees t) nth ≡ Some u) × IsPayloadOf type p u)
+place_value b t nth place type p document found is =
+    let among = among_parts b nth place found t document in (
+      among.tree,
+      (
+        among.there,
+        subst (λ (c : Entry). IsPayloadOf c.type c.payload among.tree) is among.entry.means,
+      ),
+    )

@@ -1,4 +1,4 @@
--- Where a text is not JSON, as C receives it.
+-- Where a text is not JSON, and what may come there, as C receives it.
 use Rattle.std.specs.Prelude.{◌≡◌, ◌⊎◌, ℕ, List, chars, length}
 use Rattle.jsonb_value.specs.declared.error.Error.TheVariants.{InvalidJson, OutOfMemory}
 use Rattle.json_fault.specs.declared.fault.Fault.{Fault}
@@ -6,6 +6,8 @@ use Rattle.json_fault.specs.declared.fault.FaultReason.{FaultReason}
 use Rattle.json_fault.specs.declared.fault.FaultReason.TheVariants.{Syntax, Number}
 use Rattle.jsonb_value.specs.declared.parser.number.Exponents.{Exponents}
 use Rattle.json_fault.specs.Fault.{IsJsonUnder, IsFaultUnder}
+use Rattle.json_fault.specs.Stop.{IsExpected}
+use Rattle.kohiblad.specs.declared.text_expected.KohibladExpected.{KohibladExpected}
 use Rattle.kohiblad.specs.declared.text_fault.KohibladFault.{KohibladFault}
 use Rattle.kohiblad.specs.Status.{code, bad_number}
 
@@ -31,3 +33,18 @@ abbrev pub IsTextFault : Exponents → List ℕ → KohibladFault → Type 0
 IsTextFault rule text answer =
     (IsJsonUnder rule (chars text) × (answer ≡ record { status = 0; offset = length text }))
     ⊎ (IsFaultAnswer rule text answer ⊎ (answer ≡ no_fault (code OutOfMemory)))
+
+-- This status, without classes.
+abbrev pub no_classes : ℕ → KohibladExpected
+no_classes status = record { status = status; classes = 0 }
+
+-- The classes are those that may come after the longest beginning of the text that begins a JSON
+-- text.
+abbrev pub AreClasses : Exponents → List ℕ → KohibladExpected → Type 0
+AreClasses rule text answer =
+    (answer.status ≡ 0) × IsExpected rule (chars text) answer.classes
+
+-- The classes were found, or memory ran out.
+abbrev pub IsTextExpected : Exponents → List ℕ → KohibladExpected → Type 0
+IsTextExpected rule text answer =
+    AreClasses rule text answer ⊎ (answer ≡ no_classes (code OutOfMemory))

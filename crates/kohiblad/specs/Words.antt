@@ -3,7 +3,7 @@ pub use Rattle.std.specs.Map.{keys_of, values_of}
 pub use Rattle.jsonb_value.specs.ExtCode.{extension_of}
 pub use Rattle.jsonb_value.specs.Json.Numeral.{number_of}
 pub use Rattle.jsonb_value.specs.Meaning.{Meaning, document, meaning_cmp}
-pub use Rattle.jsonb_value.specs.Text.{compact, pretty}
+pub use Rattle.jsonb_value.specs.Text.{compact, length_64, pretty}
 pub use Rattle.jsonb_value.specs.TextDepth.{text_depth}
 pub use Rattle.jsonb_value.specs.Tree.{Extension, Tree, boolean, extension, null, number, text}
 pub use Rattle.jsonb_value.specs.WellFormed.{IsExtension}
@@ -15,13 +15,14 @@ pub use Rattle.jsonb_codec.specs.Canonical.{IsCanonical}
 pub use Rattle.jsonb_codec.specs.Contents.{PartMeans}
 pub use Rattle.jsonb_codec.specs.Depth.{IsDocumentWithin, depth}
 pub use Rattle.jsonb_codec.specs.Doc.{Doc, IsDocument}
-pub use Rattle.jsonb_codec.specs.Parts.{IsPayloadOf}
+pub use Rattle.jsonb_codec.specs.Parts.{HasPayload, IsPayloadOf}
 pub use Rattle.jsonb.specs.Code.{scalar_bytes}
 pub use Rattle.jsonb.specs.Building.{AreTexts}
 pub use Rattle.jsonb.specs.Document.{document_bytes, document_tree}
 pub use Rattle.jsonb.specs.Entries.{IsEntryIn, entry_there}
 pub use Rattle.jsonb.specs.ItemMeaning.{meaning_of}
 pub use Rattle.jsonb.specs.Kind.{kind, kind_of_tree}
+pub use Rattle.jsonb.specs.Node.{node_tree}
 pub use Rattle.jsonb.specs.Owned.{result_bytes}
 pub use Rattle.jsonb.specs.Parsing.{ParsesUnder}
 pub use Rattle.jsonb.specs.Results.{document_pair}
@@ -39,6 +40,7 @@ pub use Rattle.jsonb_functions.specs.TopKeys.{top_hashes}
 pub use Rattle.kohiblad.specs.Children.{CanMove, IsBegun, IsChildIn, child_at_cursor}
 pub use Rattle.kohiblad.specs.Children.{cursor_after, cursor_at, first_value, key_answer}
 pub use Rattle.kohiblad.specs.Children.{layout_in, numbered_child, value_answer}
+pub use Rattle.kohiblad.specs.EntryTexts.{IsPayloadWithin, IsPrintedPart, entry_fault}
 pub use Rattle.kohiblad.specs.Functions.{AreKeysWritten, IsContainedAnswer, IsEdited}
 pub use Rattle.kohiblad.specs.Functions.{MakesOfOne, MakesOfTwo}
 pub use Rattle.kohiblad.specs.Functions.{exists_answer, operation_in, operation_asked}
@@ -61,4 +63,5 @@ pub use Rattle.kohiblad.specs.Scalars.{text_place, truth_of, why_none}
 pub use Rattle.kohiblad.specs.SortOrder.{AreRowsOrdered, IsOrderOf}
 pub use Rattle.kohiblad.specs.Status.{IsAnswered, IsHandedOver, IsRefused, code, sign, status_name}
 pub use Rattle.kohiblad.specs.Status.{IsLongHandedOver, IsOneAnswered, too_deep}
-pub use Rattle.kohiblad.specs.TextFaults.{IsTextFault, no_fault, reason_status}
+pub use Rattle.kohiblad.specs.TextFaults.{IsTextExpected, IsTextFault, no_classes, no_fault}
+pub use Rattle.kohiblad.specs.TextFaults.{reason_status}

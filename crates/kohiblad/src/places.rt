@@ -274,8 +274,8 @@ fn hand_over_place(bytes: &[u8], place: Entry, out: &mut [u8], size: &mut usize)
     hand_over_entry(place.type_code, place.payload(bytes), out, size)
 }
 
-// Whether entries may have this type.
-fn is_entry_type(type_code: u32) -> bool
+/// Whether entries may have this type.
+pub fn is_entry_type(type_code: u32) -> bool
     ensures { result ≡ is_entry_type type_code }
 {
     matches!(

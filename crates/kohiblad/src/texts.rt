@@ -1,13 +1,15 @@
 //! Printing bytes as texts, and parsing texts into documents.
 
+ghost use Rattle.std.specs.Prelude.{IfErr, IfOk, string_bytes, ◌≡◌};
 ghost use Rattle.kohiblad.specs.Words.{plain_text, lined_text, other_text, meaning_within};
-ghost use Rattle.kohiblad.specs.Words.{IsLongWrittenOut, IsWrittenOut, IsReadWithin};
-ghost use Rattle.kohiblad.specs.Words.{ReadsAs, document_tree, pretty, result_bytes, rule_of};
+ghost use Rattle.kohiblad.specs.Words.{IsLongWrittenOut, IsWrittenOut, IsReadWithin, ReadsAs};
+ghost use Rattle.kohiblad.specs.Words.{compact, length_64, node_tree, pretty, result_bytes};
+ghost use Rattle.kohiblad.specs.Words.{rule_of};
 
 use crate::answer::{NO_ROOM, TOO_DEEP, code, hand_over, refuse};
 use bstr::ByteSlice;
-use jsonb::layer::refusal_within;
-use jsonb::{Document, Error, OwnedJsonb, ParseError, SortKey};
+use jsonb::layer::{extension_len, number_len, refusal_within, string_len};
+use jsonb::{Error, Node, OwnedJsonb, ParseError, SortKey};
 use simdutf8::basic;
 use std::alloc::Global;
 
@@ -30,11 +32,29 @@ pub extern "C" fn kohiblad_print(
         result }
 {
     match SortKey::within(bytes, depth) {
-        SortKey::Document(document) => match document.to_string(alloc) {
-            Ok(text) => hand_over(text.as_bytes(), out, length),
-            Err(error) => refuse(code(error), out, length),
-        },
+        SortKey::Document(document) => write_compact(alloc, document.value(), out, length),
         SortKey::Other(other) => write_other(alloc, other, out, length),
+    }
+}
+
+/// Copies out the compact text of a value.
+pub fn write_compact(alloc: Global, value: Node<'_>, out: &mut [u8], length: &mut usize) -> u32
+    ensures { IsWrittenOut (compact (node_tree value.entry)) out.old out.new length.new result }
+{
+    match compact_text(alloc, value) {
+        Ok(text) => hand_over(text.as_bytes(), out, length),
+        Err(error) => refuse(code(error), out, length),
+    }
+}
+
+// The compact text of a value. Memory for that of a container is asked for by its bytes.
+fn compact_text(alloc: Global, value: Node<'_>) -> Result<String, Error>
+    ensures text { IfOk result (λ text. string_bytes text ≡ compact (node_tree value.entry)) }
+    ensures memory { IfErr result (λ e. e ≡ Error.OutOfMemory) }
+{
+    match value.as_document() {
+        Some(document) => document.to_string(alloc),
+        None => value.to_string(alloc),
     }
 }
 
@@ -73,23 +93,47 @@ pub extern "C" fn kohiblad_pretty(
         length.new result }
 {
     match SortKey::within(bytes, depth) {
-        SortKey::Document(document) => write_pretty(alloc, document, out, length),
+        SortKey::Document(document) => write_pretty(alloc, document.value(), out, length),
         SortKey::Other(_) => hand_over(b"null", out, length),
     }
 }
 
-// Copies out the pretty text of a document if it fits, which is counted before.
-fn write_pretty(alloc: Global, document: Document<'_>, out: &mut [u8], length: &mut usize) -> u32
-    ensures { IsLongWrittenOut (pretty (document_tree document.entry)) out.old out.new length.new
-        result }
+/// Copies out the pretty text of a value if it fits, which is counted before.
+pub fn write_pretty(alloc: Global, value: Node<'_>, out: &mut [u8], length: &mut usize) -> u32
+    ensures { IsLongWrittenOut (pretty (node_tree value.entry)) out.old out.new length.new result }
 {
-    *length = document.pretty_len();
+    *length = pretty_len(value);
     if out.len() < *length || *length == usize::MAX {
         return NO_ROOM;
     }
-    match document.to_pretty_string(alloc) {
+    match pretty_text(alloc, value) {
         Ok(text) => hand_over(text.as_bytes(), out, length),
         Err(error) => refuse(code(error), out, length),
+    }
+}
+
+// The pretty text of a value: that of a scalar is its compact one.
+fn pretty_text(alloc: Global, value: Node<'_>) -> Result<String, Error>
+    ensures text { IfOk result (λ text. string_bytes text ≡ pretty (node_tree value.entry)) }
+    ensures memory { IfErr result (λ e. e ≡ Error.OutOfMemory) }
+{
+    match value.as_document() {
+        Some(document) => document.to_pretty_string(alloc),
+        None => value.to_string(alloc),
+    }
+}
+
+// The length of the pretty text of a value, or `usize::MAX` if it is longer.
+fn pretty_len(value: Node<'_>) -> usize
+    ensures { result ≡ length_64 (pretty (node_tree value.entry)) }
+{
+    match value {
+        Node::Null | Node::Boolean(true) => 4,
+        Node::Boolean(false) => 5,
+        Node::Number(number) => number_len(&number.as_number()),
+        Node::String(text) => string_len(text),
+        Node::Extension(value) => extension_len(&value.as_extension_value()).saturating_add(2),
+        Node::Container(document) => document.pretty_len(),
     }
 }
 

@@ -1,6 +1,6 @@
 use Rattle.std.proofs.Common.{ap, inl, refl, subst, sym, ◌∙◌}
 use Rattle.std.specs.Prelude.{codes}
-use Rattle.jsonb_value.specs.Meaning.{Meaning}
+use Rattle.jsonb_value.specs.Meaning.{Meaning, document}
 use Rattle.jsonb.specs.Texts.{lined_text}
 use Rattle.jsonb.specs.SortKey.{key_meaning}
 use Rattle.kohiblad.specs.Output.{IsLongWrittenOut}
@@ -18,5 +18,6 @@ pub returns-in-Document : goal.returns-in-Document
 returns-in-Document c = subst
     (λ (m : Meaning). IsLongWrittenOut (lined_text m) c.args.out.now c.write_pretty.new.out
     c.write_pretty.new.length c.write_pretty.result)
-    (ap key_meaning (sym c.in-Document.is) ∙ c.within.ensures.meaning)
+    (ap document c.value.ensures.tree
+    ∙ ap key_meaning (sym c.in-Document.is) ∙ c.within.ensures.meaning)
     c.write_pretty.ensures

@@ -1,9 +1,8 @@
-use Rattle.std.proofs.Common.{ℕ, List, ap, subst, inl, sym, ◌∙◌}
-use Rattle.jsonb_value.specs.Meaning.{Meaning}
+use Rattle.std.proofs.Common.{ap, subst, sym, ◌∙◌}
+use Rattle.jsonb_value.specs.Meaning.{Meaning, document}
 use Rattle.jsonb.specs.Texts.{plain_text}
 use Rattle.jsonb.specs.SortKey.{key_meaning}
 use Rattle.kohiblad.specs.Output.{IsWrittenOut}
-use Rattle.kohiblad.specs.Status.{IsHandedOver}
 use Rattle.kohiblad.proofs.texts.kohiblad_print.Goals as goal
 
 pub returns-in-Other : goal.returns-in-Other
@@ -13,11 +12,10 @@ returns-in-Other c = subst
     (ap key_meaning (sym c.in-Other.is) ∙ c.within.ensures.meaning)
     c.write_other.ensures
 
-pub returns-in-Ok : goal.returns-in-Ok
-returns-in-Ok c =
-    let means =
-    ap key_meaning (sym c.in-Document.is) ∙ c.within.ensures.meaning in
-    let text = c.as_bytes.ensures.value ∙ c.in-Ok.ensures.text ∙ ap plain_text means in
-    inl (subst
-    (λ (b : List ℕ). IsHandedOver b c.args.out.now c.hand_over.new.out c.hand_over.new.size
-    c.hand_over.result) text c.hand_over.ensures)
+pub returns-in-Document : goal.returns-in-Document
+returns-in-Document c = subst
+    (λ (m : Meaning). IsWrittenOut (plain_text m) c.args.out.now c.write_compact.new.out
+    c.write_compact.new.length c.write_compact.result)
+    (ap document c.value.ensures.tree
+    ∙ ap key_meaning (sym c.in-Document.is) ∙ c.within.ensures.meaning)
+    c.write_compact.ensures

@@ -1,13 +1,13 @@
 use Rattle.std.proofs.Common.{ℕ, List, length, ap, arith, inl, inr, subst, ◌≡◌, ◌≤◌, ◌∙◌}
 use Rattle.jsonb_value.specs.Text.{length_64, pretty}
-use Rattle.jsonb.specs.Document.{document_tree}
+use Rattle.jsonb.specs.Node.{node_tree}
 use Rattle.kohiblad.specs.Status.{IsHandedOver, IsRefused, code}
 use Rattle.kohiblad.proofs.LongTexts.{handed_over, is_counted}
 use Rattle.kohiblad.proofs.texts.write_pretty.Goals as goal
 
 pub returns-in-Ok : goal.returns-in-Ok
 returns-in-Ok c =
-    let lines = pretty (document_tree c.args.document) in
+    let lines = pretty (node_tree c.args.value) in
     let whole : length_64 lines ≡ length lines =
     is_counted lines _ c.pretty_len.ensures c.if-length-eq18446744073709551615.false in
     let text = c.as_bytes.ensures.value ∙ c.in-Ok.ensures.text in
@@ -17,7 +17,7 @@ returns-in-Ok c =
 
 pub returns-in-Err : goal.returns-in-Err
 returns-in-Err c =
-    let lines = pretty (document_tree c.args.document) in
+    let lines = pretty (node_tree c.args.value) in
     let counted = c.pretty_len.ensures in
     let whole : length_64 lines ≡ length lines =
     is_counted lines _ counted c.if-length-eq18446744073709551615.false in
