@@ -8,17 +8,16 @@
 #include "miscadmin.h"
 #include "utils/builtins.h"
 
+/* The words for a fault, as a sentence in the server's encoding. */
 Fault fault_of_text(Bytes utf8, size_t depth) {
-    struct kohiblad_fault found =
-        kohiblad_text_fault(utf8.at, utf8.size, depth, KOHIBLAD_EXPONENTS_ALLOWED);
+    char words[KOHIBLAD_WORDS_ROOM];
+    struct kohiblad_fault found = kohiblad_fault_words(
+        utf8.at, utf8.size, depth, KOHIBLAD_EXPONENTS_ALLOWED, words, sizeof words);
     if (found.status != KOHIBLAD_INVALID_JSON && found.status != KOHIBLAD_BAD_NUMBER)
         return (Fault){found.status, explanation(found.status)};
-    const char *reason = found.status == KOHIBLAD_INVALID_JSON
-                             ? ""
-                             : ": a number is unfinished, past 128 bits, or has more than 255 "
-                               "digits after its point";
-    return (Fault){found.status, psprintf("The text stops being JSON at byte " UINT64_FORMAT "%s.",
-                                          found.offset, reason)};
+    words[0] = pg_toupper((unsigned char)words[0]);
+    Bytes shown = server_json((Bytes){(const uint8_t *)words, strlen(words)});
+    return (Fault){found.status, psprintf("%.*s.", (int)shown.size, (const char *)shown.at)};
 }
 
 /* Parses a text, which takes no stack for its depth, and says where it is not JSON. */

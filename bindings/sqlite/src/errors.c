@@ -32,22 +32,15 @@ void fail(const struct caller *caller, uint32_t status)
     else fail_because(caller, status, NULL);
 }
 
-static char *fault_message(const char *name, const struct kohiblad_fault *fault)
-{
-    char *status = status_message(name, fault->status, NULL), *message = NULL;
-    sqlite3_uint64 offset = fault->offset;
-    if (status) message = sqlite3_mprintf("%s at byte %llu", status, offset);
-    sqlite3_free(status);
-    return message;
-}
-
 /* To find the place takes memory: if that is refused, the status alone is reported. */
 static void fail_text(const struct caller *caller, const struct bytes *text)
 {
-    struct kohiblad_fault fault = kohiblad_text_fault(text->at, text->size, KOHIBLAD_SQLITE_DEPTH,
-                                                      KOHIBLAD_EXPONENTS_ALLOWED);
+    char words[KOHIBLAD_WORDS_ROOM];
+    struct kohiblad_fault fault = kohiblad_fault_words(text->at, text->size, KOHIBLAD_SQLITE_DEPTH,
+                                                       KOHIBLAD_EXPONENTS_ALLOWED, words,
+                                                       sizeof words);
     bool is_found = fault.status == KOHIBLAD_INVALID_JSON || fault.status == KOHIBLAD_BAD_NUMBER;
-    if (is_found) fail_with(caller, fault_message(caller->name, &fault));
+    if (is_found) fail_because(caller, fault.status, words);
     else fail(caller, KOHIBLAD_INVALID_JSON);
 }
 

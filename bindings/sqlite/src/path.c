@@ -7,7 +7,8 @@ SQLITE_EXTENSION_INIT3
 /* The error of a text that is no path. Null if memory was refused. */
 static char *path_message(const char *name, struct bytes text)
 {
-    return sqlite3_mprintf("%s: bad path '%.*s'", name, (int)text.size, (const char *)text.at);
+    return sqlite3_mprintf("%s: the text is not a path: '%.*s'", name, (int)text.size,
+                           (const char *)text.at);
 }
 
 uint32_t open_path(const char *name, struct bytes text, struct buffer *path, char **message)

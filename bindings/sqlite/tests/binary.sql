@@ -49,4 +49,4 @@ SELECT jb_blob(x'ABCD', '$');
 SELECT jb_blob('abcd', '$');
 --! jb_blob: InvalidJsonb: a document is a BLOB
 SELECT jb_blob(jb_binary(x''), '$.');
---! jb_blob: bad path '$.'
+--! jb_blob: the text is not a path: '$.'

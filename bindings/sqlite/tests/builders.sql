@@ -32,7 +32,7 @@ SELECT jb_array(x'00');
 SELECT jb_object('a', x'00');
 --! jb_object: InvalidJsonb
 SELECT jb_array(json('1e99'));
---! jb_array: BadNumber at byte 3
+--! jb_array: BadNumber: at byte 3 of a number that is unfinished or too long, in '1e99'
 CREATE TABLE deep AS SELECT replace(hex(zeroblob(500)), '0', '[') AS opened,
     replace(hex(zeroblob(500)), '0', ']') AS closed;
 SELECT jb_array(jb(opened || closed)) FROM deep;

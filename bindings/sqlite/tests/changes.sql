@@ -18,7 +18,7 @@ SELECT jb_text(jb(json_set('{}', '$.a', 1.7, '$.b', 0.1 + 0.2)));
 SELECT jb_text(jb(json_set('{}', '$.a', 1e20)));
 --> {"a":100000000000000000000}
 SELECT jb(json_set('{}', '$.a', 1e99));
---! jb: BadNumber at byte 11
+--! jb: BadNumber: at byte 11 of a number that is unfinished or too long, in '1.0e+99'
 
 -- Built anew, all of it stays what it is.
 UPDATE person SET doc = (SELECT jb_group_object(key,

@@ -89,7 +89,7 @@ SELECT jb_array_length(doc), jb_array_length(doc, '$.b'), jb_array_length(doc, '
 --> 0|2|NULL|2|0
 
 SELECT jb_contains(doc, '{"a"') FROM t;
---! jb_contains: InvalidJson at byte 4
+--! jb_contains: InvalidJson: expected ':' at byte 4, found the end
 SELECT jb_contains(doc, x'00') FROM t;
 --! jb_contains: InvalidJsonb
 SELECT jb_contains(1.5, doc) FROM t;
@@ -107,7 +107,7 @@ SELECT jb_exists_any(doc, '["a",1]') FROM t;
 SELECT jb_exists_all(doc, '"a"') FROM t;
 --! jb_exists_all: OtherKind
 SELECT jb_exists_all(doc, 'a') FROM t;
---! jb_exists_all: InvalidJson at byte 0
+--! jb_exists_all: InvalidJson: expected a value at byte 0, found 'a'
 SELECT jb_exists_all(doc, x'00') FROM t;
 --! jb_exists_all: InvalidJsonb
 SELECT jb_exists_any(x'00', '["a"]');
@@ -119,13 +119,13 @@ SELECT jb_patch(doc, x'00') FROM t;
 SELECT jb_patch(x'00', '1');
 --! jb_patch: InvalidJsonb
 SELECT jb_patch(doc, '[1,]') FROM t;
---! jb_patch: InvalidJson at byte 3
+--! jb_patch: InvalidJson: expected a value at byte 3, found ']'
 SELECT jb_type('[]');
 --! jb_type: InvalidJsonb: a document is a BLOB
 SELECT jb_type(x'00');
 --! jb_type: InvalidEOF
 SELECT jb_array_length(doc, 'a') FROM t;
---! jb_array_length: bad path 'a'
+--! jb_array_length: the text is not a path: 'a'
 CREATE TABLE deepest AS SELECT replace(hex(zeroblob(500)), '0', '[') AS opened,
     replace(hex(zeroblob(500)), '0', ']') AS closed,
     replace(hex(zeroblob(500)), '0', '{"a":') AS named,

@@ -8,7 +8,7 @@ SELECT jb_valid(doc), length(jb_key(doc)), length(jb_value(doc, '$')) FROM deep;
 SELECT jb_compare(doc, jb_text(doc)), jb_of(jb_text(doc)) = doc FROM deep;
 --> 0|1
 SELECT jb(replace(hex(zeroblob(500)), '0', '[') || '}');
---! jb: InvalidJson at byte 1000
+--! jb: InvalidJson: expected a value or ']' at byte 1000, found '}'
 SELECT length(jb_group_array(jb_at(doc, '$[0]'))) - length(doc) FROM deep;
 --> 0
 -- Changes and containment, at the bottom and of the whole.

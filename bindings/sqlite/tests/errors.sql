@@ -1,56 +1,56 @@
 -- The place is after the bytes that begin some JSON text.
 SELECT jb('{"a":');
---! jb: InvalidJson at byte 5
+--! jb: InvalidJson: expected a value at byte 5, found the end
 SELECT jb('');
---! jb: InvalidJson at byte 0
+--! jb: InvalidJson: expected a value at byte 0, found the end
 SELECT jb('[1,]');
---! jb: InvalidJson at byte 3
+--! jb: InvalidJson: expected a value at byte 3, found ']'
 SELECT jb('{"a":1,}');
---! jb: InvalidJson at byte 7
+--! jb: InvalidJson: expected a key at byte 7, found '}'
 SELECT jb('[1]]');
---! jb: InvalidJson at byte 3
+--! jb: InvalidJson: expected the end at byte 3, found ']'
 SELECT jb('NaN');
---! jb: InvalidJson at byte 0
+--! jb: InvalidJson: expected a value at byte 0, found 'NaN'
 SELECT jb('01');
---! jb: InvalidJson at byte 1
+--! jb: InvalidJson: expected '.', an exponent or the end at byte 1, found '1'
 SELECT jb('"' || char(0) || '"');
---! jb: InvalidJson at byte 1
+--! jb: InvalidJson: expected the rest of a string at byte 1, found 0x00
 SELECT jb('1' || char(0));
---! jb: InvalidJson at byte 1
+--! jb: InvalidJson: expected a digit, '.', an exponent or the end at byte 1, found 0x00
 SELECT jb('"\ud800"');
---! jb: InvalidJson at byte 7
+--! jb: InvalidJson: expected the other half of a surrogate pair at byte 7, found '"'
 -- Bytes of UTF-8, in a database of UTF-16 too: the first letter has two, the second four.
 SELECT jb('["é" 1]');
---! jb: InvalidJson at byte 6
+--! jb: InvalidJson: expected ',' or ']' at byte 6, found '1'
 SELECT jb('["' || char(0x1F600) || '" 1]');
---! jb: InvalidJson at byte 8
+--! jb: InvalidJson: expected ',' or ']' at byte 8, found '1'
 -- A number is at fault: great exponents, 39 digits past 128 bits, and 256 after the point.
 SELECT jb('1e99');
---! jb: BadNumber at byte 3
+--! jb: BadNumber: at byte 3 of a number that is unfinished or too long, in '1e99'
 SELECT jb('{"a": 1e999}');
---! jb: BadNumber at byte 9
+--! jb: BadNumber: at byte 9 of a number that is unfinished or too long, in '1e999'
 SELECT jb('{"a": [1, 2.5e-999]}');
---! jb: BadNumber at byte 17
+--! jb: BadNumber: at byte 17 of a number that is unfinished or too long, in '2.5e-999'
 SELECT jb('999999999999999999999999999999999999999');
---! jb: BadNumber at byte 38
+--! jb: BadNumber: at byte 38 of a number that is unfinished or too long, in '999999999999999999999999999999999999999'
 SELECT jb('170141183460469231731687303715884105728');
---! jb: BadNumber at byte 38
+--! jb: BadNumber: at byte 38 of a number that is unfinished or too long, in '170141183460469231731687303715884105728'
 SELECT jb('0.' || hex(zeroblob(128)));
---! jb: BadNumber at byte 258
+--! jb: BadNumber: at byte 258 of a number that is unfinished or too long, in '0000000000000000000000000000000000000000'
 -- Unfinished numbers.
 SELECT jb('[1.]');
---! jb: BadNumber at byte 3
+--! jb: BadNumber: at byte 3 of a number that is unfinished or too long, in '1.'
 SELECT jb('-');
---! jb: BadNumber at byte 1
+--! jb: BadNumber: at byte 1 of a number that is unfinished or too long, in '-'
 -- A number and something else: the first of both is reported.
 SELECT jb('[1e5,]');
---! jb: InvalidJson at byte 5
+--! jb: InvalidJson: expected a value at byte 5, found ']'
 SELECT jb('[1e99,]');
---! jb: BadNumber at byte 4
+--! jb: BadNumber: at byte 4 of a number that is unfinished or too long, in '1e99'
 SELECT jb_compare(jb('[]'), '[1');
---! jb_compare: InvalidJson at byte 2
+--! jb_compare: InvalidJson: expected a digit, '.', ',', ']' or an exponent at byte 2, found the end
 SELECT jb_compare('1e99', '[1');
---! jb_compare: BadNumber at byte 3
+--! jb_compare: BadNumber: at byte 3 of a number that is unfinished or too long, in '1e99'
 SELECT jb_compare(1.5, 'null');
 --! jb_compare: InvalidJsonbNumber: a REAL is refused, pass decimals as TEXT
 SELECT jb_compare('null', 1.5);
@@ -110,7 +110,7 @@ SELECT jb('[' || opened || closed || ']') FROM deep;
 SELECT jb_compare('[]', '[' || opened || closed || ']') FROM deep;
 --! jb_compare: TooDeep
 SELECT jb(opened || '}') FROM deep;
---! jb: InvalidJson at byte 1000
+--! jb: InvalidJson: expected a value or ']' at byte 1000, found '}'
 SELECT jb(replace(hex(zeroblob(50000)), '0', '['));
 --! jb: TooDeep
 SELECT jb_group_array(jb(opened || closed)) FROM deep;

@@ -37,30 +37,30 @@ WHERE jb_value(doc, path) IS (jb_text(doc) ->> path);
 
 -- A bad path is an error at its first wrong character, also where nothing is there.
 SELECT jb_at(doc, '') FROM t;
---! jb_at: bad path ''
+--! jb_at: the text is not a path: ''
 SELECT jb_at(doc, 'a.b') FROM t;
---! jb_at: bad path 'a.b'
+--! jb_at: the text is not a path: 'a.b'
 SELECT jb_value(doc, '$a') FROM t;
---! jb_value: bad path '$a'
+--! jb_value: the text is not a path: '$a'
 SELECT jb_at(doc, '$.') FROM t;
---! jb_at: bad path '$.'
+--! jb_at: the text is not a path: '$.'
 SELECT jb_at(doc, '$.é..a') FROM t;
---! jb_at: bad path '$.é..a'
+--! jb_at: the text is not a path: '$.é..a'
 SELECT jb_at(doc, '$."a') FROM t;
---! jb_at: bad path '$."a'
+--! jb_at: the text is not a path: '$."a'
 SELECT jb_at(doc, '$."a"b') FROM t;
---! jb_at: bad path '$."a"b'
+--! jb_at: the text is not a path: '$."a"b'
 SELECT jb_at(doc, '$.a[x]') FROM t;
---! jb_at: bad path '$.a[x]'
+--! jb_at: the text is not a path: '$.a[x]'
 SELECT jb_at(doc, '$.a[]') FROM t;
---! jb_at: bad path '$.a[]'
+--! jb_at: the text is not a path: '$.a[]'
 SELECT jb_at(doc, '$.a[1') FROM t;
---! jb_at: bad path '$.a[1'
+--! jb_at: the text is not a path: '$.a[1'
 SELECT jb_at(doc, '$.a[-1]') FROM t;
---! jb_at: bad path '$.a[-1]'
+--! jb_at: the text is not a path: '$.a[-1]'
 SELECT jb_at(doc, '$.a[#-]') FROM t;
---! jb_at: bad path '$.a[#-]'
+--! jb_at: the text is not a path: '$.a[#-]'
 SELECT jb_at(doc, '$.a[#1]') FROM t;
---! jb_at: bad path '$.a[#1]'
+--! jb_at: the text is not a path: '$.a[#1]'
 SELECT jb_at(doc, '$.none.none[') FROM t;
---! jb_at: bad path '$.none.none['
+--! jb_at: the text is not a path: '$.none.none['

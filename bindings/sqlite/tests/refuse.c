@@ -58,7 +58,7 @@ static sqlite3 *open_database(void)
     return database;
 }
 
-enum { ANSWER = 64 };
+enum { ANSWER = 128 };
 
 /* The code of a statement, and the text of its only row or of its error. */
 static int run(sqlite3 *database, const char *sql, const void *blob, int size, char *answer)
@@ -142,30 +142,40 @@ static const struct { const char *sql, *answer; } statements[] = {
     { "SELECT jb_version() LIKE '%.%.%'", "1" },
 };
 
-/* The place of a text's fault needs memory: if that is refused, the error is the second. */
-static const struct { const char *sql, *error, *unplaced; } faults[] = {
-    { "SELECT jb('[1,]')", "jb: InvalidJson at byte 3", "jb: InvalidJson" },
-    { "SELECT jb('[1, 1e99]')", "jb: BadNumber at byte 7", "jb: InvalidJson" },
-    { "SELECT jb_of(json('[1e99]'))", "jb_of: BadNumber at byte 4", "jb_of: InvalidJson" },
-    { "SELECT jb_compare(jb('1'), '1x')", "jb_compare: InvalidJson at byte 1",
-      "jb_compare: InvalidJson" },
-    { "SELECT jb_compare('\"' || hex(zeroblob(4000)) || '\"', '1x')",
-      "jb_compare: InvalidJson at byte 1", "jb_compare: InvalidJson" },
-    { "SELECT jb_set(jb('[]'), '$[0]', json('1e99'))", "jb_set: BadNumber at byte 3",
-      "jb_set: InvalidJson" },
-    { "SELECT jb_array(json('1e99'))", "jb_array: BadNumber at byte 3", "jb_array: InvalidJson" },
-    { "SELECT jb_group_array(json('1e99'))", "jb_group_array: BadNumber at byte 3",
-      "jb_group_array: InvalidJson" },
+/* The place of a text's fault needs memory, and so does what could have come there: if one of these
+ * is refused, the error is the second or the third. */
+#define SHORT " of a number that is unfinished or too long, in "
+static const struct { const char *sql, *error, *fewer, *unplaced; } faults[] = {
+    { "SELECT jb('[1,]')", "jb: InvalidJson: expected a value at byte 3, found ']'",
+      "jb: InvalidJson: at byte 3, found ']'", "jb: InvalidJson" },
+    { "SELECT jb('[1, 1e99]')", "jb: BadNumber: at byte 7" SHORT "'1e99'", "", "jb: InvalidJson" },
+    { "SELECT jb_of(json('[1e99]'))", "jb_of: BadNumber: at byte 4" SHORT "'1e99'", "",
+      "jb_of: InvalidJson" },
+    { "SELECT jb_compare(jb('1'), 'x')",
+      "jb_compare: InvalidJson: expected a value at byte 0, found 'x'",
+      "jb_compare: InvalidJson: at byte 0, found 'x'", "jb_compare: InvalidJson" },
+    { "SELECT jb_compare('\"' || hex(zeroblob(4000)) || '\"', 'x')",
+      "jb_compare: InvalidJson: expected a value at byte 0, found 'x'",
+      "jb_compare: InvalidJson: at byte 0, found 'x'", "jb_compare: InvalidJson" },
+    { "SELECT jb_set(jb('[]'), '$[0]', json('1e99'))",
+      "jb_set: BadNumber: at byte 3" SHORT "'1e99'", "", "jb_set: InvalidJson" },
+    { "SELECT jb_array(json('1e99'))", "jb_array: BadNumber: at byte 3" SHORT "'1e99'", "",
+      "jb_array: InvalidJson" },
+    { "SELECT jb_group_array(json('1e99'))", "jb_group_array: BadNumber: at byte 3" SHORT "'1e99'",
+      "", "jb_group_array: InvalidJson" },
 };
 
-static void expect(const char *sql, const char *got, const char *right, const char *unplaced)
+static void expect(const char *sql, const char *got, const char *right, const char *fewer,
+                   const char *unplaced)
 {
-    if (strcmp(got, right) && (!unplaced || strcmp(got, unplaced))) fail(got, sql);
+    if (strcmp(got, right) && (!unplaced || (strcmp(got, fewer) && strcmp(got, unplaced))))
+        fail(got, sql);
 }
 
 /* Refuses the first allocation, the second and so on, until the statement needs no more. SQLite can
- * do without some. `unplaced` is that of a fault, else null. */
-static void refuse_each(const char *sql, const char *right, const char *unplaced)
+ * do without some. `fewer` and `unplaced` are those of a fault, else null. */
+static void refuse_each(const char *sql, const char *right, const char *fewer,
+                        const char *unplaced)
 {
     bool was_refused = true;
     for (long refused = 0; was_refused; refused++) {
@@ -179,7 +189,7 @@ static void refuse_each(const char *sql, const char *right, const char *unplaced
         is_counting = false;
         was_refused = countdown < 0;
         if (code == (unplaced ? SQLITE_ERROR : SQLITE_ROW))
-            expect(sql, answer, right, was_refused ? unplaced : NULL);
+            expect(sql, answer, right, fewer, was_refused ? unplaced : NULL);
         else if (code != SQLITE_NOMEM || !was_refused) fail(sqlite3_errmsg(database), sql);
         if (sqlite3_close(database) != SQLITE_OK) fail("the database stays open", sql);
         if (sqlite3_memory_used() != used) fail("memory is lost", sql);
@@ -410,9 +420,9 @@ int main(int count, char **arguments)
     if (!setlocale(LC_ALL, "")) fail("there is no such locale", "");
     sqlite3_initialize();
     for (size_t i = 0; i < sizeof statements / sizeof *statements; i++)
-        refuse_each(statements[i].sql, statements[i].answer, NULL);
+        refuse_each(statements[i].sql, statements[i].answer, NULL, NULL);
     for (size_t i = 0; i < sizeof faults / sizeof *faults; i++)
-        refuse_each(faults[i].sql, faults[i].error, faults[i].unplaced);
+        refuse_each(faults[i].sql, faults[i].error, faults[i].fewer, faults[i].unplaced);
     pass_hostile();
     break_each_byte();
     pass_limit();

@@ -63,11 +63,11 @@ SELECT json_array(text), jb_text(jb_of(text)) FROM kept;
 
 -- What is no document here is refused, not taken as a string.
 SELECT jb_of(json('[1e99]'));
---! jb_of: BadNumber at byte 4
+--! jb_of: BadNumber: at byte 4 of a number that is unfinished or too long, in '1e99'
 SELECT jb_group_array(json('{"a":1e99}'));
---! jb_group_array: BadNumber at byte 8
+--! jb_group_array: BadNumber: at byte 8 of a number that is unfinished or too long, in '1e99'
 SELECT jb_group_object('k', json('1e99'));
---! jb_group_object: BadNumber at byte 3
+--! jb_group_object: BadNumber: at byte 3 of a number that is unfinished or too long, in '1e99'
 SELECT jb_of(json(replace(hex(zeroblob(501)), '0', '[') || replace(hex(zeroblob(501)), '0', ']')));
 --! jb_of: TooDeep
 

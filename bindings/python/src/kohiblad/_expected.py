@@ -1,7 +1,7 @@
 """Where a text stops being JSON, and why, in words: what could have come there, and what came.
 
-The library says where a text stops. A beginning of JSON goes on by a character exactly if both
-together stop past that character, so the library is called for each that JSON gives a meaning.
+The library says where a text stops, and the classes of what could have come. The words are those
+of the function kohiblad_fault_words in kohiblad.h.
 """
 import re
 from typing import List, Optional, Tuple
@@ -9,11 +9,12 @@ from typing import List, Optional, Tuple
 from . import _library as library
 from ._errors import KohibladError
 
-# Longer beginnings are not tried, since each character takes as long as the text is read.
-_MOST_TRIED = 1 << 16
 _MOST_QUOTED = 20
 _MOST_OF_A_NUMBER = 40
-_OF_TEXTS = (library.INVALID_JSON, library.BAD_NUMBER)
+# What may come in a text, by the bits of the library's classes.
+_CLASSES = ("the rest of a string", "a value", "a key", "an escape", "a hexadecimal digit",
+            "the other half of a surrogate pair", "a digit", "a sign", "'.'", "':'", "','", "']'",
+            "'}'", "an exponent", "'a'", "'e'", "'l'", "'r'", "'s'", "'u'", "the end")
 
 
 def fault_of(text: bytes, depth: int, exponents: bool) -> KohibladError:
@@ -68,7 +69,7 @@ def quoted_path(text: object) -> str:
     """What to say of a text that is not a path."""
     shown = text if isinstance(text, str) else bytes(text).decode(errors="replace")  # type: ignore
     if len(shown) > 3 * _MOST_QUOTED:
-        shown = shown[:3 * _MOST_QUOTED] + "…"
+        shown = shown[:3 * _MOST_QUOTED] + ".."
     return f"the text is not a path: {shown!r}"
 
 
@@ -77,13 +78,13 @@ def _of_number(text: bytes, offset: int, exponents: bool) -> str:
     back = re.match(rb"[-+.0-9eE]*", text[offset:offset + _MOST_OF_A_NUMBER])
     number = b"".join(it[0] for it in (front, back) if it).decode()
     if len(number) > _MOST_OF_A_NUMBER:
-        number = number[:_MOST_OF_A_NUMBER] + "…"
+        number = number[:_MOST_OF_A_NUMBER] + ".."
     faults = "unfinished or too long" if exponents else "unfinished, too long, or has an exponent"
     return f"at byte {offset} of a number that is {faults}, in {number!r}"
 
 
 def _of_syntax(text: bytes, offset: int, depth: int, exponents: bool) -> str:
-    expected = _expected(text[:offset], depth, exponents) if offset <= _MOST_TRIED else []
+    expected = _expected(text, depth, exponents)
     found = f"at byte {offset}, found {_found(text, offset)}"
     if not expected:
         return found
@@ -95,48 +96,23 @@ def _found(text: bytes, offset: int) -> str:
     """What is at a byte: a word, or one character."""
     if offset == len(text):
         return "the end"
-    rest = text[offset:offset + 4 * _MOST_QUOTED].decode(errors="ignore")
+    rest = text[offset:offset + 4 * _MOST_QUOTED + 4].decode(errors="ignore")
     if rest.startswith("\ufeff"):
         return "a byte order mark"
-    if not rest:
+    if rest[0] < " " or rest[0] == "\x7f":
         return f"0x{text[offset]:02x}"
-    word = re.match(r"\w+", rest)
+    word = re.match(r"[A-Za-z0-9_\u0080-\U0010ffff]+", rest)
     shown = word[0] if word else rest[0]
-    return repr(shown if len(shown) <= _MOST_QUOTED else shown[:_MOST_QUOTED] + "…")
+    if len(shown) > _MOST_QUOTED:
+        shown = shown[:_MOST_QUOTED] + ".."
+    quote = '"' if shown == "'" else "'"
+    return quote + shown + quote
 
 
-def _expected(beginning: bytes, depth: int, exponents: bool) -> List[str]:
-    """What can come after a beginning of JSON but white space, in words."""
-    size = len(beginning)
-
-    def goes_on(character: str) -> bool:
-        fault = library.text_fault(beginning + character.encode(), size + 1, depth, exponents)
-        return fault.status == library.OK or fault.status in _OF_TEXTS and fault.offset > size
-
-    # No token but a string has an x.
-    if goes_on("x"):
-        return ["the rest of a string"]
-    # And none but an escape has one of these; after half of a surrogate pair not all come.
-    if goes_on("A") or goes_on("D"):
-        return ["a hexadecimal digit"]
-    found = {it for it in '"-\\0:,]}.eE+' if goes_on(it)}
-    words = []
-    if '"' in found:
-        words.append("an escape" if "\\" in found else "a value" if "-" in found else "a key")
-    elif "0" in found:
-        words.append("a digit")
-    elif "\\" in found:
-        words.append("the other half of a surrogate pair")
-    if "+" in found:
-        words.append("a sign")
-    words += [f"{it!r}" for it in ".:,]}" if it in found]
-    if "e" in found and "E" in found:
-        words.append("an exponent")
-    if not words and beginning[-1:].isalpha():
-        words = [repr(it) for it in "aelrsu" if goes_on(it)]
-    if library.text_fault(beginning, size, depth, exponents).status == library.OK:
-        words.append("the end")
-    return words
+def _expected(text: bytes, depth: int, exponents: bool) -> List[str]:
+    """What can come where a text stops being JSON but white space, in words."""
+    classes = library.text_expected(text, len(text), depth, exponents).classes
+    return [name for bit, name in enumerate(_CLASSES) if classes >> bit & 1]
 
 
 def refused_str(text: str, error: UnicodeEncodeError) -> KohibladError:

@@ -102,6 +102,11 @@ class Truth(ctypes.Structure):
     _fields_ = [("status", c_uint32), ("value", c_uint32)]
 
 
+class Expected(ctypes.Structure):
+    """What may come in a text: the sum of its classes."""
+    _fields_ = [("status", c_uint32), ("classes", c_uint32)]
+
+
 class Fault(ctypes.Structure):
     _fields_ = [("status", c_uint32), ("offset", c_uint64)]
 
@@ -189,6 +194,7 @@ number = _export("as_decimal", Number, *_BYTES)
 extension = _export("as_extension", ExtensionValue, *_BYTES)
 parse = _export("parse", c_uint32, *_BYTES, c_size_t, c_uint32, *_OUT)
 text_fault = _export("text_fault", Fault, *_BYTES, c_size_t, c_uint32)
+text_expected = _export("text_expected", Expected, *_BYTES, c_size_t, c_uint32)
 key = _export("key", c_uint32, *_BYTES, c_size_t, *_OUT)
 to_string = _export("print", c_uint32, *_BYTES, c_size_t, *_OUT)
 to_pretty = _export("pretty", c_uint32, *_BYTES, c_size_t, *_OUT)
