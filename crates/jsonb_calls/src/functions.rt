@@ -3,7 +3,8 @@ use jsonb::{Document, Error, Node, Number, NumberItem, OwnedJsonb};
 use jsonb_functions::{
     Bound, Comparison, Condition, Edit, Selector, Step, append_index_keys, append_top_keys, concat,
     contains, document_of_path, edit_document, exists, exists_path, get_path, merge_patch,
-    read_path, read_path_text, select, select_first, steps_of_path, strip_nulls, top_key,
+    read_path, read_path_text, select, select_first, select_within, steps_of_path, strip_nulls,
+    top_key,
 };
 use std::alloc::Global;
 use std::test::Fail;
@@ -293,6 +294,23 @@ fn values_kept_by_a_filter(rt: HostRuntime) -> Result<(), Fail> {
     let limit = OwnedJsonb::parse(rt.alloc(), "130")?;
     let limit = document_of(&limit)?;
     assert!(rt; leads_above(rt.alloc(), limit, 135)?);
+    Ok(())
+}
+
+// How many values a path selects in so many steps of {"a":2}, as far as these suffice.
+fn selected_within(alloc: Global, text: &str, steps: usize) -> Result<Option<usize>, Error> {
+    let owned = OwnedJsonb::parse(alloc, "{\"a\":2}")?;
+    let Some(path) = read_path_text(alloc, text)? else {
+        return Ok(None);
+    };
+    let nodes = select_within(alloc, document_of(&owned)?, &path, steps)?;
+    Ok(nodes.map(|nodes| nodes.len()))
+}
+
+#[test]
+fn values_selected_in_so_many_steps(rt: HostRuntime) -> Result<(), Fail> {
+    assert_eq!(rt; selected_within(rt.alloc(), "$.*?(@ > 1)", 2)?, None);
+    assert_eq!(rt; selected_within(rt.alloc(), "$.*?(@ > 1)", 3)?, Some(1));
     Ok(())
 }
 

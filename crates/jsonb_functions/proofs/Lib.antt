@@ -21,6 +21,7 @@ pub mod StripLaws
 pub mod TopKeyLaws
 pub mod StoredPathLaws
 pub mod SelectLaws
+pub mod SelectStepLaws
 pub mod PathTextLaws
 pub mod PathStepLaws
 pub mod FilterTextLaws

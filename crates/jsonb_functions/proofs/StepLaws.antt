@@ -6,7 +6,7 @@ use Rattle.std.proofs.lemmas.Nat.{mul-le}
 use Rattle.jsonb_value.specs.Tree.{Tree, null, boolean, number, text, extension, array, object}
 use Rattle.jsonb_value.specs.Value.{trees_of}
 use Rattle.jsonb.specs.Node.{array_of}
-use Rattle.jsonb_functions.specs.Steps.{FallsShort, FoundIn, TakesAtMost}
+use Rattle.jsonb_functions.specs.Steps.{FallsShort, FoundIn, Takes, TakesAtMost}
 use Rattle.jsonb_functions.specs.declared.steps.Unanswered.{Unanswered}
 use Rattle.jsonb_functions.specs.declared.steps.Unanswered.TheVariants.{OutOfMemory, TooManySteps}
 use Rattle.jsonb_functions.specs.Weight.{weight, weights}
@@ -29,6 +29,10 @@ found_within (Ok b) f g m n before after e most h = (h.0 ∙ e, omega (arith, mo
 pub too_few : (r : Result Bool Unanswered) (e : Unanswered) (found : Bool) (cost before after : ℕ)
     → r ≡ Err e → e ≡ TooManySteps → before < cost → FoundIn r found cost before after
 too_few r e found cost before after is why h = rw (is, why) h
+
+pub takes_more : {A : Type 0} (r : Result A Unanswered) (e : Unanswered) (cost before after : ℕ)
+    → r ≡ Err e → e ≡ TooManySteps → before < cost → Takes r cost before after
+takes_more r e cost before after is why h = rw (is, why) h
 
 pub gave_up : (r : Result Bool Unanswered) (e : Unanswered) (found part : Bool)
     (cost m before mid last after : ℕ) → r ≡ Err e → (mid < m → before < cost)

@@ -22,6 +22,7 @@ pub mod PathText
 pub mod Picked
 pub mod Scalars
 pub mod Selected
+pub mod SelectSteps
 pub mod Steps
 pub mod StoredPath
 pub mod Stripped

@@ -20,3 +20,8 @@ abbrev pub FoundIn : Result Bool Unanswered → Bool → ℕ → ℕ → ℕ →
 FoundIn (Ok b) found cost before after = (b ≡ found) × (before ≤ after + cost)
 FoundIn (Err TooManySteps) found cost before after = before < cost
 FoundIn (Err OutOfMemory) found cost before after = ⊤
+
+-- Exactly so many steps were taken, or there were fewer, or an allocation failed.
+abbrev pub Takes : {A : Type 0} → Result A Unanswered → ℕ → ℕ → ℕ → Type 0
+Takes r cost before after =
+    MatchResult r (λ a. before ≡ after + cost) (FallsShort before cost)

@@ -8,6 +8,7 @@ mod chosen;
 mod containment;
 mod digits;
 mod edit;
+mod extent;
 mod filter;
 mod found;
 mod index;
@@ -51,7 +52,7 @@ pub use path_text::{read_path_text, steps_of_path};
 pub use picked::pick;
 pub use pointer::read_pointer;
 pub use selection::{
-    Bound, Selector, count_before, count_through, exists_path, select, select_first,
+    Bound, Selector, count_before, count_through, exists_path, select, select_first, select_within,
 };
 pub use stored_path::read_path;
 pub use strip::strip_nulls;

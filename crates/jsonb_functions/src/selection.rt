@@ -1,16 +1,20 @@
 //! The values that paths with wildcards select.
 
-ghost use Rattle.std.specs.Prelude.{◌≡◌, ◌++◌, IfErr, IfOk, OnOk, drop, length, map, option_map};
-ghost use Rattle.std.specs.Prelude.{is_some};
+ghost use Rattle.std.specs.Prelude.{◌≡◌, ◌++◌, ◌∷◌, [], ◌*◌, ◌<◌, ◌≤◌, IfErr, IfNone, IfOk};
+ghost use Rattle.std.specs.Prelude.{IfSome, OnOk, drop, is_some, length, map, option_map};
+ghost use Rattle.jsonb_functions.specs.SelectSteps.{asked, extents, select_steps};
+ghost use Rattle.jsonb_functions.specs.Steps.{Takes};
 ghost use Rattle.jsonb_functions.specs.Words.{YieldsFirstBy, children_at, chosen_trees};
 ghost use Rattle.jsonb_functions.specs.Words.{document_tree, filtered, first_tree, first_trees};
 ghost use Rattle.jsonb_functions.specs.Words.{items_before, items_or_none, items_through};
 ghost use Rattle.jsonb_functions.specs.Words.{member_trees, node_tree, rest_trees, selected};
-ghost use Rattle.jsonb_functions.specs.Words.{tree_list, trees_between};
+ghost use Rattle.jsonb_functions.specs.Words.{tree_list, trees_between, weight};
 
+use crate::extent::extent_of;
 use crate::filter::{Condition, holds};
 use crate::found::child_of;
 use crate::path::Step;
+use crate::steps::{Unanswered, take};
 use crate::walk::{next_item, next_member};
 use jsonb::{Document, Error, Items, Members, Node};
 use std::alloc::Global;
@@ -69,6 +73,42 @@ pub fn select<'a>(
     Ok(found)
 }
 
+/// The values that `select` returns, unless that takes more than so many steps. There is a step for
+/// each value that a selector is asked of, and one for each of its items or members, or of the
+/// bytes of a text, or of binary or opaque data; a filter also takes one for each item, member or
+/// byte of each value on the way of its condition's path. So `$.*?(@ > 1)` takes 3 of `{"a":2}`:
+/// for the object, its member, and the number. `None` if the steps do not suffice, which is so only
+/// if they are fewer than the selectors times the document's weight, which is the number of its
+/// values and keys, and of the bytes of texts, keys, and binary and opaque values. `OutOfMemory` is
+/// the only error.
+#[tactic(auto, using(crate::proofs::SelectStepLaws::steps_within))]
+pub fn select_within<'a>(
+    alloc: Global,
+    document: Document<'a>,
+    path: &[Selector<'_>],
+    steps: usize,
+) -> Result<Option<Vec<Node<'a>>>, Error>
+    ensures some { IfOk result (λ answer. IfSome answer (λ nodes. map node_tree nodes.items
+        ≡ selected path.now (document_tree document.entry))) }
+    ensures enough { IfOk result (λ answer. IfSome answer (λ nodes.
+        select_steps path.now (document_tree document.entry) ≤ steps)) }
+    ensures none { IfOk result (λ answer. IfNone answer
+        (steps < select_steps path.now (document_tree document.entry))) }
+
+    // So many steps always suffice.
+    ensures most { select_steps path.now (document_tree document.entry)
+        ≤ length path.now * weight (document_tree document.entry) }
+    ensures memory { IfErr result (λ e. e ≡ Error.OutOfMemory) }
+{
+    let mut found = Vec::new(alloc);
+    let mut steps = steps as u128;
+    match append_counted(document.value(), path, &mut found, &mut steps) {
+        Ok(()) => Ok(Some(found)),
+        Err(Unanswered::TooManySteps) => Ok(None),
+        Err(Unanswered::OutOfMemory) => Err(Error::OutOfMemory),
+    }
+}
+
 /// The first of the values that `select` returns. `None` if the path leads nowhere.
 pub fn select_first<'a>(document: Document<'a>, path: &[Selector<'_>]) -> Option<Node<'a>>
     ensures { option_map node_tree result
@@ -103,6 +143,71 @@ fn append_selected<'a>(
         append_selected(child, rest, found)?;
     }
     Ok(())
+}
+
+// Appends the values to which a path leads from a value, and takes the steps for them.
+fn append_counted<'a>(
+    node: Node<'a>,
+    path: &[Selector<'_>],
+    found: &mut Vec<Node<'a>>,
+    steps: &mut u128,
+) -> Result<(), Unanswered>
+    ensures appended { OnOk result (map node_tree found.new.items
+        ≡ map node_tree found.old.items ++ selected path.now (node_tree node.entry)) }
+    ensures cost { Takes result (select_steps path.now (node_tree node.entry))
+        steps.old steps.new }
+{
+    let [selector, rest @ ..] = path else {
+        return append_found(node, found);
+    };
+    ask(node, selector, steps)?;
+    let mut children = children_of(node, selector);
+    while let Some(child) = next_child(&mut children) {
+        append_counted(child, rest, found, steps)?;
+    }
+    Ok(())
+}
+
+// Appends a value that was found.
+fn append_found<'a>(node: Node<'a>, found: &mut Vec<Node<'a>>) -> Result<(), Unanswered>
+    ensures appended { OnOk result (map node_tree found.new.items
+        ≡ map node_tree found.old.items ++ node_tree node.entry ∷ []) }
+    ensures memory { IfErr result (λ e. e ≡ Unanswered.OutOfMemory) }
+{
+    match found.push(node) {
+        Ok(()) => Ok(()),
+        Err(_) => Err(Unanswered::OutOfMemory),
+    }
+}
+
+// Takes the steps for a value that a selector is asked of.
+fn ask(node: Node<'_>, selector: &Selector<'_>, steps: &mut u128) -> Result<(), Unanswered>
+    ensures { Takes result (asked selector.now (node_tree node.entry)) steps.old steps.new }
+{
+    take(steps, 1)?;
+    match selector {
+        Selector::Filter(condition) => follow(node, &condition.path, steps),
+        _ => take(steps, extent_of(node)),
+    }
+}
+
+// Takes the steps for the values on the way of a path.
+fn follow(start: Node<'_>, path: &[Step<'_>], steps: &mut u128) -> Result<(), Unanswered>
+    ensures { Takes result (extents path.now (node_tree start.entry)) steps.old steps.new }
+{
+    let mut node = start;
+    let mut left = path;
+    loop {
+        take(steps, extent_of(node))?;
+        let [step, rest @ ..] = left else {
+            return Ok(());
+        };
+        let Some(child) = child_of(node, *step) else {
+            return Ok(());
+        };
+        node = child;
+        left = rest;
+    }
 }
 
 // The first value to which a path leads from a value.

@@ -1,0 +1,40 @@
+-- How many steps a path with wildcards takes.
+use Rattle.std.specs.Prelude.{ℕ, suc, ◌+◌, List, [], ◌∷◌, length, Option, None, Some}
+use Rattle.std.specs.List.{sum_by}
+use Rattle.jsonb_value.specs.Order.{extension_data}
+use Rattle.jsonb_value.specs.Tree.{Tree, text, extension, array, object, count, pair_count}
+use Rattle.jsonb_functions.specs.declared.path.Step.{Step}
+use Rattle.jsonb_functions.specs.declared.selection.Selector.{Selector}
+use Rattle.jsonb_functions.specs.declared.selection.Selector.TheVariants.{Filter}
+use Rattle.jsonb_functions.specs.Found.{child_at}
+use Rattle.jsonb_functions.specs.Selected.{children_at}
+
+-- The number of an array's items, of an object's members, or of the bytes of a text or of data.
+abbrev pub extent : Tree → ℕ
+extent (text s) = length s
+extent (extension e) = length (extension_data e)
+extent (array ts) = count ts
+extent (object ps) = pair_count ps
+extent t = 0
+
+-- Where there is a tree, a number of it.
+abbrev pub number_there : Option Tree → (Tree → ℕ) → ℕ
+number_there None f = 0
+number_there (Some t) f = f t
+
+-- The extents of a tree and of those to which a path leads on its way, together.
+abbrev pub extents : List Step → Tree → ℕ
+extents [] t = extent t
+extents (s ∷ path) t = extent t + number_there (child_at s t) (λ u. extents path u)
+
+-- The steps to ask a selector of a tree: one, its extent, and for a filter those on the way of the
+-- condition's path.
+abbrev pub asked : Selector → Tree → ℕ
+asked (Filter condition) t = suc (extents condition.path.items t)
+asked s t = suc (extent t)
+
+-- The steps to follow a path from a tree: to ask its first selector, and to follow the others from
+-- each child to which that leads.
+abbrev pub select_steps : List Selector → Tree → ℕ
+select_steps [] t = 0
+select_steps (s ∷ path) t = asked s t + sum_by (λ u. select_steps path u) (children_at s t)
