@@ -1,10 +1,14 @@
 //! A column of texts.
 
 ghost use Rattle.std.specs.Prelude.{◌≡◌, ◌<◌, ◌∷◌, ◌++◌, [], List, length, OnOk, OnErr, ℕ};
-ghost use Rattle.std.specs.Prelude.{IfOk};
-ghost use Rattle.typed_vector.specs.Cells.{Cell, absent, value, other, cell, cells, rows};
+ghost use Rattle.std.specs.Prelude.{◌+◌, All, IfOk, Some, get_or, option_map, slice_get};
+ghost use Rattle.std.specs.Str.{IsUtf8};
+ghost use Rattle.typed_vector.specs.Cells.{AreOffsets, Cell, absent, value, other, cell, cells};
+ghost use Rattle.typed_vector.specs.Cells.{rows};
+ghost use Rattle.typed_vector.specs.Contents.{text_cell};
 ghost use Rattle.typed_vector.specs.Texts.{AreTexts};
 
+use crate::vector::Content;
 use std::alloc::{AllocError, Global};
 use std::marker::Model;
 
@@ -125,6 +129,63 @@ impl Texts {
             rest: self.rest.as_slice(),
             offsets: self.offsets.as_slice(),
         }
+    }
+
+    /// What the row at an index has. `None` if the index is not below the number of rows.
+    pub fn at(&self, index: usize) -> Option<Content<'_, &str>>
+        ensures { option_map text_cell result ≡ slice_get self.now index }
+    {
+        if index < self.len() {
+            Some(self.row_within(index))
+        } else {
+            None
+        }
+    }
+
+    // What the row at an index has.
+    fn row_within(&self, index: usize) -> Content<'_, &str>
+        requires { index < length self.now }
+        ensures { Some (text_cell result) ≡ slice_get self.now index }
+    {
+        let is_set = self.is_set[index];
+        let text = text_at(&self.texts, &self.text_offsets, index);
+        let rest = row_at(&self.rest, &self.offsets, index);
+        content_of(text, is_set, rest)
+    }
+}
+
+// The row at an index.
+fn row_at<'a>(bytes: &'a [u8], offsets: &[usize], index: usize) -> &'a [u8]
+    requires ascending { AreOffsets (length bytes.now) offsets.now }
+    requires within { index + 1 < length offsets.now }
+    ensures { result.now ≡ get_or (rows bytes.entry.now offsets.now) index [] }
+{
+    let start = offsets[index];
+    let end = offsets[index + 1];
+    &bytes[start..end]
+}
+
+// The row at an index, which is a text.
+fn text_at<'a>(texts: &'a [u8], offsets: &[usize], index: usize) -> &'a str
+    requires ascending { AreOffsets (length texts.now) offsets.now }
+    requires within { index + 1 < length offsets.now }
+    requires utf8 { All IsUtf8 (rows texts.now offsets.now) }
+    ensures { result.now ≡ get_or (rows texts.entry.now offsets.now) index [] }
+{
+    let row = row_at(texts, offsets, index);
+    unsafe { str::from_utf8_unchecked(row) }
+}
+
+// What a row has, by its text, whether it is set, and its bytes.
+fn content_of<'a>(text: &'a str, is_set: bool, rest: &'a [u8]) -> Content<'a, &'a str>
+    ensures { text_cell result ≡ cell text.now is_set rest.now }
+{
+    if is_set {
+        Content::Value(text)
+    } else if rest.is_empty() {
+        Content::Absent
+    } else {
+        Content::Other(rest)
     }
 }
 
