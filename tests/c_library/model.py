@@ -842,7 +842,9 @@ def asks_comparable_key(chance, left, right):
 
 
 def asks_member_key(chance, left, right):
-    names, depth = any_names(chance, left), SIZE(max(depth_of(left), 1))
+    # More than eight names are looked up in a table.
+    names = any_names(chance, left) * chance.choice([1, 3])
+    depth = SIZE(max(depth_of(left), 1))
     parts = [left[it] if isinstance(left, dict) and it in left else None for it in names]
     there = [isinstance(left, dict) and it in left for it in names]
     wanted = b"".join(key(it) if is_there else b"\0" for it, is_there in zip(parts, there))

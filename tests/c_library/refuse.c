@@ -146,7 +146,8 @@ int main(void) {
     static const char steps[] = "[\"c\",\"g\",-1]";
     assert(kohiblad_parse((const uint8_t *)steps, sizeof steps - 1, 8, 0, path, ROOM, &path_size)
            == KOHIBLAD_OK);
-    static const char listed[] = "[\"c\",\"a\",\"z\"]";
+    /* So many that a table of the members is made. */
+    static const char listed[] = "[\"c\",\"a\",\"z\",\"b\",\"y\",\"d\",\"x\",\"e\",\"w\"]";
     assert(kohiblad_parse((const uint8_t *)listed, sizeof listed - 1, 8, 0, names, ROOM,
                           &names_size) == KOHIBLAD_OK);
     static const char numbers[] = "[1,2,3,4,5,6,7,8,9,10,11,12,13,14,15,16,17]";

@@ -10,6 +10,7 @@ pub mod LongTexts
 pub mod Lookups
 pub mod MadeDocuments
 pub mod MemberKeyLaws
+pub mod MemberTableLaws
 pub mod NameLaws
 pub mod NumberLengths
 pub mod Objects

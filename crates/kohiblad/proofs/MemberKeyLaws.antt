@@ -1,6 +1,7 @@
 -- The keys of members, one after another, compare as the lists of the members do.
 use Rattle.std.proofs.Common.{◌≡◌, ◌++◌, ℕ, zero, suc, List, [], ◌∷◌, refl, ap, ◌∙◌, arith}
-use Rattle.std.proofs.Common.{length, if◌then◌else◌}
+use Rattle.std.proofs.Common.{inl, length, subst, if◌then◌else◌}
+use Rattle.std.proofs.lemmas.List.Folds.{flat_map-map}
 use Rattle.std.specs.Prelude.{Bool, true, false, Option, None, Some, nat_eq}
 use Rattle.std.specs.Cmp.Lexicographic.{pointwise, slice_cmp}
 use Rattle.std.specs.Ordering.{nat_cmp, ordering_then}
@@ -13,7 +14,9 @@ use Rattle.jsonb.specs.Node.{value_of_key}
 use Rattle.jsonb_comparable.specs.TreeKey.{tree_key}
 use Rattle.jsonb_comparable.proofs.Comparing.{cmp_above, cmp_below}
 use Rattle.jsonb_comparable.proofs.KeyLaws.{keys_followed}
-use Rattle.kohiblad.specs.KeyParts.{keys_of_members, members_named, part_cmp, part_key}
+use Rattle.kohiblad.specs.KeyParts.{IsKeyOfList, keys_of_members, keys_of_parts}
+use Rattle.kohiblad.specs.KeyParts.{members_named, part_cmp, part_key}
+use Rattle.kohiblad.specs.Status.{IsLongHandedOver}
 
 -- A member that is there is a tree.
 abbrev IsPart : Option Tree → Type 0
@@ -86,3 +89,17 @@ members_order t u h g (name ∷ names) =
     (tree_part name u g) (keys_of_members names t) (keys_of_members names u)
     ∙ ap (λ o. ordering_then (part_cmp (value_of_key name t) (value_of_key name u)) o)
     (members_order t u h g names)
+
+-- The keys of the members' values, one after another.
+parts_named : (names : List (List ℕ)) (t : Tree) (parts : List (Option Tree))
+    → parts ≡ members_named names t → keys_of_parts parts ≡ keys_of_members names t
+parts_named names t parts e =
+    ap keys_of_parts e ∙ flat_map-map part_key (λ name. value_of_key name t) names
+
+pub handed_over : (names : List (List ℕ)) (t : Tree) (parts : List (Option Tree))
+    (before after : List ℕ) (size status : ℕ) → parts ≡ members_named names t
+    → IsLongHandedOver (keys_of_parts parts) before after size status
+    → IsKeyOfList t names before after size status
+handed_over names t parts before after size status e h =
+    inl (subst (λ key. IsLongHandedOver key before after size status)
+    (parts_named names t parts e) h)

@@ -25,6 +25,10 @@ abbrev pub part_key : Option Tree → List ℕ
 part_key (Some t) = tree_key t
 part_key None = 0 ∷ []
 
+-- The keys of these parts, one after another.
+abbrev pub keys_of_parts : List (Option Tree) → List ℕ
+keys_of_parts parts = flat_map part_key parts
+
 -- The keys of the members with these names, one after another.
 abbrev pub keys_of_members : List (List ℕ) → Tree → List ℕ
 keys_of_members names t = flat_map (λ name. part_key (value_of_key name t)) names
@@ -39,6 +43,12 @@ part_cmp None None = Equal
 part_cmp None (Some u) = Less
 part_cmp (Some t) None = Greater
 part_cmp (Some t) (Some u) = tree_cmp t u
+
+-- The keys of the members with these names are copied, or there is not enough memory.
+abbrev pub IsKeyOfList : Tree → List (List ℕ) → List ℕ → List ℕ → ℕ → ℕ → Type 0
+IsKeyOfList t names before after size status =
+    IsLongHandedOver (keys_of_members names t) before after size status
+    ⊎ IsRefused (code OutOfMemory) before after size status
 
 -- The keys of the members with these names are copied, if there are names.
 abbrev pub IsKeyOfNames : Tree → Option (List (List ℕ)) → List ℕ → List ℕ → ℕ → ℕ → Type 0

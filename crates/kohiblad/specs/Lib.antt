@@ -21,5 +21,6 @@ pub mod Picked
 pub mod WithMemory
 pub mod KeySink
 pub mod KeyParts
+pub mod MemberTable
 pub mod KeyTests
 pub mod Words

@@ -1,21 +1,25 @@
 //! Keys that are cut to the caller's buffer, and keys of some members of an object.
 
-ghost use Rattle.std.specs.Prelude.{◌≡◌, ℕ, List, map};
+ghost use Rattle.std.specs.Prelude.{◌≡◌, ℕ, List, map, option_copied, option_map};
+ghost use Rattle.std.specs.Prelude.{IfErr, IfOk, IfSome};
 ghost use Rattle.std.specs.Cmp.Lexicographic.{slice_cmp};
 ghost use Rattle.std.specs.Ordering.{nat_cmp};
 ghost use Rattle.jsonb_value.specs.WellFormed.{IsTree};
 ghost use Rattle.jsonb.specs.Node.{node_tree, value_of_key};
 ghost use Rattle.jsonb_comparable.specs.Sink.{length_64};
 ghost use Rattle.jsonb_comparable.specs.TreeKey.{tree_key};
-ghost use Rattle.kohiblad.specs.KeyParts.{IsCutKey, IsKeyOfMembers, IsMembersKey, keys_of_members};
-ghost use Rattle.kohiblad.specs.KeyParts.{members_named, part_cmp, part_key};
+ghost use Rattle.kohiblad.specs.KeyParts.{IsCutKey, IsKeyOfList, IsKeyOfMembers, IsMembersKey};
+ghost use Rattle.kohiblad.specs.KeyParts.{keys_of_members, keys_of_parts, members_named};
+ghost use Rattle.kohiblad.specs.KeyParts.{part_cmp, part_key};
 ghost use Rattle.kohiblad.specs.KeySink.{cut_into};
+ghost use Rattle.kohiblad.specs.MemberTable.{IsTableOf};
 ghost use Rattle.kohiblad.specs.Words.{IsLongHandedOver, Tree, document_tree, key_meaning};
 ghost use Rattle.kohiblad.specs.Words.{meaning_key};
 ghost use Rattle.kohiblad.specs.Words.{meaning_within};
 
 use crate::answer::{NO_ROOM, OK, OTHER_KIND, code, refuse};
 use crate::key_sink::KeyWriter;
+use crate::member_table::MemberTable;
 use crate::names::read_names;
 use jsonb::{Document, Error, Node, SortKey};
 use jsonb_comparable::{Sink, append_key_to, append_node};
@@ -23,6 +27,9 @@ use std::alloc::Global;
 
 // The key of a member that is not there, which is below all others.
 const MISSING: u8 = 0;
+
+// Up to so many names are sooner looked up one by one than in a table of all members.
+const FEW: usize = 8;
 
 /// Copies the first bytes of the comparable key of any bytes to the start of `out`, as many as
 /// there is room, and the length of the whole key in bytes to `length`: the key is cut if that is
@@ -106,48 +113,110 @@ fn write_member_keys(
         out.old out.new length.new result }
 {
     match read_names(alloc, names) {
-        Ok(Some(names)) => hand_over_keys(document, &names, out, length),
+        Ok(Some(names)) => write_named_keys(alloc, document, &names, out, length),
         Ok(None) => refuse(OTHER_KIND, out, length),
         Err(error) => refuse(code(error), out, length),
     }
 }
 
-// Copies out keys if they fit, which are measured before.
-fn hand_over_keys(document: Document<'_>, names: &[&str], out: &mut [u8], length: &mut usize) -> u32
-    ensures { IsLongHandedOver
-        (keys_of_members (map (λ name. name.now) names.now) (document_tree document.entry))
+// Copies out the keys of the members with these names, which are looked up once.
+fn write_named_keys(
+    alloc: Global,
+    document: Document<'_>,
+    names: &[&str],
+    out: &mut [u8],
+    length: &mut usize,
+) -> u32
+    ensures { IsKeyOfList (document_tree document.entry) (map (λ name. name.now) names.now)
         out.old out.new length.new result }
 {
-    *length = cut_keys(document, names, &mut out[..0]);
+    match values_named(alloc, document, names) {
+        Ok(values) => hand_over_keys(&values, out, length),
+        Err(error) => refuse(code(error), out, length),
+    }
+}
+
+// The values of the members with these names; nothing for a name that no member has.
+fn values_named<'a>(
+    alloc: Global,
+    document: Document<'a>,
+    names: &[&'a str],
+) -> Result<Vec<Option<Node<'a>>>, Error>
+    ensures ok { IfOk result (λ values. map (option_map node_tree) values.items
+        ≡ members_named (map (λ name. name.now) names.now) (document_tree document.entry)) }
+    ensures memory { IfErr result (λ e. e ≡ Error.OutOfMemory) }
+{
+    let table = table_for(alloc, document, names.len())?;
+    let mut values = Vec::with_capacity(alloc, names.len())?;
+    for name in names {
+        values.push(value_named(document, table.as_ref(), name))?;
+    }
+    Ok(values)
+}
+
+// The table of a document's members, if many names are looked up.
+fn table_for<'a>(
+    alloc: Global,
+    document: Document<'a>,
+    names: usize,
+) -> Result<Option<MemberTable<'a>>, Error>
+    ensures ok { IfOk result (λ table. IfSome table (IsTableOf (document_tree document.entry))) }
+    ensures memory { IfErr result (λ e. e ≡ Error.OutOfMemory) }
+{
+    if names <= FEW {
+        return Ok(None);
+    }
+    let table = MemberTable::new(alloc, document)?;
+    Ok(Some(table))
+}
+
+// The value of the member with this name, by the table if there is one.
+fn value_named<'a>(
+    document: Document<'a>,
+    table: Option<&MemberTable<'a>>,
+    name: &'a str,
+) -> Option<Node<'a>>
+    requires { IfSome (option_copied table) (IsTableOf (document_tree document)) }
+    ensures { option_map node_tree result ≡ value_of_key name.now (document_tree document.entry) }
+{
+    match table {
+        Some(table) => table.get(name),
+        None => document.get(name),
+    }
+}
+
+// Copies out keys if they fit, which are measured before.
+fn hand_over_keys(values: &[Option<Node<'_>>], out: &mut [u8], length: &mut usize) -> u32
+    ensures { IsLongHandedOver (keys_of_parts (map (option_map node_tree) values.now))
+        out.old out.new length.new result }
+{
+    *length = cut_keys(values, &mut out[..0]);
     if out.len() < *length || *length == usize::MAX {
         return NO_ROOM;
     }
-    cut_keys(document, names, out);
+    cut_keys(values, out);
     OK
 }
 
-// Writes the first bytes of the members' keys, as many as there is room. Returns their length.
-fn cut_keys(document: Document<'_>, names: &[&str], out: &mut [u8]) -> usize
-    ensures out { out.new ≡ cut_into
-        (keys_of_members (map (λ name. name.now) names.now) (document_tree document.entry))
-        out.old }
-    ensures len { result ≡ length_64
-        (keys_of_members (map (λ name. name.now) names.now) (document_tree document.entry)) }
+// Writes the first bytes of the values' keys, as many as there is room. Returns their length.
+fn cut_keys(values: &[Option<Node<'_>>], out: &mut [u8]) -> usize
+    ensures out { out.new
+        ≡ cut_into (keys_of_parts (map (option_map node_tree) values.now)) out.old }
+    ensures len { result ≡ length_64 (keys_of_parts (map (option_map node_tree) values.now)) }
 {
     let mut writer = KeyWriter { out, len: 0 };
-    for name in names {
-        append_member(document, name, &mut writer);
+    for value in values {
+        append_member(*value, &mut writer);
     }
     writer.len
 }
 
 // Appends the key of a member.
-fn append_member<S: Sink>(document: Document<'_>, name: &str, sink: &mut S)
-    requires { S.room sink.old (part_key (value_of_key name.now (document_tree document))) }
-    ensures { S.appends sink.old sink.new
-        (part_key (value_of_key name.now (document_tree document.entry))) }
+fn append_member<S: Sink>(value: Option<Node<'_>>, sink: &mut S)
+    requires { S.room sink.old (part_key (option_map node_tree value)) }
+    ensures { S.appends sink.old sink.new (part_key (option_map node_tree value.entry)) }
 {
-    match document.get(name) {
+    match value {
         Some(node) => append_value(node, sink),
         None => sink.append(&[MISSING]),
     }

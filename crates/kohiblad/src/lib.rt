@@ -17,6 +17,7 @@ mod key_parts;
 mod key_sink;
 mod key_tests;
 mod laws;
+mod member_table;
 mod named_paths;
 mod names;
 mod path_places;
