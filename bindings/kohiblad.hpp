@@ -263,8 +263,8 @@ inline Result<Document> View::edited(std::string_view path, std::uint32_t edit, 
                                      std::size_t depth) const {
     const Result<Bytes> steps = path_in(path, depth);
     if (!steps) return steps.status();
-    return Document::made(size_ + path.size() + value.size() + 64,
-                          [&](auto *out, auto room, auto *length) {
+    const std::size_t most = kohiblad_edit_room(size_, steps->size(), value.size());
+    return Document::made(most, [&](auto *out, auto room, auto *length) {
         return kohiblad_edit(data_, size_, steps->data(), steps->size(), edit, value.data(),
                              value.size(), depth, out, room, length);
     });

@@ -604,6 +604,7 @@ static void edit_within(struct block b, struct block other, bool shallow, bool i
     ANSWER(status, out, length,
            kohiblad_edit(b.at, b.size, a, sizeof a, edit, other.at, other.size, depth + 1, out.at,
                          out.size, &length));
+    assert(length <= kohiblad_edit_room(b.size, sizeof a, other.size));
     if (!shallow && !kohiblad_check(b.at, b.size, depth + 1)) {
         assert(status == KOHIBLAD_INVALID_JSONB);
         return;
@@ -812,6 +813,7 @@ static void answer_functions(struct block b, struct block other, size_t depth, s
     size_t length;
     ANSWER(status, out, length,
            kohiblad_concat(b.at, b.size, other.at, other.size, depth, out.at, out.size, &length));
+    assert(length <= kohiblad_concat_room(b.size, other.size));
     if (!are) {
         assert(status == KOHIBLAD_INVALID_JSONB);
     } else if (status == KOHIBLAD_OK) {

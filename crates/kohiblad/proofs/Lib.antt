@@ -19,9 +19,15 @@ pub mod PartLaws
 pub mod PathCallLaws
 pub mod PathPlaceLaws
 pub mod PlaceLaws
+pub mod EditRooms
+pub mod JoinedRooms
+pub mod PayloadRooms
 pub mod ResultLaws
+pub mod ResultRooms
+pub mod Rooms
 pub mod Scalars
 pub mod ScalarValues
+pub mod StoredRooms
 pub mod Walks
 pub mod WithinLaws
 pub mod Yielded

@@ -1,6 +1,6 @@
 -- The results of the functions over documents, as C receives them.
-use Rattle.std.specs.Prelude.{◌≡◌, ◌⊎◌, ◌<◌, ◌*◌, ℕ, zero, suc, List, map, Option, None, Some}
-use Rattle.std.specs.Prelude.{Result, Ok, Err}
+use Rattle.std.specs.Prelude.{◌≡◌, ◌⊎◌, ◌<◌, ◌≤◌, ◌+◌, ◌*◌, ℕ, zero, suc, List, length, map, Option}
+use Rattle.std.specs.Prelude.{None, Some, Result, Ok, Err}
 use Rattle.jsonb_value.specs.declared.error.Error.{Error}
 use Rattle.jsonb_value.specs.declared.error.Error.TheVariants.{InvalidJsonb}
 use Rattle.jsonb_value.specs.declared.error.Error.TheVariants.{OutOfMemory}
@@ -98,6 +98,16 @@ abbrev pub IsEdited : Meaning → Meaning → Result Operation ℕ → List ℕ 
 IsEdited m n operation before after size status =
     IsDocumentEdited m n operation before after size status
     ⊎ IsRefused (code OutOfMemory) before after size status
+
+-- The result of an edit is at most a quarter longer than the document and the value together, and
+-- three times the path and 2 bytes more.
+abbrev pub IsEditLength : List ℕ → List ℕ → List ℕ → ℕ → Type 0
+IsEditLength bytes path value size =
+    4 * size ≤ 5 * (length bytes + length value) + 12 * length path + 8
+
+-- Two documents put together are at most a quarter longer than both, and 14 bytes more.
+abbrev pub IsConcatLength : List ℕ → List ℕ → ℕ → Type 0
+IsConcatLength left right size = 4 * size ≤ 5 * (length left + length right) + 56
 
 -- What an edit does, or the status that refuses it.
 abbrev pub operation_in : Result Edit ℕ → Result Operation ℕ

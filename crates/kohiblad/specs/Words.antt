@@ -41,7 +41,8 @@ pub use Rattle.kohiblad.specs.Children.{CanMove, IsBegun, IsChildIn, child_at_cu
 pub use Rattle.kohiblad.specs.Children.{cursor_after, cursor_at, first_value, key_answer}
 pub use Rattle.kohiblad.specs.Children.{layout_in, numbered_child, value_answer}
 pub use Rattle.kohiblad.specs.EntryTexts.{IsPayloadWithin, IsPrintedPart, entry_fault}
-pub use Rattle.kohiblad.specs.Functions.{AreKeysWritten, IsContainedAnswer, IsEdited}
+pub use Rattle.kohiblad.specs.Functions.{AreKeysWritten, IsConcatLength, IsContainedAnswer}
+pub use Rattle.kohiblad.specs.Functions.{IsEditLength, IsEdited}
 pub use Rattle.kohiblad.specs.Functions.{MakesOfOne, MakesOfTwo}
 pub use Rattle.kohiblad.specs.Functions.{exists_answer, operation_in, operation_asked}
 pub use Rattle.kohiblad.specs.KindAnswer.{kind_answer}

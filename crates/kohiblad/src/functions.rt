@@ -1,7 +1,8 @@
 //! What is in documents, joined and edited copies of them, and keys for an index.
 
 ghost use Rattle.std.specs.Prelude.{◌≡◌, [], IfErr, IfOk, IsUtf8};
-ghost use Rattle.kohiblad.specs.Words.{AreKeysWritten, Error, IsContainedAnswer, IsEdited};
+ghost use Rattle.kohiblad.specs.Words.{AreKeysWritten, Error, IsConcatLength, IsContainedAnswer};
+ghost use Rattle.kohiblad.specs.Words.{IsEditLength, IsEdited};
 ghost use Rattle.kohiblad.specs.Words.{IsOneAnswered, MakesOfOne, MakesOfTwo, Meaning};
 ghost use Rattle.kohiblad.specs.Words.{result_bytes, code, document_tree, key_meaning};
 ghost use Rattle.kohiblad.specs.Words.{exists_answer, joined, meaning_within, no_truth};
@@ -82,9 +83,10 @@ pub extern "C" fn kohiblad_exists(bytes: &[u8], key: &[u8], depth: usize) -> Koh
 /// of all others the array of the items of both, to which a value that is not an array adds itself.
 /// `InvalidJsonb` if `left` or `right` is not a document of at most this depth, or the result
 /// exceeds a limit of the format; `OutOfMemory` if an allocation fails; `NO_ROOM` if `out` is
-/// shorter than the document. If the status is not `OK`, `out` is unchanged, and `length` is 0, or
-/// for `NO_ROOM` the length of the document. A scalar has depth 0, an array or object one more than
-/// its deepest child, and at least 1. Deeper levels are not examined.
+/// shorter than the document, which is at most 14 bytes and a quarter longer than both. If the
+/// status is not `OK`, `out` is unchanged, and `length` is 0, or for `NO_ROOM` the length of the
+/// document. A scalar has depth 0, an array or object one more than its deepest child, and at least
+/// 1. Deeper levels are not examined.
 #[unsafe(no_mangle)]
 pub extern "C" fn kohiblad_concat(
     alloc: Global,
@@ -94,8 +96,9 @@ pub extern "C" fn kohiblad_concat(
     out: &mut [u8],
     length: &mut usize,
 ) -> u32
-    ensures { IsOneAnswered (MakesOfTwo joined (meaning_within depth left.now)
+    ensures joined { IsOneAnswered (MakesOfTwo joined (meaning_within depth left.now)
         (meaning_within depth right.now)) out.old out.new length.new result }
+    ensures len { IsConcatLength left.now right.now length.new }
 {
     let left = SortKey::within(left, depth);
     let right = SortKey::within(right, depth);
@@ -281,9 +284,10 @@ fn top_keys(alloc: Global, document: Document<'_>) -> Result<Vec<u64>, Error>
 /// bytes, the path or the value are not a document of at most this depth, or the result exceeds a
 /// limit of the format; `OTHER_KIND` if there is no such edit, or the path is not an array of texts
 /// and whole numbers of 64 bits; `OutOfMemory` if an allocation fails; `NO_ROOM` if `out` is
-/// shorter than the document. If the status is not `OK`, `out` is unchanged, and `length` is 0, or
-/// for `NO_ROOM` the length of the document. A scalar has depth 0, an array or object one more than
-/// its deepest child, and at least 1. Deeper levels are not examined.
+/// shorter than the document, which has at most 5/4 of the bytes of the document and the value
+/// together, 3 times those of the path, and 2 more. If the status is not `OK`, `out` is unchanged,
+/// and `length` is 0, or for `NO_ROOM` the length of the document. A scalar has depth 0, an array
+/// or object one more than its deepest child, and at least 1. Deeper levels are not examined.
 #[unsafe(no_mangle)]
 pub extern "C" fn kohiblad_edit(
     alloc: Global,
@@ -295,13 +299,29 @@ pub extern "C" fn kohiblad_edit(
     out: &mut [u8],
     length: &mut usize,
 ) -> u32
-    ensures { IsEdited (meaning_within depth bytes.now) (meaning_within depth path.now)
+    ensures edited { IsEdited (meaning_within depth bytes.now) (meaning_within depth path.now)
         (operation_asked edit (meaning_within depth value.now))
         out.old out.new length.new result }
+    ensures len { IsEditLength bytes.now path.now value.now length.new }
 {
     let document = SortKey::within(bytes, depth);
     let path = SortKey::within(path, depth);
     let edit = edit_of(edit, SortKey::within(value, depth));
+    write_edit(alloc, document, path, edit, out, length)
+}
+
+// Copies out an edited document, if the bytes and the path are documents.
+fn write_edit(
+    alloc: Global,
+    document: SortKey<'_>,
+    path: SortKey<'_>,
+    edit: Result<Edit<'_>, u32>,
+    out: &mut [u8],
+    length: &mut usize,
+) -> u32
+    ensures { IsEdited (key_meaning document.entry) (key_meaning path.entry)
+        (operation_in edit.entry) out.old out.new length.new result }
+{
     match (document, path) {
         (SortKey::Document(document), SortKey::Document(path)) => {
             write_edited(alloc, document, path, edit, out, length)
