@@ -127,7 +127,7 @@ static Datum set_at_path(FunctionCallInfo fcinfo, Bytes value) {
     PathEnd end;
     if (path.count == 0 || (kind_of(document).count == 0 && !may_add)) PG_RETURN_POINTER(given);
     if (!follow_path(document, path, &end)) PG_RETURN_POINTER(given);
-    if (end.level < path.count - 1 || !(end.is_there || may_add)) PG_RETURN_POINTER(given);
+    if (end.level < path.count - 1 || !(may_add || is_end_there(&end))) PG_RETURN_POINTER(given);
     PG_RETURN_POINTER(edited(document, all_steps(&end, end.index), KOHIBLAD_PUT, value));
 }
 
@@ -143,7 +143,8 @@ Datum pg_kohiblad_delete_path(PG_FUNCTION_ARGS) {
     TextPath path = path_to_change(fcinfo, document, "cannot delete path in scalar");
     PathEnd end;
     if (path.count == 0 || kind_of(document).count == 0) PG_RETURN_POINTER(given);
-    if (!follow_path(document, path, &end) || !end.is_there) PG_RETURN_POINTER(given);
+    if (!follow_path(document, path, &end)) PG_RETURN_POINTER(given);
+    if (end.level < path.count - 1 || !is_end_there(&end)) PG_RETURN_POINTER(given);
     PG_RETURN_POINTER(edited(document, all_steps(&end, end.index), KOHIBLAD_REMOVE, (Bytes){0}));
 }
 
@@ -178,7 +179,7 @@ Datum pg_kohiblad_set_lax(PG_FUNCTION_ARGS) {
 static int64 place_of_item(const PathEnd *end, bool is_after) {
     int64 index = end->index < 0 ? end->index + end->count : end->index;
     if (index < 0) return 0;
-    return Min(index + (is_after && end->is_there), end->count);
+    return Min(index + is_after, end->count);
 }
 
 PG_FUNCTION_INFO_V1(pg_kohiblad_insert);
@@ -189,7 +190,7 @@ Datum pg_kohiblad_insert(PG_FUNCTION_ARGS) {
     PathEnd end;
     if (path.count == 0 || !follow_path(document, path, &end)) PG_RETURN_POINTER(given);
     if (end.level < path.count - 1) PG_RETURN_POINTER(given);
-    if (!end.is_array && end.is_there)
+    if (!end.is_array && is_end_there(&end))
         ereport(ERROR, (errcode(ERRCODE_INVALID_PARAMETER_VALUE),
                         errmsg("kohiblad: cannot replace existing key"),
                         errhint("kohiblad_set replaces the value of a key.")));
@@ -288,11 +289,10 @@ Datum pg_kohiblad_delete_index(PG_FUNCTION_ARGS) {
     struct varlena *given = PG_GETARG_VARLENA_PP(0);
     Bytes document = bytes_of(given);
     int index = PG_GETARG_INT32(1);
-    Part item;
     if (is_scalar(document)) refuse_edit("cannot delete from scalar");
     if (kind_of(document).kind == KOHIBLAD_OBJECT)
         refuse_edit("cannot delete from object using integer index");
-    if (!find_index(document, index, &item)) PG_RETURN_POINTER(given);
+    if (!has_index(kind_of(document).count, index)) PG_RETURN_POINTER(given);
     Rows *steps = new_rows();
     add_int64(steps, index);
     PG_RETURN_POINTER(edited(document, steps, KOHIBLAD_REMOVE, (Bytes){0}));

@@ -82,20 +82,32 @@ static int needed_index(const text *element, int level) {
     return index;
 }
 
-/* Looks up the element at the end in its container. */
-static void look_up(TextPath path, PathEnd *end) {
+/* Takes the element at the end for what it is in its container, a key or an index. */
+static void take_element(TextPath path, PathEnd *end) {
     const text *element = DatumGetTextPP(path.elements[end->level]);
-    Bytes container = end->container.payload;
-    struct kohiblad_value_kind kind = kind_of(container);
+    struct kohiblad_value_kind kind = kind_of(end->container.payload);
     end->is_array = kind.kind == KOHIBLAD_ARRAY;
     end->count = kind.count;
-    if (end->is_array) {
+    if (end->is_array)
         end->index = needed_index(element, end->level);
-        end->is_there = find_index(container, end->index, &end->child);
-    } else {
+    else
         end->key = utf8_of_text(element);
-        end->is_there = find_key(container, end->key, &end->child);
-    }
+}
+
+static bool find_end(const PathEnd *end, Part *child) {
+    Bytes container = end->container.payload;
+    return end->is_array ? find_index(container, end->index, child)
+                         : find_key(container, end->key, child);
+}
+
+bool has_index(int64 count, int64 index) {
+    return -count <= index && index < count;
+}
+
+bool is_end_there(const PathEnd *end) {
+    Part child;
+    return end->is_array ? has_index(end->count, end->index)
+                         : find_key(end->container.payload, end->key, &child);
 }
 
 static void add_step(PathEnd *end) {
@@ -114,9 +126,10 @@ bool follow_path(Bytes document, TextPath path, PathEnd *end) {
                             errmsg("kohiblad: path element at position %d is null",
                                    end->level + 1)));
         if (!is_container(end->container)) return false;
-        look_up(path, end);
-        if (end->level == path.count - 1 || !end->is_there) return true;
+        take_element(path, end);
+        Part child;
+        if (end->level == path.count - 1 || !find_end(end, &child)) return true;
         add_step(end);
-        end->container = end->child;
+        end->container = child;
     }
 }

@@ -22,8 +22,6 @@ typedef struct PathEnd {
     int64 count;
     Bytes key;      /* the next element in an object */
     bool is_array;
-    bool is_there;  /* whether the next element leads somewhere: to `child` */
-    Part child;
 } PathEnd;
 
 #pragma GCC visibility push(hidden)
@@ -45,10 +43,16 @@ extern bool find_step(Bytes container, Bytes element, Part *child);
 /* Finds what a path leads to. */
 extern bool find_path(Bytes document, TextPath path, Part *child);
 
-/* Follows a path, which has an element, as far as it leads but for its last element. False if it
- * leads to a scalar before its end. Refuses a null element, and for an array one that is no
- * index. */
+/* Follows a path, which has an element, as far as it leads but for its last element, which is not
+ * looked up. False if it leads to a scalar before its end. Refuses a null element, and for an array
+ * one that is no index. */
 extern bool follow_path(Bytes document, TextPath path, PathEnd *end);
+
+/* Whether an array of so many items has one at an index; a negative one counts from the end. */
+extern bool has_index(int64 count, int64 index);
+
+/* Whether the next element of a path leads somewhere from its end. */
+extern bool is_end_there(const PathEnd *end);
 
 #pragma GCC visibility pop
 
