@@ -551,11 +551,11 @@ static inline uint32_t kohiblad_pretty_at(uint32_t type, const uint8_t *payload,
 /* Parses a JSON text and copies the canonical document of its value to `out`. With
  * KOHIBLAD_EXPONENTS_FORBIDDEN a number with an exponent is refused; otherwise it means exactly its
  * value, as `1e5` means 100000. TOO_DEEP if more than `depth` brackets outside strings are open at
- * once, tested before anything else; INVALID_UTF8 if the text is not UTF-8; INVALID_JSON if it is
- * not accepted JSON; INVALID_JSONB if a limit of the format is exceeded; OUT_OF_MEMORY if an
- * allocation fails; NO_ROOM if `out` is shorter than the document. The document is shorter than 4
- * times the text plus 8 bytes, and with exponents than 5 times the text plus 8: 1e5 is 100000,
- * 25e-1 is 2.5. */
+ * once, before any other status; INVALID_UTF8 if the text is not UTF-8; INVALID_JSON if it is not
+ * accepted JSON; INVALID_JSONB if a limit of the format is exceeded; OUT_OF_MEMORY if an allocation
+ * fails; NO_ROOM if `out` is shorter than the document. The document is shorter than 4 times the
+ * text plus 8 bytes, and with exponents than 5 times the text plus 8: 1e5 is 100000, 25e-1 is
+ * 2.5. */
 static inline uint32_t kohiblad_parse(const uint8_t *text, size_t size, size_t depth,
     uint32_t exponents, uint8_t *out, size_t room, size_t *length)
     KOHIBLAD_INLINE("kohiblad_parse");

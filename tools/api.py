@@ -4,8 +4,8 @@ The page has what the roots of CRATES export, by crate and type: each declaratio
 without its body, the `requires` clauses of a call, which its caller owes, the names of its
 `ensures` clauses, and the `///` comments; and the names of the clauses of programs and of the
 exports for C.
-It is a fault too if a public call, type or constant has no comment; if `jsonb` does not export all
-that the libraries below it export; or if docs/CALLING.md writes `TYPE::NAME` for what the type does
+It is a fault too if a public call, type or constant has no comment; if `jsonb` does not export what
+the libraries below it export; or if docs/CALLING.md writes `TYPE::NAME` for what the type does
 not have.
 """
 import re

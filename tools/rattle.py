@@ -260,9 +260,13 @@ def exported():
     return names
 
 
+# In their place `jsonb` has `parse_within` and `parse_with_exponents_within`.
+OF_LOWER_LIBRARIES = {"read_text_within", "encode_text_within"}
+
+
 def not_exported():
-    """Public names of the two lower libraries that `jsonb` does not export."""
-    top = {name for _, name, _ in places_of_names("jsonb")}
+    """Public names of the two lower libraries that `jsonb` does not export and should."""
+    top = {name for _, name, _ in places_of_names("jsonb")} | OF_LOWER_LIBRARIES
     return [f"{crate}::{name}" for crate in ("jsonb_value", "jsonb_codec")
             for _, name, _ in places_of_names(crate) if name not in top]
 
