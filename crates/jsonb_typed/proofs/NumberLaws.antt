@@ -142,3 +142,11 @@ by_lowering found x value v scale digits is same le when =
       λ e. equal.0 (one ∙ when.0 e ∙ is),
       λ e. when.1 (sym one ∙ equal.1 e ∙ sym is),
     )
+
+-- No two values are equal to one number.
+pub one_equal : (x : Fraction) (v w : ℤ) (scale : ℕ)
+    → fraction_cmp x (record { value = v; scale = scale }) ≡ Equal
+    → fraction_cmp x (record { value = w; scale = scale }) ≡ Equal → v ≡ w
+one_equal x v w scale first second =
+    cancel v w (10 ^ x.scale) (power_above_zero x.scale)
+    (sym (is_equal _ _ first) ∙ is_equal _ _ second)

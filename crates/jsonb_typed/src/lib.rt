@@ -6,14 +6,20 @@ mod column_type;
 mod columns;
 mod keeping;
 mod lattice;
+mod laws;
 mod member;
 mod numbers;
+mod survey;
 mod texts;
 mod types;
 
 pub use column_type::ColumnType;
 pub use columns::{extract, push_member, push_row};
 pub use lattice::{LeastType, holds_all, least_type};
+pub use laws::least_laws;
 pub use numbers::{Fit, value_at_scale};
+pub use survey::{Scales, Survey};
 pub use texts::{extract_texts, push_text};
-pub use types::{Boolean, Dates, Decimal, Int64, Intervals, Timestamps, UInt64, ZonedTimestamps};
+pub use types::{
+    Boolean, Dates, Decimal, Int64, Intervals, Nothing, Timestamps, UInt64, ZonedTimestamps,
+};

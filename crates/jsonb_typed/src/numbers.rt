@@ -79,8 +79,8 @@ fn lowered(value: i128, steps: u8) -> Option<i128>
     Some(lowered)
 }
 
-// The number without its point.
-fn coefficient(number: Number) -> i128
+/// The number without its point.
+pub fn coefficient(number: Number) -> i128
     ensures { result ≡ (fraction_of number).value }
 {
     match number {

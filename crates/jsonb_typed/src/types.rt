@@ -183,6 +183,22 @@ impl ColumnType for Intervals {
     }
 }
 
+/// No values: each member is kept. It is for members of no one type.
+#[derive(Clone, Copy, Debug)]
+pub struct Nothing;
+
+impl ColumnType for Nothing {
+    type Value = ();
+
+    ghost stands = { λ s v t. ⊥ };
+
+    fn blank(&self) {}
+
+    fn value_of(&self, _member: Node<'_>) -> Option<()> {
+        None
+    }
+}
+
 // The value of a number without its point, written with this many digits after it.
 fn number_at(member: Node<'_>, scale: u8, fit: Fit) -> Option<i128>
     requires { HoldsNoScalar member }
