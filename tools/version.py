@@ -16,6 +16,8 @@ PLACES = {
     "README.md": ["This is version <version> of"],
     "crates/jsonb_column_cli/src/arguments.rt": ['"jsonb_column_cli <version>\\n"'],
     "crates/jsonb_probe/src/arguments.rt": ['"jsonb_probe <version>\\n"'],
+    "crates/kohiblad_shell/src/arguments.rt": ['.version("<version>")'],
+    "tests/shell/wrong_input.md": ["kohiblad <version>"],
     "crates/kohiblad/src/answer.rt": ["const VERSION: u32 = <number>;",
                                       "ensures { result ≡ <number> }"],
     "bindings/kohiblad.h": ["#define KOHIBLAD_VERSION <number>"],

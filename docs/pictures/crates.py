@@ -7,6 +7,7 @@ PLACES = {
     "answer_lines": (0.5, 2, "green"), "typed_vector": (5.5, 2, "green"),
     "jsonb_cli": (0, 3, "blue"), "jsonb_column": (0.5, 4, "green"), "uses": (2.9, 3, "plain"),
     "jsonb_comparable": (4.05, 3, "green"),
+    "kohiblad_shell": (0.2, 5, "blue"),
     "jsonb_column_cli": (1.4, 5, "blue"), "jsonb_typed": (2.7, 5, "green"),
     "jsonb_rows": (2.9, 4, "plain"),
     "jsonb_probe": (1.9, 4, "plain"), "jsonb_functions": (4.5, 4, "green"),

@@ -64,7 +64,7 @@ lines_step b bytes false (line ∷ whole) rest test parts lines one =
           (All-cons IsLine (b ∷ line) whole first (All-tail IsLine line whole lines)) one,
     )
 
-lines_of : (bytes : List ℕ) → HasLines bytes
+pub lines_of : (bytes : List ℕ) → HasLines bytes
 lines_of [] = ([], lines_from [] [] refl (All-nil IsLine) no_line)
 lines_of (b ∷ bytes) =
     let (lines, are) = lines_of bytes in

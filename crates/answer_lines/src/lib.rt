@@ -14,3 +14,4 @@ pub use arguments::{Request, request_of};
 pub use reader::LineReader;
 pub use run::{RunError, answer_lines};
 pub use split::split_once;
+pub use write::write_bytes;

@@ -1,0 +1,21 @@
+-- Faults of lines, and the lines that report them.
+use Rattle.std.specs.Prelude.{ℕ, suc, List, [], ◌∷◌, ◌++◌, codes}
+use Rattle.std.specs.Fmt.{decimal}
+use Rattle.kohiblad_shell.specs.declared.outcome.LineFault.{LineFault}
+use Rattle.kohiblad_shell.specs.declared.outcome.Reason.{Reason}
+use Rattle.kohiblad_shell.specs.declared.outcome.Reason.TheVariants.{BadUtf8, BadSyntax, BadNumber}
+use Rattle.kohiblad_shell.specs.declared.outcome.Reason.TheVariants.{TooDeep, TooLarge}
+
+-- The word for a reason.
+abbrev pub reason_name : Reason → List ℕ
+reason_name BadUtf8 = codes "BadUtf8"
+reason_name BadSyntax = codes "BadSyntax"
+reason_name BadNumber = codes "BadNumber"
+reason_name TooDeep = codes "TooDeep"
+reason_name TooLarge = codes "TooLarge"
+
+-- The line that reports a fault, with its line feed: the name of the input, the number of the line
+-- and of the byte, both counted from 1, and the reason.
+abbrev pub fault_line : List ℕ → ℕ → LineFault → List ℕ
+fault_line name number fault = name ++ codes ":" ++ decimal number ++ codes ":"
+    ++ decimal (suc fault.offset) ++ codes ": " ++ reason_name fault.reason ++ 10 ∷ []

@@ -1,0 +1,229 @@
+//! The commands of the program, and their arguments.
+
+use crate::operation::Style;
+use clap::{Arg, ArgAction, ArgMatches, Command};
+use std::alloc::{AllocError, Global};
+
+/// A command: its name, what its help says, and its operands, if it has any.
+struct CommandRow {
+    name: &'static str,
+    about: &'static str,
+    operand: Option<Operand>,
+    value: Option<Operand>,
+    takes_style: bool,
+}
+
+/// The operand of a command.
+struct Operand {
+    name: &'static str,
+    help: &'static str,
+}
+
+const PATH: Operand = Operand {
+    name: "PATH",
+    help: "A path, such as '$.lines[*].price'",
+};
+
+const CONDITION: Operand = Operand {
+    name: "PATH",
+    help: "A path, such as '$.lines[*]?(@.price < 3)'",
+};
+
+const VALUE: Operand = Operand {
+    name: "VALUE",
+    help: "A JSON text",
+};
+
+const STEPS: Operand = Operand {
+    name: "PATH",
+    help: "A path without wildcards, such as '$.lines[0].price'",
+};
+
+const NAMES: Operand = Operand {
+    name: "NAMES",
+    help: "Names with commas between them, such as id,who",
+};
+
+const COMMANDS: [CommandRow; 12] = [
+    CommandRow {
+        name: "check",
+        about: "Report the lines that are not JSON",
+        operand: None,
+        value: None,
+        takes_style: false,
+    },
+    CommandRow {
+        name: "canonical",
+        about: "Write each value as compact JSON, with its keys in order",
+        operand: None,
+        value: None,
+        takes_style: false,
+    },
+    CommandRow {
+        name: "get",
+        about: "Write the first value to which a path leads, of each line",
+        operand: Some(PATH),
+        value: None,
+        takes_style: true,
+    },
+    CommandRow {
+        name: "select",
+        about: "Write all values to which a path leads, of each line",
+        operand: Some(PATH),
+        value: None,
+        takes_style: true,
+    },
+    CommandRow {
+        name: "filter",
+        about: "Write the lines in which a path leads to some value",
+        operand: Some(CONDITION),
+        value: None,
+        takes_style: false,
+    },
+    CommandRow {
+        name: "count",
+        about: "Count the lines in which a path leads to some value",
+        operand: Some(CONDITION),
+        value: None,
+        takes_style: false,
+    },
+    CommandRow {
+        name: "contains",
+        about: "Write the lines whose value contains another",
+        operand: Some(VALUE),
+        value: None,
+        takes_style: false,
+    },
+    CommandRow {
+        name: "set",
+        about: "Put a value at the end of a path, of each line",
+        operand: Some(STEPS),
+        value: Some(VALUE),
+        takes_style: false,
+    },
+    CommandRow {
+        name: "remove",
+        about: "Remove what is at the end of a path, of each line",
+        operand: Some(STEPS),
+        value: None,
+        takes_style: false,
+    },
+    CommandRow {
+        name: "merge",
+        about: "Apply a JSON Merge Patch to each line",
+        operand: Some(VALUE),
+        value: None,
+        takes_style: false,
+    },
+    CommandRow {
+        name: "pick",
+        about: "Keep the members of these names, of each line",
+        operand: Some(NAMES),
+        value: None,
+        takes_style: false,
+    },
+    CommandRow {
+        name: "strip-nulls",
+        about: "Remove members that are null, of each line",
+        operand: None,
+        value: None,
+        takes_style: false,
+    },
+];
+
+const AFTER_HELP: &str = "The status is 0 if some line gave a row, 1 if none did or a line is \
+    wrong, 2 for wrong use, and 3 if a device or memory failed.";
+
+/// The commands, as `clap` parses them.
+pub fn commands<'a>(alloc: Global) -> Result<Command<'a>, AllocError> {
+    let mut program = Command::new(alloc, "kohiblad")
+        .version("0.7.0")
+        .about("Files of JSON lines, row by row")
+        .after_help(AFTER_HELP)
+        .subcommand_required(true)
+        .arg_required_else_help(true);
+    for row in &COMMANDS {
+        program = program.subcommand(command_of(alloc, row)?)?;
+    }
+    Ok(program)
+}
+
+// A command of the table.
+fn command_of<'a>(alloc: Global, row: &CommandRow) -> Result<Command<'a>, AllocError> {
+    let mut command = Command::new(alloc, row.name).about(row.about);
+    if let Some(operand) = &row.operand {
+        command = command.arg(operand_of(alloc, "operand", operand))?;
+    }
+    if let Some(value) = &row.value {
+        command = command.arg(operand_of(alloc, "value", value))?;
+    }
+    if row.takes_style {
+        let raw = Arg::new(alloc, "raw")
+            .short('r')
+            .long("raw")
+            .help("Write strings without quotes and escapes")
+            .action(ArgAction::SetTrue);
+        command = command.arg(raw)?;
+    }
+    command.arg(on_error(alloc))?.arg(files(alloc))
+}
+
+// An operand of a command.
+fn operand_of<'a>(alloc: Global, id: &'a str, operand: &Operand) -> Arg<'a> {
+    Arg::new(alloc, id)
+        .value_name(operand.name)
+        .help(operand.help)
+        .required(true)
+}
+
+// What happens at a line that is wrong.
+fn on_error<'a>(alloc: Global) -> Arg<'a> {
+    Arg::new(alloc, "on-error")
+        .long("on-error")
+        .value_name("WHAT")
+        .help("What to do after a line that is wrong")
+        .value_parser(["stop", "skip"].as_slice())
+}
+
+// The files that are read.
+fn files<'a>(alloc: Global) -> Arg<'a> {
+    Arg::new(alloc, "file")
+        .value_name("FILE")
+        .help("Files of JSON lines; standard input if none is named")
+        .action(ArgAction::Append)
+        .num_args(0..)
+}
+
+/// The operand that was given to a command: a path, or a JSON text.
+pub fn operand_in<'a>(arguments: &ArgMatches<'a>) -> &'a str {
+    match arguments.get_str("operand") {
+        Some(operand) => operand,
+        None => "",
+    }
+}
+
+/// The second operand that was given to a command: a JSON text.
+pub fn value_in<'a>(arguments: &ArgMatches<'a>) -> &'a str {
+    match arguments.get_str("value") {
+        Some(value) => value,
+        None => "",
+    }
+}
+
+/// How values are to be written.
+pub fn style_in(arguments: &ArgMatches<'_>) -> Style {
+    if arguments.get_flag("raw") {
+        Style::Raw
+    } else {
+        Style::Json
+    }
+}
+
+/// Whether the run is to end at the first line that is wrong, where `otherwise` holds if the
+/// arguments do not say.
+pub fn stops_in(arguments: &ArgMatches<'_>, otherwise: bool) -> bool {
+    match arguments.get_str("on-error") {
+        Some(word) => word == "stop",
+        None => otherwise,
+    }
+}

@@ -1,0 +1,90 @@
+//! What a line gives: rows, or a fault.
+
+ghost use Rattle.std.specs.Prelude.{◌≡◌, IfOk, IfErr, string_bytes};
+ghost use Rattle.kohiblad_shell.specs.Words.{IsAnswer, LineRule, OutOfMemory, fault_line};
+ghost use Rattle.kohiblad_shell.specs.Words.{reason_name};
+
+use answer_lines::RunError;
+use std::alloc::{AllocError, Global};
+
+/// Why a line is wrong.
+#[derive(Clone, Copy, Debug, PartialEq, Eq)]
+pub enum Reason {
+    /// It is not UTF-8.
+    BadUtf8,
+    /// It is not JSON, and no number is at fault.
+    BadSyntax,
+    /// It is not JSON: a number is unfinished or too large.
+    BadNumber,
+    /// It nests too deep.
+    TooDeep,
+    /// Its value, or the row that is made of it, is too large for a document.
+    TooLarge,
+}
+
+impl Reason {
+    /// The word in a report.
+    pub fn name(self) -> &'static str
+        ensures { result.now ≡ reason_name self }
+    {
+        match self {
+            Reason::BadUtf8 => "BadUtf8",
+            Reason::BadSyntax => "BadSyntax",
+            Reason::BadNumber => "BadNumber",
+            Reason::TooDeep => "TooDeep",
+            Reason::TooLarge => "TooLarge",
+        }
+    }
+}
+
+/// Where a line is wrong, and why.
+#[derive(Clone, Copy, Debug, PartialEq, Eq)]
+pub struct LineFault {
+    /// How many bytes of the line are before the fault.
+    pub offset: usize,
+    /// Why it is wrong there.
+    pub reason: Reason,
+}
+
+/// Why a line has no answer.
+#[derive(Clone, Copy, Debug, PartialEq, Eq)]
+pub enum Unanswered {
+    /// The line is wrong.
+    Wrong(LineFault),
+    /// An allocation failed.
+    OutOfMemory,
+}
+
+impl From<AllocError> for Unanswered {
+    ghost from_gives = { λ _ unanswered. unanswered ≡ OutOfMemory };
+
+    fn from(_error: AllocError) -> Unanswered {
+        Unanswered::OutOfMemory
+    }
+}
+
+/// Answers lines, each by itself.
+pub trait LineWorker {
+    // What a line may give.
+    ghost rule: { Self → LineRule };
+
+    /// The rows that the line gives, each with its line feed, or why it has none.
+    fn answer(&self, alloc: Global, line: &[u8]) -> Result<Vec<u8>, Unanswered>
+        ensures { IsAnswer (rule self.now) line.now result };
+}
+
+/// The line that reports a fault: the name of the input, the number of the line, that of the byte,
+/// both counted from 1, and the reason.
+pub fn fault_text(
+    alloc: Global,
+    name: &str,
+    number: u64,
+    fault: LineFault,
+) -> Result<String, RunError>
+    ensures ok { IfOk result (λ text. string_bytes text ≡ fault_line name.now number fault) }
+    ensures memory { IfErr result (λ e. e ≡ RunError.Memory) }
+{
+    let byte = fault.offset as u128 + 1;
+    let reason = fault.reason.name();
+    Ok(format!(in alloc; "{name}:{number}:{byte}: {reason}\n")?)
+}
