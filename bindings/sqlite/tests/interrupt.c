@@ -30,7 +30,7 @@ static void fail(const char *what, const char *sql)
 
 /* How often the function asks if it is not interrupted, and what comes then. */
 static const struct { const char *sql; long asks; const char *answer; } statements[] = {
-    /* Rounds of 1, 4, 16 and 20 million steps. */
+    /* Rounds of 1, 4, 16 and 20 million steps, two of which each pair of arrays takes. */
     { ARRAYS(5000) "SELECT jb_contains(l, r) FROM a", 3, "jb_contains: TooManySteps" },
     { ARRAYS(2000) "SELECT jb_contains(jb_object('a', l), jb_object('a', r)) FROM a", 2, "1" },
     { "SELECT jb_contains('[1,2]', '[2]')", 0, "1" },
