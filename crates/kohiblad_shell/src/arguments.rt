@@ -137,7 +137,7 @@ const AFTER_HELP: &str = "The status is 0 if some line gave a row, 1 if none did
 /// The commands, as `clap` parses them.
 pub fn commands<'a>(alloc: Global) -> Result<Command<'a>, AllocError> {
     let mut program = Command::new(alloc, "kohiblad")
-        .version("0.7.0")
+        .version("0.8.0")
         .about("Files of JSON lines, row by row")
         .after_help(AFTER_HELP)
         .subcommand_required(true)
