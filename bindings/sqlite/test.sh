@@ -122,7 +122,7 @@ if command -v python3 > "$scratch/found" && echo 'int main(void) { return 0; }' 
     echo "$count random statements under the address and undefined-behaviour sanitizers"
     make -s OUT="$scratch/sanitized.out" CFLAGS='-O1 -g -fno-sanitize-recover=all' \
         EXTRA_CFLAGS='-Werror -fsanitize=address,undefined' || fail 'the build with sanitizers'
-    python3 tests/random.py "$count" "${RANDOM_SEED:-1}" > "$scratch/random.sql"
+    python3 tests/random_statements.py "$count" "${RANDOM_SEED:-1}" > "$scratch/random.sql"
     LD_PRELOAD="$(cc -print-file-name=libasan.so) $(cc -print-file-name=libubsan.so)" \
         ASAN_OPTIONS=detect_leaks=1:exitcode=99 UBSAN_OPTIONS=print_stacktrace=1:exitcode=99 \
         sqlite3 -batch -cmd ".load $scratch/sanitized.out/kohiblad" :memory: \
@@ -139,7 +139,7 @@ if command -v python3 > "$scratch/found" && echo 'int main(void) { return 0; }' 
     cc -std=c11 -O1 -g -Wall -Wextra -Werror -fsanitize=address,undefined \
         -fno-sanitize-recover=all tests/soak.c -o "$scratch/soak" -rdynamic -pthread \
         $(pkg-config --cflags --libs sqlite3) || fail 'the build of tests/soak.c'
-    python3 tests/random.py 0 "${RANDOM_SEED:-1}" \
+    python3 tests/random_statements.py 0 "${RANDOM_SEED:-1}" \
         | "$scratch/soak" "$scratch/sanitized.out/kohiblad" "$minutes" "${RANDOM_SEED:-1}" \
         || fail 'tests/soak.c'
     tests=$((tests + 2))

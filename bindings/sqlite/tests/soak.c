@@ -3,7 +3,7 @@
  * and on lengths. Each ends with rows, an error or as cancelled, and all memory is freed. To be built
  * with sanitizers, for an extension that was built with them and with tests/newer.h.
  *
- *     python3 tests/random.py 0 SEED | soak EXTENSION MINUTES SEED */
+ *     python3 tests/random_statements.py 0 SEED | soak EXTENSION MINUTES SEED */
 #define _POSIX_C_SOURCE 200809L
 #include <pthread.h>
 #include <sqlite3.h>
