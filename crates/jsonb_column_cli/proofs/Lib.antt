@@ -1,4 +1,5 @@
 pub mod Replies
 pub mod LineLaws
+pub mod MemberLaws
 pub mod OneOrder
 pub mod OneAnswer

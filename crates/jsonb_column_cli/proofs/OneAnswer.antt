@@ -25,13 +25,17 @@ use Rattle.answer_lines.specs.Session.{AreAnswers, IsNoMemoryReply}
 use Rattle.answer_lines.proofs.OneOutput as session
 use Rattle.jsonb_column_cli.specs.declared.answer.Refusal.{Refusal}
 use Rattle.jsonb_column_cli.specs.declared.answer.Refusal.TheVariants.{BadCommand, BadHex, NoRow}
-use Rattle.jsonb_column_cli.specs.declared.answer.Refusal.TheVariants.{Call, TooDeep}
+use Rattle.jsonb_column_cli.specs.declared.answer.Refusal.TheVariants.{BadPath, BadType, Call}
+use Rattle.jsonb_column_cli.specs.declared.answer.Refusal.TheVariants.{TooDeep}
 use Rattle.jsonb_column_cli.specs.Commands.{ColumnForm, add, count, row, sort, find, range, save}
-use Rattle.jsonb_column_cli.specs.Commands.{load, unknown, form_in, Name, name_word, name_json}
+use Rattle.jsonb_column_cli.specs.Commands.{load, survey, extract, unknown, form_in, Name}
+use Rattle.jsonb_column_cli.specs.Commands.{name_word, name_json}
+use Rattle.jsonb_column_cli.specs.Members.{HasPath, IsIndexNumeral, IsNoPath, IsNoType, row_index}
 use Rattle.jsonb_column_cli.specs.Answers.{Rows, AnswersLine, IsRowsAnswer, IsGiven, IsHexOf}
 use Rattle.jsonb_column_cli.specs.Answers.{IsLineOutcome, AreRowsSorted, IsOutcome, IsRowsRefusal}
 use Rattle.jsonb_column_cli.specs.Answers.{RefusesBytes, RefusesText, reply_line, rows_line}
-use Rattle.jsonb_column_cli.specs.Answers.{IsMemberName, RefusesName, IsIndexNumeral, row_index}
+use Rattle.jsonb_column_cli.specs.Answers.{IsMemberName, RefusesName}
+use Rattle.jsonb_column_cli.proofs.MemberLaws.{one_column, one_survey}
 use Rattle.jsonb_column_cli.proofs.OneOrder.{one_order}
 
 -- ---- a text has one document, or is refused for one reason
@@ -197,6 +201,10 @@ one_reply rows x y (load word) a b (bytes, (hex, (storage, is))) (more, (again, 
   one_stored more x y
       (subst (λ (d : List ℕ). AreStoredRows x d) (one_hex bytes more word hex again) storage) also,
 )
+one_reply rows x y (survey path) a b (first, next) (second, left) =
+    (one_survey rows path a b first second, next ∙ sym left)
+one_reply rows x y (extract path given) a b (first, next) (second, left) =
+    (one_column rows path given a b first second, next ∙ sym left)
 one_reply rows x y unknown a b first second = absurd first
 
 abbrev RefusesWord : List ℕ → Error → Type 0
@@ -212,6 +220,9 @@ Cause rows (find name value) r = RefusesFind name value r
 Cause rows (range low high) r = RefusesTexts low high r
 Cause rows (load word) r = ((r ≡ BadHex) × ((bytes : List ℕ) → IsHexOf bytes word → ⊥))
     ⊎ ((e : Error) × ((r ≡ Call e) × RefusesWord word e))
+Cause rows (survey path) r = (r ≡ BadPath) × IsNoPath path
+Cause rows (extract path given) r = ((r ≡ BadPath) × IsNoPath path)
+    ⊎ ((r ≡ BadType) × (HasPath path × IsNoType given))
 Cause rows unknown r = r ≡ BadCommand
 Cause rows form r = ⊥
 
@@ -225,6 +236,9 @@ cause_of rows (find name value) r why given = why
 cause_of rows (range low high) r why given = why
 cause_of rows (load word) BadHex why given = inl (refl, why)
 cause_of rows (load word) (Call e) why given = inr (e, (refl, why))
+cause_of rows (survey path) BadPath why given = (refl, why)
+cause_of rows (extract path type) BadPath why given = inl (refl, why)
+cause_of rows (extract path type) BadType why given = inr (refl, why)
 cause_of rows unknown BadCommand why given = refl
 cause_of rows form r why given = absurd why
 
@@ -248,6 +262,13 @@ one_cause rows (load word) r s (inr (e, (is, (bytes, (hex, why)))))
     ∙ ap Call (one_fault more e g
     (subst (λ (d : List ℕ). RefusesBytes d e) (one_hex bytes more word hex again) why) also)
     ∙ sym then
+one_cause rows (survey path) r s first second = first.0 ∙ sym second.0
+one_cause rows (extract path given) r s (inl first) (inl second) = first.0 ∙ sym second.0
+one_cause rows (extract path given) r s (inl first) (inr second) =
+    absurd (first.1 second.1.0.0 second.1.0.1)
+one_cause rows (extract path given) r s (inr first) (inl second) =
+    absurd (second.1 first.1.0.0 first.1.0.1)
+one_cause rows (extract path given) r s (inr first) (inr second) = first.0 ∙ sym second.0
 one_cause rows unknown r s first second = first ∙ sym second
 one_cause rows form r s first second = absurd first
 
@@ -270,6 +291,12 @@ answered_or_refused rows x (load word) a r (bytes, (hex, (storage, same)))
     (inr (e, (is, (more, (again, why))))) =
     not_stored x more e
     (subst (λ (d : List ℕ). AreStoredRows x d) (one_hex bytes more word hex again) storage) why
+answered_or_refused rows x (survey path) a r (answer, same) cause =
+    cause.1 answer.steps answer.is_path
+answered_or_refused rows x (extract path given) a r (answer, same) (inl cause) =
+    cause.1 answer.steps answer.is_path
+answered_or_refused rows x (extract path given) a r (answer, same) (inr cause) =
+    cause.1.1 answer.type answer.is_type
 answered_or_refused rows x unknown a r answer cause = absurd answer
 answered_or_refused rows x form a r answer cause = absurd cause
 

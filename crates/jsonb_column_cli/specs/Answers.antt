@@ -6,7 +6,6 @@ use Rattle.std.specs.Fmt.{decimal}
 use Rattle.std.specs.List.Sorted.{IsStable}
 use Rattle.std.specs.Ordering.{on}
 use Rattle.std.specs.Str.{IsUtf8}
-use Rattle.std.specs.Str.Parse.{IsNumeral, digits_value, without_leading_plus}
 use Rattle.std.specs.String.{string_bytes}
 use Rattle.std.specs.declared.alloc.Global.{Global}
 use Rattle.std.specs.declared.string.String.{String}
@@ -31,9 +30,13 @@ use Rattle.jsonb_column.specs.SortOrder.{is_row_between}
 use Rattle.jsonb_column.specs.Storage.{AreStoredRows, HasFaultyRow, IsCut, storage}
 use Rattle.jsonb_column_cli.specs.declared.answer.Refusal.{Refusal}
 use Rattle.jsonb_column_cli.specs.declared.answer.Refusal.TheVariants.{BadCommand, BadHex, NoRow}
-use Rattle.jsonb_column_cli.specs.declared.answer.Refusal.TheVariants.{Call, TooDeep}
+use Rattle.jsonb_column_cli.specs.declared.answer.Refusal.TheVariants.{BadPath, BadType, Call}
+use Rattle.jsonb_column_cli.specs.declared.answer.Refusal.TheVariants.{TooDeep}
 use Rattle.jsonb_column_cli.specs.Commands.{ColumnForm, add, count, row, sort, find, range, save}
-use Rattle.jsonb_column_cli.specs.Commands.{load, unknown, form_in, Name, name_word, name_json}
+use Rattle.jsonb_column_cli.specs.Commands.{load, survey, extract, unknown, form_in, Name}
+use Rattle.jsonb_column_cli.specs.Commands.{name_word, name_json}
+use Rattle.jsonb_column_cli.specs.Members.{HasPath, IsColumnReply, IsIndexNumeral, IsNoPath}
+use Rattle.jsonb_column_cli.specs.Members.{IsNoType, IsSurveyReply, row_index}
 use Rattle.jsonb_column_cli.specs.declared.answer.TheConstants.{MAX_TEXT_DEPTH}
 
 -- The rows of a column, each by its bytes.
@@ -88,14 +91,6 @@ pub record AreRowsSorted (rows : Rows) (order : List Document) : Type 0 where
   pub ordered : IsSorted (on document_tree tree_cmp) order
   pub stable : IsStable (on tree_in tree_cmp) rows (map document_bytes order)
 
--- The index that decimal digits mean.
-abbrev pub row_index : List ℕ → ℕ
-row_index digits = digits_value 10 (without_leading_plus digits)
-
--- The digits, which may follow a plus sign, are a numeral.
-abbrev pub IsIndexNumeral : List ℕ → Type 0
-IsIndexNumeral digits = IsNumeral 10 (without_leading_plus digits)
-
 -- The digits, which may follow a plus sign, are the index of a row.
 abbrev pub IsIndex : Rows → List ℕ → Type 0
 IsIndex rows digits = IsIndexNumeral digits × (row_index digits < length rows)
@@ -135,6 +130,9 @@ IsRowsAnswer rows save reply next =
     (reply ≡ codes "ok " ++ encode_lower (storage rows)) × (next ≡ rows)
 IsRowsAnswer rows (load word) reply next =
     (bytes : List ℕ) × (IsHexOf bytes word × (AreStoredRows next bytes × (reply ≡ codes "ok")))
+IsRowsAnswer rows (survey path) reply next = IsSurveyReply rows path reply × (next ≡ rows)
+IsRowsAnswer rows (extract path given) reply next =
+    IsColumnReply rows path given reply × (next ≡ rows)
 IsRowsAnswer rows unknown reply next = ⊥
 
 -- A command on these rows is refused for this reason.
@@ -150,6 +148,9 @@ IsRowsRefusal rows (range low high) refusal = RefusesText low refusal
 IsRowsRefusal rows (load word) BadHex = (bytes : List ℕ) → IsHexOf bytes word → ⊥
 IsRowsRefusal rows (load word) (Call e) =
     (bytes : List ℕ) × (IsHexOf bytes word × RefusesBytes bytes e)
+IsRowsRefusal rows (survey path) BadPath = IsNoPath path
+IsRowsRefusal rows (extract path given) BadPath = IsNoPath path
+IsRowsRefusal rows (extract path given) BadType = HasPath path × IsNoType given
 IsRowsRefusal rows unknown BadCommand = ⊤
 IsRowsRefusal rows form refusal = ⊥
 
@@ -170,6 +171,8 @@ column_refusal_name BadCommand = codes "BadCommand"
 column_refusal_name TooDeep = codes "TooDeep"
 column_refusal_name BadHex = codes "BadHex"
 column_refusal_name NoRow = codes "NoRow"
+column_refusal_name BadPath = codes "BadPath"
+column_refusal_name BadType = codes "BadType"
 column_refusal_name (Call e) = name_of e
 
 -- The bytes of a reply.

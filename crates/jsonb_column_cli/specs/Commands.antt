@@ -18,6 +18,8 @@ pub data ColumnForm : Type 0 where
   range : (low high : List ℕ) → ColumnForm
   save : ColumnForm
   load : (word : List ℕ) → ColumnForm
+  survey : (path : List ℕ) → ColumnForm
+  extract : (path given : List ℕ) → ColumnForm
   unknown : ColumnForm
 
 -- The character is a space.
@@ -51,6 +53,11 @@ find_in given = if begins_with_quote given
     (drop (name_len false false given + 1) given)
     else find (name_word (before_first is_space given)) (after_first is_space given)
 
+-- The path and the type that `extract` receives.
+abbrev pub extract_in : List ℕ → ColumnForm
+extract_in given = extract (take (name_len false false given) given)
+    (drop (name_len false false given + 1) given)
+
 -- The command with this name and these arguments.
 abbrev pub form_named : List ℕ → List ℕ → ColumnForm
 form_named name given =
@@ -63,6 +70,8 @@ form_named name given =
     then range (before_first is_space given) (after_first is_space given)
     else if bytes_eq name (codes "save") then save
     else if bytes_eq name (codes "load") then load given
+    else if bytes_eq name (codes "survey") then survey given
+    else if bytes_eq name (codes "extract") then extract_in given
     else unknown
 
 -- The command of a line: its name is before the first space.

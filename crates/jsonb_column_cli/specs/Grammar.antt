@@ -2,7 +2,8 @@
 use Rattle.jsonb_column_cli.specs.declared.command.Command.{Command}
 use Rattle.jsonb_column_cli.specs.declared.command.Command.TheVariants as commands
 use Rattle.jsonb_column_cli.specs.Commands.{ColumnForm, add, count, row, sort, find, range, save}
-use Rattle.jsonb_column_cli.specs.Commands.{load, unknown, Name, name_word, name_json}
+use Rattle.jsonb_column_cli.specs.Commands.{load, survey, extract, unknown, Name, name_word}
+use Rattle.jsonb_column_cli.specs.Commands.{name_json}
 use Rattle.jsonb_column_cli.specs.declared.answer.Name as code
 use Rattle.jsonb_column_cli.specs.declared.answer.Name.TheVariants as names
 
@@ -21,4 +22,6 @@ column_form (commands.Find name value) = find (name_view name) value.now
 column_form (commands.Range low high) = range low.now high.now
 column_form commands.Save = save
 column_form (commands.Load word) = load word.now
+column_form (commands.Survey path) = survey path.now
+column_form (commands.Extract path given) = extract path.now given.now
 column_form commands.Unknown = unknown

@@ -1,4 +1,5 @@
 pub mod Commands
 pub mod Grammar
+pub mod Members
 pub mod Answers
 pub mod Words

@@ -33,6 +33,10 @@ pub enum Refusal {
     BadHex,
     /// There is no row with this index.
     NoRow,
+    /// A text is no path, or one with a wildcard, a range or a filter.
+    BadPath,
+    /// A text names no type of columns.
+    BadType,
     /// A call of the library returned this error.
     Call(Error),
 }
@@ -74,6 +78,8 @@ impl Refusal {
             Refusal::TooDeep => "TooDeep",
             Refusal::BadHex => "BadHex",
             Refusal::NoRow => "NoRow",
+            Refusal::BadPath => "BadPath",
+            Refusal::BadType => "BadType",
             Refusal::Call(error) => error.name(),
         }
     }

@@ -16,6 +16,10 @@ find NAME TEXT    the rows whose member of this name has the text's value;
 range TEXT TEXT   the rows from one value to another, in order
 save              the rows as they are stored, in hexadecimal
 load HEX          these stored rows in place of the others
+survey PATH       the least type that holds the members at the end of a path,
+                  as $.price, of all rows, and how many of them are what
+extract PATH TYPE the member of each row as a value of a type, as `survey`
+                  names it; `-` where there is none, `!` before other members
 ";
 
 /// What `--version` prints.

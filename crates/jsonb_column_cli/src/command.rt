@@ -9,6 +9,7 @@ use crate::answer::{
     Name, Refusal, answer_add, answer_count, answer_find, answer_load, answer_range, answer_row,
     answer_save, answer_sort,
 };
+use crate::typed::{answer_extract, answer_survey};
 use jsonb::Error;
 use jsonb_column::Column;
 use simdutf8::basic;
@@ -25,11 +26,13 @@ pub enum Command<'a> {
     Range { low: &'a str, high: &'a str },
     Save,
     Load(&'a str),
+    Survey(&'a str),
+    Extract { path: &'a str, given: &'a str },
     Unknown,
 }
 
-// The text before the first space, and the text after it.
-fn split_space(text: &str) -> (&str, &str)
+/// The text before the first space, and the text after it.
+pub fn split_space(text: &str) -> (&str, &str)
     ensures before { result.0.now ≡ before_first is_space text.now }
     ensures later { result.1.now ≡ after_first is_space text.now }
 {
@@ -129,6 +132,11 @@ impl<'a> Command<'a> {
             Command::Save
         } else if command == "load" {
             Command::Load(given)
+        } else if command == "survey" {
+            Command::Survey(given)
+        } else if command == "extract" {
+            let (path, given) = split_name(given);
+            Command::Extract { path, given }
         } else {
             Command::Unknown
         }
@@ -147,6 +155,8 @@ impl<'a> Command<'a> {
             Command::Range { low, high } => answer_range(alloc, column, low, high),
             Command::Save => answer_save(alloc, column),
             Command::Load(word) => answer_load(alloc, column, word),
+            Command::Survey(path) => answer_survey(alloc, column, path),
+            Command::Extract { path, given } => answer_extract(alloc, column, path, given),
             Command::Unknown => Err(Refusal::BadCommand),
         }
     }

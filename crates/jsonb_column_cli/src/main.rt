@@ -6,6 +6,8 @@ mod arguments;
 mod command;
 mod laws;
 mod run;
+mod shown;
+mod typed;
 
 use answer_lines::{Request, RunError, request_of};
 use arguments::{USAGE, VERSION};
