@@ -8,10 +8,10 @@ PLACES = {
     "jsonb_cli": (0, 3, "blue"), "jsonb_column": (0.5, 4, "green"), "uses": (2.9, 3, "plain"),
     "jsonb_comparable": (4.05, 3, "green"),
     "kohiblad_shell": (0.2, 5, "blue"),
-    "jsonb_column_cli": (1.4, 5, "blue"), "jsonb_typed": (2.7, 5, "green"),
+    "jsonb_column_cli": (1.4, 6, "blue"), "jsonb_typed": (2.7, 5, "green"),
     "jsonb_rows": (2.9, 4, "plain"),
     "jsonb_probe": (1.9, 4, "plain"), "jsonb_functions": (4.5, 4, "green"),
-    "json_fault": (5.5, 4, "green"), "jsonb_calls": (4, 5, "plain"), "kohiblad": (5, 5, "violet"),
+    "json_fault": (5.5, 4, "green"), "jsonb_calls": (4, 5, "plain"), "kohiblad": (5, 6, "violet"),
 }
 KINDS = [("green", "library"), ("blue", "program"), ("violet", "library for C"),
          ("plain", "tests and small callers"), ("amber", "bindings: tested, not proved")]
