@@ -4,14 +4,14 @@ from drawing import Drawing
 # Where each crate is: its column and its row, counted from below, and its kind.
 PLACES = {
     "jsonb_value": (2, 0, "green"), "jsonb_codec": (2, 1, "green"), "jsonb": (2, 2, "green"),
-    "answer_lines": (0.5, 2, "green"), "typed_vector": (5.5, 2, "green"),
-    "jsonb_cli": (0, 3, "blue"), "jsonb_column": (0.5, 4, "green"), "uses": (2.9, 3, "plain"),
-    "jsonb_comparable": (4.05, 3, "green"),
-    "kohiblad_shell": (0.2, 5, "blue"),
-    "jsonb_column_cli": (1.4, 6, "blue"), "jsonb_typed": (2.7, 5, "green"),
-    "jsonb_rows": (2.9, 4, "plain"),
-    "jsonb_probe": (1.9, 4, "plain"), "jsonb_functions": (4.5, 4, "green"),
-    "json_fault": (5.5, 4, "green"), "jsonb_calls": (4, 5, "plain"), "kohiblad": (5, 6, "violet"),
+    "answer_lines": (0.5, 3, "green"), "uses": (2.55, 3, "plain"),
+    "jsonb_comparable": (4.05, 3, "green"), "jsonb_cli": (0, 4, "blue"),
+    "jsonb_column": (1, 4, "green"), "jsonb_probe": (2, 4, "plain"),
+    "typed_vector": (3.1, 4, "green"), "jsonb_functions": (4.4, 4, "green"),
+    "json_fault": (5.5, 4, "green"), "kohiblad_shell": (0.5, 5, "blue"),
+    "jsonb_rows": (2.55, 5, "plain"), "jsonb_typed": (3.6, 5, "green"),
+    "jsonb_calls": (4.7, 5, "plain"), "jsonb_column_cli": (1.5, 6, "blue"),
+    "kohiblad": (5, 6, "violet"),
 }
 KINDS = [("green", "library"), ("blue", "program"), ("violet", "library for C"),
          ("plain", "tests and small callers"), ("amber", "bindings: tested, not proved")]
