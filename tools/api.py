@@ -11,8 +11,8 @@ not have.
 import re
 import textwrap
 
-from rattle import (CRATES, TOP, about_of, exports_for_c, file_of, files_of, functions_of,
-                    not_exported, public_items, text_of)
+from rattle import (CRATES, PROGRAMS, TOP, about_of, exports_for_c, file_of, files_of,
+                    functions_of, not_exported, public_items, text_of)
 
 PAGE, CALLING = f"{TOP}/docs/API.md", f"{TOP}/docs/CALLING.md"
 HEAD = """# Every public type and call
@@ -24,7 +24,6 @@ above. A call that can allocate has `OutOfMemory` among its errors; all others a
 What a call `requires` its caller must prove. What it `ensures` is proved: of those clauses the page
 has the names (`_` is one without a name), and the source of the call has the clauses.
 """
-PROGRAMS = ("answer_lines", "jsonb_cli", "jsonb_column_cli")
 # The functions of the programs that carry their promises, and their laws.
 OF_PROGRAMS = re.compile(r"run|answer|answer_lines|ask|line|reason|decode_shallow|\w+_laws")
 IN_C = """

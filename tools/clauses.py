@@ -1,5 +1,5 @@
-"""Compares docs/PROOFS.md and docs/COLUMN.md with the code: each clause that these pages name after
-a call must be a clause of that call.
+"""Compares the pages PAGES of docs with the code: each clause that they name after a call must be a
+clause of that call.
 
 They are written as CALLS: CLAUSES, each name in backticks, and end at the first other word. A call
 is a function, or a method as TYPE::NAME.
@@ -10,6 +10,7 @@ import re
 
 from rattle import TOP, files_of, functions_of, text_of
 
+PAGES = ("PROOFS", "COLUMN", "COMPARABLE", "TYPED")
 CALLS, CLAUSES = r"(`[\w:]+`(?:, `[\w:]+`)*)", r"(`\w+`(?:, `\w+`)*)"
 ITEM = re.compile(rf"{CALLS}(?: of `\w+`)?: {CLAUSES}")
 
@@ -27,7 +28,7 @@ def clauses():
 def compare(_):
     """The faults, and how many calls were compared."""
     found, count, faults = clauses(), 0, []
-    for page in ("PROOFS", "COLUMN"):
+    for page in PAGES:
         text = re.sub(r"\n *(?=\S)", " ", text_of(f"{TOP}/docs/{page}.md"))
         for calls, listed in ITEM.findall(text):
             names = set(re.findall(r"\w+", listed))

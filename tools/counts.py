@@ -9,7 +9,7 @@ import statistics
 import sys
 
 import definitions
-from rattle import TOP, constant, text_of
+from rattle import TOP, constant, exports_for_c, lines_with_unsafe, text_of
 
 sys.path.insert(0, f"{TOP}/bench")
 import tables  # noqa: E402
@@ -52,6 +52,7 @@ def spread(*names, digits=2):
 LINE_DEPTH = constant(f"{TOP}/crates/jsonb_cli/src/command.rt", "MAX_WORD_DEPTH")
 ROW_DEPTH = constant(f"{TOP}/crates/jsonb_column_cli/src/answer.rt", "MAX_ROW_DEPTH")
 TEXT_DEPTH = constant(f"{TOP}/crates/jsonb_column_cli/src/answer.rt", "MAX_TEXT_DEPTH")
+WITHOUT_MEMORY = sum("Global" not in it.signature for _, it in exports_for_c())
 KEYS = "tests/lines/jsonb_probe/comparable-keys.in"
 NEIGHBOURS = commands(KEYS, "cmp")
 ALIKE = r"(?:middle|last) of \d+ numbered"
@@ -72,11 +73,12 @@ PAGES = {
         (r"run on ([\d,]+) byte strings", lines("tests/lines/jsonb_probe/reader_faults.in") // 2),
         (r"([\d,]+) lines of `jsonb_cli`", lines("tests/lines/jsonb_cli/*.in")),
         (r"([\d,]+) of `jsonb_probe`", lines("tests/lines/jsonb_probe/*.in")),
-        (r"one that nests at most ([\d,]+) deep, and no such", LINE_DEPTH),
+        (r"nests deeper than ([\d,]+) is accepted", LINE_DEPTH),
         (r"at their limits of ([\d,]+) and", LINE_DEPTH),
         (r"and ([\d,]+) levels, refuse", ROW_DEPTH),
-        (r"limit of `jsonb_cli`, ([\d,]+) levels", LINE_DEPTH),
-        (r"that of a row, ([\d,]+), less", ROW_DEPTH),
+    ],
+    "docs/ARCHITECTURE.md": [
+        (r"at ([\d,]+) calls of `str::from_utf8_unchecked`", len(lines_with_unsafe())),
     ],
     "docs/CONFORMANCE.md": [
         (r"on ([\d,]+) byte strings", lines("tests/lines/jsonb_probe/reader_faults.in") // 2),
@@ -90,6 +92,7 @@ PAGES = {
         (r"A text of a line nests at most ([\d,]+) deep", TEXT_DEPTH),
         (r"than ([\d,]+) levels on a line of `jsonb_cli`", LINE_DEPTH),
         (r"a row of more than ([\d,]+) in `jsonb_column_cli`", ROW_DEPTH),
+        (r"the ([\d,]+) exports that take none", WITHOUT_MEMORY),
     ],
     "docs/COMPARABLE.md": [
         (r"have ([\d,]+) byte strings with their keys", commands(KEYS, "key")),
@@ -98,6 +101,8 @@ PAGES = {
         (r"ordered pairs of the ([\d,]+)", NEIGHBOURS + 1),
     ],
     "bench/README.md": [
+        (r"limit of `jsonb_cli`, ([\d,]+) levels", LINE_DEPTH),
+        (r"that of a row, ([\d,]+), less", ROW_DEPTH),
         (rf"keys that begin alike take {NUMBER} to {NUMBER}", spread(ALIKE)),
         (rf"Keys that differ early take {NUMBER} to {NUMBER}",
          spread(r"(?:middle|last) of \d+ scattered")),

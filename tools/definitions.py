@@ -2,26 +2,27 @@
 compares docs/DEFINITIONS.md with the list, or writes that page.
 
 Public are the functions and the methods of the types that the roots of the crates export, and their
-trait impls; the functions of the programs and their loop that PROGRAM names; and the exports for C.
-Their clauses cite definitions of `specs/`, and these cite others: all of them must be believed. All
-else in `specs/` is cited by the contracts of inner functions alone, and counts as a helper: a
-mistake in it can make a proof fail, and no public contract say less. A name that a file passes on
-by `pub use`, as `Words` does, is a name of the file that defines it, and a file that only passes
-names on is not listed.
+trait impls; the functions of the programs and their loop that ASKED names, with the rule by which a
+program answers; and the exports for C. Their clauses cite definitions of `specs/`, and these cite
+others: all of them must be believed. All else in `specs/` is cited by the contracts of inner
+functions alone, and counts as a helper: a mistake in it can make a proof fail, and no public
+contract say less. A name that a file passes on by `pub use`, as `Words` does, is a name of the file
+that defines it, and a file that only passes names on is not listed.
 """
 import os
 import re
 import textwrap
 
-from rattle import (TOP, cited, exported, facts_of, files_of, functions_of, imports_of, specs_of,
-                    text_of)
+from rattle import (PROGRAMS, TOP, cited, exported, facts_of, files_of, functions_of, imports_of,
+                    specs_of, text_of)
 
 CRATES = [
     "jsonb_value", "json_fault", "jsonb_codec", "jsonb", "jsonb_comparable", "jsonb_functions",
     "uses", "typed_vector", "jsonb_typed", "answer_lines", "jsonb_cli", "jsonb_column",
-    "jsonb_column_cli", "kohiblad",
+    "jsonb_column_cli", "kohiblad_shell", "kohiblad",
 ]
-PROGRAM = {"run", "answer", "answer_lines", "ask"}
+# The functions of programs that count as public.
+ASKED = {"run", "answer", "answer_lines", "ask"}
 PAGE = f"{TOP}/docs/DEFINITIONS.md"
 HEAD = """# What must be believed
 
@@ -37,10 +38,16 @@ IN_WORDS = """In words: if the bytes b are a document of the tree t and a docume
 then t and u are the same tree."""
 BEYOND = """## Each promise
 
-After each promise come the clauses that carry it, how much they reach, the definitions that they
-cite themselves, which is where to begin, and how many lines of which files they reach beyond those
-of the headline. That every call returns needs no definition: the prover requires it of each
-function.
+How many definitions the clauses of each promise reach, in how many files and lines. New lines are
+those that no promise above it reaches, so who reads from the top reads nothing twice. That every
+call returns needs no definition: the prover requires it of each function.
+
+| promise | definitions | files | lines | new lines |
+|---|---|---|---|---|
+"""
+CARRIED = """
+After each promise come the clauses that carry it, the definitions that they cite themselves, which
+is where to begin, and how many lines of which files they reach beyond those of the headline.
 
 """
 EVERY = """## Every file
@@ -55,21 +62,23 @@ definitions that no public contract cites. Each file cites only those above it.
 def public_contracts(crate):
     """The clauses of the public functions of a crate, each with the imports of its file."""
     public = exported().get(crate, set())
-    is_program = crate.endswith("_cli") or crate == "answer_lines"
+    is_program = crate in PROGRAMS
     for path in files_of(crate):
         text = text_of(path)
         imports = imports_of(text)
         is_module = os.path.basename(path)[:-3] in public
         for it in functions_of(path):
-            is_asked = it.is_export or is_program and it.name in PROGRAM
+            is_asked = it.is_export or is_program and it.name in ASKED
             is_free = it.is_public and (is_module or not it.owner and it.name in public)
             is_method = it.owner and it.owner.name in public and not it.owner.is_trait \
                 and (it.is_public or it.owner.trait)
             if is_asked or is_free or is_method:
                 yield "\n".join(it.contract), imports
         for kind, facts in facts_of(text).items():
-            if kind in public:
-                yield "\n".join(facts), imports
+            if kind not in public:
+                # By which rule a program answers is a fact of a type of its own.
+                facts = [it for it in facts if is_program and it.split()[1] == "rule"]
+            yield "\n".join(facts), imports
 
 
 def believed(files):
@@ -102,24 +111,27 @@ class Promise:
         self.sentence, self.carried, self.wanted, self.clauses = sentence, [], set(), []
         for line in lines:
             crate, call, *names = line.split()
-            path, function = self.function(crate, call)
-            found = [it for it in function.clauses if it[0] == "ensures"]
-            found = [it for it in found if it[1] in names or not names]
-            if not found or len({name for _, name, _ in found}) < len(set(names)):
+            path, found = self.clauses_of(crate, call)
+            found = [it for it in found if it[0] in names or not names]
+            if not found or len({name for name, _ in found}) < len(set(names)):
                 raise LookupError(f"tools/data/promises: {line.strip()}")
-            self.carried.append((crate, call, [name for _, name, _ in found]))
-            self.clauses += [code for _, _, code in found]
+            self.carried.append((crate, call, [name for name, _ in found]))
+            self.clauses += [code for _, code in found]
             imports = imports_of(text_of(path))
-            for _, _, code in found:
+            for _, code in found:
                 self.wanted |= cited("\n".join(code), *imports)
         self.parts = reached(files, self.wanted)
 
     @staticmethod
-    def function(crate, call):
+    def clauses_of(crate, call):
+        """What a call ensures, or the facts of a type: each with its name; and their file."""
         for path in files_of(crate):
             for it in functions_of(path):
                 if it.title == call and it.names_of("ensures"):
-                    return path, it
+                    return path, [(name, code) for kind, name, code in it.clauses
+                                  if kind == "ensures"]
+            if facts := facts_of(text_of(path)).get(call):
+                return path, [(it.split()[1], [it]) for it in facts]
         raise LookupError(f"tools/data/promises: {crate} has no {call} with clauses")
 
 
@@ -159,7 +171,7 @@ def by_file(files, parts):
 
 
 def lines_of(files, parts):
-    return sum(lines_in(files[where].parts[at]) for where, at in parts)
+    return sum(files[where].lines(at) for where, at in parts)
 
 
 def counts_of(files, parts):
@@ -193,7 +205,7 @@ def headline(files, promise):
     for where, places in by_file(files, promise.parts):
         path = f"{where[0]}/specs/{where[1]}.antt"
         lines = lines_of(files, [(where, at) for at in places])
-        names = ", ".join(f"`{' '.join(files[where].heads[at])}` {lines_in(files[where].parts[at])}"
+        names = ", ".join(f"`{' '.join(files[where].heads[at])}` {files[where].lines(at)}"
                           for at in places)
         made += item(f"[{path}](../crates/{path}), {lines} lines. {files[where].about} "
                      f"{names}.") + "\n"
@@ -217,16 +229,24 @@ def other(files, promise, first):
         rest.setdefault(where[0], []).append(f"`{where[1]}` {lines}")
     rest = "; ".join(f"{crate} {', '.join(it)}" for crate, it in rest.items())
     beyond = "beyond the headline" if is_beyond else "in all, not all of the headline among them"
-    return filled(f"**{promise.sentence}** {clauses}. {counted(files, promise.parts)}. Cited: "
-                  f"{', '.join(begins)}. Lines {beyond}: {rest}.") + "\n\n"
+    return filled(f"**{promise.sentence}** {clauses}. Cited: {', '.join(begins)}. "
+                  f"Lines {beyond}: {rest}.") + "\n\n"
+
+
+def table(files, listed):
+    """The rows of all promises, and a last one of all together."""
+    above, rows = set(), []
+    for it in listed:
+        rows.append((it.sentence, it.parts, lines_of(files, it.parts - above)))
+        above |= it.parts
+    rows.append(("All of these.", above, lines_of(files, above)))
+    for sentence, parts, new in rows:
+        count, lines, places = counts_of(files, parts)
+        yield f"| {sentence.rstrip('.')} | {count:,} | {places} | {lines:,} | {new:,} |\n"
 
 
 def filled(text):
     return textwrap.fill(text, 100, break_long_words=False, break_on_hyphens=False)
-
-
-def lines_in(part):
-    return sum(1 for line in part.split("\n") if re.match(r"\s*(?!--)[^\s-]", line))
 
 
 def listing():
@@ -235,8 +255,8 @@ def listing():
     listed, total, helpers = {}, 0, 0
     for where in in_order(files):
         file = files[where]
-        lines = sum(lines_in(it) for at, it in enumerate(file.parts) if (where, at) in parts)
-        others = sum(map(lines_in, file.parts)) - lines
+        lines = sum(file.lines(at) for it, at in parts if it == where)
+        others = sum(map(file.lines, range(len(file.parts)))) - lines
         total, helpers = total + lines, helpers + others
         if lines:
             counts = f"{lines} + {others}" if others else f"{lines}"
@@ -245,8 +265,8 @@ def listing():
              if not any(it == where for it, _ in parts)]
     count = f"{total:,} lines must be believed, in {sum(map(len, listed.values()))} files"
     first, *others = promises(files)
-    made = HEAD + headline(files, first) + BEYOND
-    made += "".join(other(files, it, first) for it in others)
+    made = HEAD + headline(files, first) + BEYOND + "".join(table(files, [first, *others]))
+    made += CARRIED + "".join(other(files, it, first) for it in others)
     notions = text_of(f"{TOP}/tools/data/notions").partition("\n")[2]
     made += f"## By notion\n\n{notions}\n{EVERY}{count}; {helpers:,} more lines are helpers.\n\n"
     for crate, items in listed.items():

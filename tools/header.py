@@ -19,7 +19,7 @@ from rattle import TOP, text_of
 CROSSES = {
     "Global": [], "&[u8]": ["const uint8_t *", "size_t"], "&mut [u8]": ["uint8_t *", "size_t"],
     "&[usize]": ["const size_t *", "size_t"], "&mut [usize]": ["size_t *", "size_t"],
-    "&mut [u64]": ["uint64_t *", "size_t"],
+    "&mut [u64]": ["uint64_t *", "size_t"], "&mut [i64]": ["int64_t *", "size_t"],
     "&mut usize": ["size_t *"], "usize": ["size_t"], "u32": ["uint32_t"], "u64": ["uint64_t"],
     "i32": ["int32_t"], "i64": ["int64_t"], "bool": ["bool"],
 }
@@ -30,6 +30,8 @@ STRUCTS = {
     "KohibladInteger": "struct kohiblad_integer", "KohibladTruth": "struct kohiblad_truth",
     "KohibladExtension": "struct kohiblad_extension_value",
     "KohibladFault": "struct kohiblad_fault", "KohibladExpected": "struct kohiblad_expected",
+    "KohibladSurvey": "struct kohiblad_survey_counts", "KohibladTaken": "struct kohiblad_taken",
+    "KohibladInt128": "struct kohiblad_int128",
 }
 for rust_name, c_name in STRUCTS.items():
     CROSSES[rust_name] = [c_name]
@@ -52,6 +54,7 @@ WORDS = [
     (r"; with 1 it ", "; with KOHIBLAD_INSERT it "), (r"; with 2 ", "; with KOHIBLAD_REMOVE "),
     (r"With 3 ", "With KOHIBLAD_CREATE "),
     (r"With `exponents` 0 ", "With KOHIBLAD_EXPONENTS_FORBIDDEN "),
+    (r"With `fit` 0 ", "With KOHIBLAD_BY_VALUE "),
 ]
 # What is said to C alone, after the comment.
 ALSO = {
@@ -60,7 +63,8 @@ ALSO = {
     "kohiblad_get_key": "Bytes that are not a document can also give some value.",
     "kohiblad_find_key": "Bytes that are not a document can also give some place.",
     "kohiblad_find_index": "Reads one word for each earlier part.",
-    "kohiblad_begin": "A walk over all children costs as much as kohiblad_find_index for the last one.",
+    "kohiblad_begin": "A walk over all children costs as much as kohiblad_find_index for the last "
+                      "one.",
     "kohiblad_next": "Child i of an array is part i; of an object of n pairs the key is part i and "
                      "the value part n + i.",
     "kohiblad_copy": "A scalar's document has 8 bytes more than its payload.",
@@ -266,9 +270,9 @@ def faults_of_numbers(header, code):
 def faults_of_classes(header):
     """Where a class of what may come in a text differs, or has no name."""
     code = text_of(f"{TOP}/crates/json_fault/src/classes.rt")
-    classes = re.findall(r"^pub const (EXPECTED_\w+): u32 = (\w+);", code, re.M)
+    classes = rattle.numbers_in(code, "pub const")
     there = dict(re.findall(r"KOHIBLAD_(EXPECTED_\w+) = (\w+)", header))
-    if [(name, int(number, 0)) for name, number in classes] \
+    if [(name, int(number, 0)) for name, number in classes.items()] \
             != [(name, int(number, 0)) for name, number in there.items()]:
         yield "the header has other classes than json_fault"
     for name in there:

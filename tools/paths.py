@@ -4,13 +4,14 @@ It takes each page (`*.md`) and bindings/kohiblad.h. Each relative link must lea
 anchor to a heading of that page. Each path that a page names, and each name of a file by its
 extension, must be in the tree: `jsonb/text.rt` is crates/jsonb/src/text.rt, and a path may begin
 below the top, as `specs/Doc.antt` does. CRATE, FILE, NAME, PATH and PROGRAM match any name. After
-`CRATE/specs/FILE.antt` and a colon each name in backticks must be a word of that file, and a
-function on a line before `CRATE/FILE.rt` must be one of that file.
+`CRATE/specs/FILE.antt` and a colon each name in backticks must be defined in that file, and a
+function on a line before `CRATE/FILE.rt` must be one of that file. tools/README.md must name each
+file of tools.
 """
 import os
 import re
 
-from rattle import TOP, has_function, text_of
+from rattle import TOP, function_in, specs_at, text_of
 
 PARTS = ("crates", "docs", "tools", "bench", "bindings", "tests", ".ci", "src", "specs", "proofs",
          "wrong", "must-fail")
@@ -78,15 +79,24 @@ def faults_of_names(text, tree, crates):
     flat = re.sub(r"\s+", " ", text)
     for path, listed in DEFINED.findall(flat):
         places = [it for it in places_of(path, tree, crates) if "/specs/" in it]
-        words = set().union(*(re.split(r"[\s(){}.,;:]+", text_of(f"{TOP}/{it}")) for it in places))
+        defined = set().union(*(specs_at(it).defined for it in places))
         for name in re.findall(r"`([^`\s]+)[^`]*`", listed):
-            if places and name not in words:
+            if places and name not in defined:
                 yield f"{path} has no {name}"
     for call, path in CALLED.findall(text):
-        name = call.split("::")[-1]
         for it in places_of(path, tree, crates):
-            if not has_function(f"{TOP}/{it}", name):
-                yield f"{path} has no function {name}"
+            if not function_in(f"{TOP}/{it}", call):
+                yield f"{path} has no function {call}"
+
+
+def faults_of_tools(tree):
+    """The files of tools that its page does not name."""
+    page = text_of(f"{TOP}/tools/README.md")
+    for path in sorted(tree):
+        name = path.removeprefix("tools/")
+        is_file = name != path and os.path.isfile(f"{TOP}/{path}")
+        if is_file and name != "README.md" and f"`{name}`" not in page:
+            yield f"tools/README.md does not name {name}"
 
 
 def compare(_):
@@ -94,7 +104,7 @@ def compare(_):
     tree = paths_in(TOP)
     crates = set(os.listdir(f"{TOP}/crates"))
     pages = [it for it in tree if it.endswith(".md")] + ["bindings/kohiblad.h"]
-    found = []
+    found = list(faults_of_tools(tree))
     for page in sorted(pages):
         text = text_of(f"{TOP}/{page}")
         faults = list(faults_of_links(f"{TOP}/{page}", text))

@@ -14,6 +14,8 @@ TOP = os.path.dirname(os.path.dirname(os.path.abspath(__file__)))
 # The crates that callers name: `jsonb` exports what the two below it do.
 CRATES = ("jsonb", "jsonb_functions", "jsonb_comparable", "jsonb_column", "json_fault",
           "typed_vector", "jsonb_typed", "uses")
+# The programs, and the loop that answers their lines.
+PROGRAMS = ("answer_lines", "jsonb_cli", "jsonb_column_cli", "kohiblad_shell")
 # The modules of a library that have names for proofs, and for the libraries above.
 MODULES = ("laws", "layer")
 WIDTH = 100
@@ -46,18 +48,20 @@ def has_tests(crate):
     return any("#[test]" in text_of(it) for it in files_of(crate))
 
 
-def has_function(path, name):
-    return re.search(rf"\bfn {name}\b", text_of(path)) is not None
-
-
 def constant(path, name):
     """The value of a constant of a source file."""
     return int(re.search(rf"const {name}: usize = ([\d_]+);", text_of(path))[1])
 
 
+def lines_with_unsafe():
+    """The lines of all crates that call what is unsafe."""
+    return [line for crate in os.listdir(f"{TOP}/crates") for path in files_of(crate)
+            for line in lines_of(path) if re.search(r"^(?!\s*//).*\bunsafe \{", line)]
+
+
 def numbers_in(text, head):
-    """The numbers of a source's constants of 32 bits that begin so, by name."""
-    return dict(re.findall(rf"(?<!\S){head} (\w+): u32 = (\d+);", text))
+    """The numbers of a source's constants of 32 bits that begin so, by name, as written there."""
+    return dict(re.findall(rf"(?<!\S){head} (\w+): u32 = (0x[0-9a-f_]+|\d+);", text))
 
 
 def codes_of_errors(text):
@@ -138,6 +142,12 @@ class Function:
         """The names of the clauses of this kind."""
         return [name for of, name, _ in self.clauses if of == kind]
 
+    def promise(self, name):
+        """The line of comment above a clause of this name, and the lines of the clause."""
+        lines = next(lines for kind, it, lines in self.clauses if (kind, it) == ("ensures", name))
+        above = self.lines[self.lines.index(lines[0], self.at) - 1]
+        return re.match(r"\s*// (.*)", above)[1], lines
+
     @functools.cached_property
     def signature(self):
         """The signature in one line."""
@@ -149,6 +159,11 @@ class Function:
         return " ".join(head)
 
 
+def is_record_field(line, indent):
+    """Whether the line, one of a contract, is a field of a record."""
+    return re.match(rf"{indent}    .*\w+ = [^;]*;$", line) is not None
+
+
 def body_of(lines, head, indent):
     """The line that opens a function's body and the one that ends it."""
     for at in range(head, len(lines)):
@@ -156,7 +171,7 @@ def body_of(lines, head, indent):
         if at == head and line.endswith("}"):
             return at - 1, at + 1
         # A trait's declaration, or a law, has no body.
-        if line.endswith(";") or line == indent + "{}":
+        if line.endswith(";") and not is_record_field(line, indent) or line == indent + "{}":
             return None
         if line == indent + "{" or line.endswith("{") and line.startswith(indent + ")"):
             return at, lines.index(indent + "}", at)
@@ -171,7 +186,8 @@ def contract_end(lines, head, indent):
         line = lines[at]
         if line in (indent + "{", indent + "{}"):
             return at
-        if line.endswith((";", "{}")) or at == head and line.endswith((" {", "}")) \
+        if line.endswith((";", "{}")) and not is_record_field(line, indent) \
+                or at == head and line.endswith((" {", "}")) \
                 or line.startswith(indent + ")") and line.endswith("{"):
             return at + 1
     return len(lines)
@@ -198,6 +214,11 @@ def functions_in(lines):
 def functions_of(path):
     """The functions of a file."""
     return list(functions_in(lines_of(path)))
+
+
+def function_in(path, call):
+    """The function of a file that is called so, by its name alone or with its type; or none."""
+    return next((it for it in functions_of(path) if call in (it.name, it.title)), None)
 
 
 def exports_for_c():
@@ -260,13 +281,9 @@ def exported():
     return names
 
 
-# In their place `jsonb` has `parse_within` and `parse_with_exponents_within`.
-OF_LOWER_LIBRARIES = {"read_text_within", "encode_text_within"}
-
-
 def not_exported():
     """Public names of the two lower libraries that `jsonb` does not export and should."""
-    top = {name for _, name, _ in places_of_names("jsonb")} | OF_LOWER_LIBRARIES
+    top = {name for _, name, _ in places_of_names("jsonb")}
     return [f"{crate}::{name}" for crate in ("jsonb_value", "jsonb_codec")
             for _, name, _ in places_of_names(crate) if name not in top]
 
@@ -564,6 +581,21 @@ class Specs:
 
     def cited(self, text):
         return cited(text, self.names, self.files, self)
+
+    def lines(self, at):
+        """How many lines a paragraph has, without comments and empty lines."""
+        return sum(1 for it in self.parts[at].split("\n") if re.match(r"\s*(?!--)[^\s-]", it))
+
+    def definition(self, name):
+        """The line of comment above a definition, and its lines."""
+        about, *lines = self.parts[self.defined[name]].strip().split("\n")
+        return about.removeprefix("-- "), [lines[0].removeprefix("abbrev pub "), *lines[1:]]
+
+
+def specs_at(path):
+    """The file of `specs/` with this path below the top."""
+    _, crate, _, name = path.removesuffix(".antt").split("/", 3)
+    return Specs(crate, name)
 
 
 def specs_of(crates):
