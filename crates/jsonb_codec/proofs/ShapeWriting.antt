@@ -18,7 +18,8 @@ use Rattle.jsonb_codec.specs.Writing.{AreFew, CanGoOn, TakesLeft}
 use Rattle.jsonb_codec.proofs.Appending.{Underway, underway_start, underway_next, underway_on}
 use Rattle.jsonb_codec.proofs.Appending.{underway_end}
 use Rattle.jsonb_codec.proofs.Appending.{length-Appended}
-use Rattle.jsonb_codec.proofs.RoomLaws.{HasWordsAt-Appended, HasWordsAt-more}
+use Rattle.jsonb_codec.proofs.RoomLaws.{HasWordsAt-Appended, HasWordsAt-first, HasWordsAt-more}
+use Rattle.jsonb_codec.proofs.RoomLaws.{HasWordsAt-next}
 use Rattle.jsonb_codec.proofs.Shapes.{First, first_fits, first_body}
 
 -- The children that were written, and those that are left.
@@ -116,6 +117,32 @@ pub stored_first : {C W : Type 0} {IsKey : List ℕ → Type 0} {IsChild : C →
     → HasWordsAt at (word (shape_type f.child + length (payload f.child)) ++ entries f.others) bytes
 stored_first f at bytes stored =
     subst (λ (us : Shapes). HasWordsAt at (entries us) bytes) f.made stored
+
+-- The payloads of children are written one after another, at their words.
+module _ {C W : Type 0} {IsKey : List ℕ → Type 0} {IsChild : C → Shape → Type 0}
+    {Are : W → Shapes → Type 0} {start : W} {old now : Vec ℕ} {rest : W}
+    (w : Going Are payloads start old now rest) {x : C × W} (f : First IsKey IsChild Are x w.left)
+    {at : ℕ} (stored : HasWordsAt at (entries w.left) now.items) where
+  pub payload_can : FitsEntry f.child × (HasRoom now (payload f.child)
+      × HasWordsAt at (word (shape_type f.child + length (payload f.child))) now.items)
+  payload_can = (
+    (going_fit w f).1.0,
+    (
+      going_next w f (λ k s. payload s) (λ k s us. refl),
+      HasWordsAt-first at (word (shape_type f.child + length (payload f.child)))
+          (entries f.others) now.items (stored_first f at now.items stored),
+    ),
+  )
+
+  module _ {new : Vec ℕ} (put : AppendsBytes now new (payload f.child)) where
+    abbrev pub payload_on : Going Are payloads start old new x.1
+    payload_on = going_on w f (λ k s. payload s) (λ k s us. refl) new put
+
+    pub words_on : HasWordsAt (at + 4) (entries f.others) new.items
+    words_on = HasWordsAt-next at (shape_type f.child + length (payload f.child))
+        (entries f.others) new.items
+        (HasWordsAt-more at (word (shape_type f.child + length (payload f.child))
+        ++ entries f.others) (stored_first f at now.items stored) put)
 
 -- Appending twice appends the concatenation.
 Appends-both : {a b c : Vec ℕ} {x y : List ℕ} → AppendsBytes a b x → AppendsBytes b c y

@@ -7,9 +7,9 @@
 //! where the text ends. Only an object whose keys do not ascend keeps the parts of its members, in
 //! the order of the keys. No step takes stack for the depth of the text.
 
-ghost use Rattle.std.specs.Prelude.{◌≡◌, ◌⊎◌, ◌↔◌, ◌≤◌, ◌<◌, ◌+◌, ◌++◌, List, [], ◌∷◌, ℕ, true, false};
+ghost use Rattle.std.specs.Prelude.{◌≡◌, ◌⊎◌, ◌↔◌, ◌≤◌, ◌<◌, ◌+◌, ◌++◌, List, [], ◌∷◌, ℕ, true};
 ghost use Rattle.std.specs.Prelude.{None, Err, chars, drop, length, take, IfErr, IfOk, IfNone};
-ghost use Rattle.std.specs.Prelude.{IfSome, OnOk, ◌^◌};
+ghost use Rattle.std.specs.Prelude.{IfSome, OnOk, ◌^◌, false};
 ghost use Rattle.jsonb_value.specs.declared.error.Error.TheVariants.{OutOfMemory, InvalidJson};
 ghost use Rattle.jsonb_value.specs.declared.error.Error.TheVariants.{InvalidJsonb};
 ghost use Rattle.jsonb_value.specs.Json.Syntax.{Entries, JsonText, pairs};
@@ -189,11 +189,11 @@ impl<'a> Tape<'a> {
             → tape_is self.new (going cs)) }
         ensures memory { IfErr result (λ e. e ≡ OutOfMemory) }
     {
-        self.storage.payload.reserve(128)?;
-        self.storage.heads.reserve(128)?;
+        self.storage.payload.reserve(256)?;
+        self.storage.heads.reserve(256)?;
         self.words.reserve(64)?;
-        self.members.reserve(16)?;
-        self.places.reserve(8)?;
+        self.members.reserve(24)?;
+        self.places.reserve(16)?;
         Ok(())
     }
 

@@ -2,7 +2,7 @@
 use Rattle.std.proofs.Common.{◌≡◌, ℕ, suc, ◌≤◌, ◌<◌, true, refl, sym, ap, ◌∙◌}
 use Rattle.std.proofs.Common.{List, [], ◌∷◌, ◌++◌, Some, arith, append-nil, inl, inr}
 use Rattle.std.proofs.Common.{chars, length, get_or, subst}
-use Rattle.std.specs.Prelude.{IsErrAnd, Result, Ok, Err, max, ◌&&◌, encode_utf8, encode_utf8_all}
+use Rattle.std.specs.Prelude.{Result, Err, max, ◌&&◌, encode_utf8, encode_utf8_all}
 use Rattle.std.specs.Prelude.{nat_lt}
 use Rattle.std.specs.Str.{IsUtf8}
 use Rattle.std.specs.Ordering.{nat_cmp}

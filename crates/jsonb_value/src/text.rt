@@ -14,6 +14,7 @@ use std::fmt;
 
 /// Writes a number: an integer in decimal, a decimal with as many fraction digits as its scale, and
 /// `-` exactly if the value is negative. Width and fill are ignored.
+#[inline(always)]
 pub fn write_number<W: fmt::Write>(number: &Number, f: &mut fmt::Formatter<W>) -> fmt::Result
     ensures { WritesStyledOnOk W.write_str_gives f.old result (number_text number.now) f.new }
 {
@@ -71,6 +72,7 @@ impl fmt::Display for ExtensionValue<'_> {
     }
 }
 
+#[inline(never)]
 fn write_whole<I: Integer, W: fmt::Write>(value: I, f: &mut fmt::Formatter<W>) -> fmt::Result
     ensures { WritesStyledOnOk W.write_str_gives f.old result (I.text value) f.new }
 {
@@ -168,10 +170,11 @@ fn hex_digit(digit: u8) -> char
     })
 }
 
-// Writes a string without its quotes.
+/// Writes the text of a string without its quotes, as `write_string` escapes it: for callers that
+/// write the quotes together with what is beside them. Width and fill are ignored.
 #[inline(always)]
 #[tactic(auto, using(crate::proofs::Escapes::plain_front))]
-fn write_content<W: fmt::Write>(text: &str, f: &mut fmt::Formatter<W>) -> fmt::Result
+pub fn write_content<W: fmt::Write>(text: &str, f: &mut fmt::Formatter<W>) -> fmt::Result
     ensures { WritesStyledOnOk W.write_str_gives f.old result (flat_map byte_text text.now) f.new }
 {
     if is_all_plain(text.as_bytes()) {

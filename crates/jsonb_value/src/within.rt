@@ -84,7 +84,8 @@ pub fn refusal_within(text: &[u8], depth: usize, error: Error) -> ParseError
 /// `TooDeep` exactly if more brackets than `depth` are open at once, those in strings not counted.
 /// It comes before any other refusal. For JSON that number is the depth of its value, where values
 /// that a later equal key replaces count too (`json_laws`): a scalar has depth 0, an empty array or
-/// object 1, any other one more than its deepest child. `Refused` has the errors of `parse_value`: `InvalidJson` and `OutOfMemory`.
+/// object 1, any other one more than its deepest child. `Refused` has the errors of `parse_value`:
+/// `InvalidJson` and `OutOfMemory`.
 pub fn parse_value_within<'a>(
     alloc: Global,
     text: &'a str,

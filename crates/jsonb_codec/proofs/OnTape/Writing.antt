@@ -1,6 +1,6 @@
 -- Copying payloads with their heads and parts.
 use Rattle.std.proofs.Common.{◌≡◌, ℕ, ◌+◌, ◌-◌, ◌*◌, ◌<◌, ◌≤◌, ◌^◌, refl, sym, ap, subst, ◌∙◌, List}
-use Rattle.std.proofs.Common.{[], ◌∷◌, ◌++◌, length, arith, length-append, drop}
+use Rattle.std.proofs.Common.{[], ◌∷◌, ◌++◌, length, arith, length-append, drop, take}
 use Rattle.std.specs.Prelude.{◌≢◌, Option, Some, None, IsSome, option_to_list, reverse, ⊤}
 use Rattle.std.proofs.Common.{true, false}
 use Rattle.std.proofs.lemmas.List.{append_assoc, append-nil, length-drop, length-take-le}
@@ -199,6 +199,39 @@ part_next s x y z xs r p (all, (q, (own, (whole, others)))) is start end own_sta
             (omega (arith, some, size)),
         size,
       );
+    }
+
+-- the payload of a scalar is put in, and what is left after it
+pub record AfterScalar (s : Storage) (r : List ℕ) (x y : Left) (p : Part) (xs : List Left) : Type 0
+  where
+    pub rest : List ℕ
+    pub low : p.start ≤ p.end
+    pub high : p.end ≤ length s.payload.items
+    pub same : r ≡ cut p.start p.end s.payload.items ++ rest
+    pub left : LeftAre s (y ∷ xs) rest
+    pub less : left_weight (y ∷ xs) < left_weight (x ∷ xs)
+
+none_cut : {A : Type 0} (a b : ℕ) (xs : List A) → a ≡ b → cut a b xs ≡ []
+none_cut a b xs same =
+    let none : b - a ≡ 0 = omega (arith, same) in
+    ap (λ n. take n (drop a xs)) none
+
+pub scalar_next : (s : Storage) (x y : Left) (xs : List Left) (r : List ℕ) (p : Part)
+    → LeftAre s (x ∷ xs) r → x.places.now ≡ place.Part p ∷ y.places.now → y.start ≡ x.start
+    → y.end ≡ x.end → p.first ≡ p.last → AfterScalar s r x y p xs
+scalar_next s x y xs r p h is start end none =
+    let inner = record y.places { now = cut p.first p.last s.moved.items } in
+    let z : Left = record { start = p.start; end = p.end; places = inner } in
+    let after = part_next s x y z xs r p h is start end refl refl in
+    let (low, (high, (q, (same, left)))) =
+    plain_next s z (y ∷ xs) r (after.left refl) (none_cut p.first p.last s.moved.items none) in
+    record {
+      rest = q;
+      low = low;
+      high = high;
+      same = same;
+      left = left;
+      less = omega (arith, after.less refl);
     }
 
 pub one_left : (s : Storage) (x : Left) (p : List ℕ) → Joined s x.start x.places.now x.end p

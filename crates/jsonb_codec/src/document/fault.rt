@@ -19,8 +19,9 @@ use crate::constants::{
 };
 use crate::word::{split_entry, split_header, split_word};
 use jsonb_value::{Error, ExtensionValue, Number};
-use simdutf8::basic;
+use simdutf8::is_utf8;
 use std::cmp::Ordering;
+use std::str;
 
 /// How faults are named as errors: the two readers name some of them differently, and `Depth` tells
 /// apart a container that is nested too deep.
@@ -389,13 +390,20 @@ pub(super) fn check_text(faults: FaultTable, payload: &[u8]) -> Result<(), Error
     }
 }
 
-// Checks the payload of a string that is not ASCII.
+// Checks the payload of a string that is not ASCII. `simdutf8` takes 64 bytes in a step, and as
+// long for fewer: std's test by characters is faster for the shortest alone.
 #[inline(never)]
 fn check_utf8(faults: FaultTable, payload: &[u8]) -> Result<(), Error>
     ensures { HoldsOrFaults faults result (IsUtf8 payload.now) }
 {
-    match basic::from_utf8(payload) {
-        Ok(_) => Ok(()),
-        Err(_) => Err(Error::InvalidUtf8),
+    let is_text = if payload.len() < 20 {
+        str::from_utf8(payload).is_ok()
+    } else {
+        is_utf8(payload)
+    };
+    if is_text {
+        Ok(())
+    } else {
+        Err(Error::InvalidUtf8)
     }
 }

@@ -124,6 +124,23 @@ fn compare_members(left: Member<'_>, right: Member<'_>, spelled: &[u8]) -> Order
         → result ≡ slice_cmp nat_cmp (key_bytes spelled.now left.entry.key)
         (key_bytes spelled.now right.entry.key) }
 {
+    // Most comparisons end here: the order of the numbers is known, and no key is read.
+    if left.prefix > right.prefix {
+        return compare_members_here(left, right, spelled);
+    }
+    compare_members_here(left, right, spelled)
+}
+
+// The same. Inlined where the numbers are known to differ, it does not look for the bytes of keys.
+#[inline(always)]
+fn compare_members_here(left: Member<'_>, right: Member<'_>, spelled: &[u8]) -> Ordering
+    requires left { IsKey spelled.now left.key }
+    requires right { IsKey spelled.now right.key }
+    ensures { left.entry.prefix ≡ big_number 8 (key_bytes spelled.now left.entry.key)
+        → right.entry.prefix ≡ big_number 8 (key_bytes spelled.now right.entry.key)
+        → result ≡ slice_cmp nat_cmp (key_bytes spelled.now left.entry.key)
+        (key_bytes spelled.now right.entry.key) }
+{
     compare_keys(
         left.prefix,
         bytes_of(left.key, spelled),

@@ -21,8 +21,9 @@ pub struct Frame {
     pub fits: bool,
 }
 
-/// A closed container: its head are the bytes from `start` up to `end` of the heads. It stands
-/// after the payloads up to `at`, and those from `until` on follow it.
+/// A closed container, whose header, entry words and keys are the bytes `start..end` of the heads.
+/// In the document they come after the payloads before `at`, and the payloads from `until` on come
+/// after them.
 #[derive(Clone, Copy)]
 pub struct Head {
     pub at: usize,

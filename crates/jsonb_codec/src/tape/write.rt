@@ -90,6 +90,11 @@ fn append_payloads(
                     places,
                 });
             }
+            // The payload of a scalar holds no places.
+            Place::Part(part) if part.first == part.last => {
+                out.extend_from_slice(&storage.payload[part.start..part.end])?;
+                next = Some(Left { places, ..now });
+            }
             Place::Part(part) => {
                 left.push(Left { places, ..now })?;
                 next = Some(Left {

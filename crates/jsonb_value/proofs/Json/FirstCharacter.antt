@@ -1,5 +1,5 @@
 -- The first character of a value tells its kind.
-use Rattle.std.proofs.Common.{◌≡◌, ℕ, Bool, true, false, refl, sym, ap, ◌∙◌, arith, List, [], ◌∷◌}
+use Rattle.std.proofs.Common.{◌≡◌, ℕ, true, false, refl, sym, ap, ◌∙◌, arith, List, [], ◌∷◌}
 use Rattle.std.proofs.Common.{◌++◌, Option, Some, None, append_assoc}
 use Rattle.std.specs.Prelude.{◌&&◌, option_map, is_some}
 use Rattle.std.proofs.lemmas.Bool.{true≢false}

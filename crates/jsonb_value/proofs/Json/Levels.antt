@@ -1,17 +1,17 @@
 -- What each step of the reader does to the count of the brackets that are open.
-use Rattle.std.proofs.Common.{◌≡◌, ◌↔◌, ℕ, suc, ◌+◌, ◌<◌, ◌≤◌, refl, sym, ap, ◌∙◌, List, [], ◌∷◌}
-use Rattle.std.proofs.Common.{◌++◌, length, arith, Some, append_assoc, ◌⊎◌, inl, inr}
+use Rattle.std.proofs.Common.{◌≡◌, ℕ, suc, ◌<◌, refl, sym, ap, ◌∙◌, List, [], ◌∷◌}
+use Rattle.std.proofs.Common.{◌++◌, length, arith, Some, append_assoc, ◌⊎◌}
 use Rattle.std.specs.Prelude.{max}
 use Rattle.jsonb_value.specs.declared.text_depth.ScanState.TheVariants.{Outside}
 use Rattle.jsonb_value.specs.declared.parser.number.Exponents.{Exponents}
 use Rattle.jsonb_value.specs.Depth.{depth}
-use Rattle.jsonb_value.specs.Tree.{Tree, array, object}
+use Rattle.jsonb_value.specs.Tree.{Tree}
 use Rattle.jsonb_value.specs.TextDepth.{greatest_level, syntax_depth}
 use Rattle.jsonb_value.specs.Json.Characters.{quote, colon, comma}
 use Rattle.jsonb_value.specs.Json.Piece.{pieces_text}
 use Rattle.jsonb_value.specs.Json.Syntax.{Syntax, nothing, truth, numeral, string, empty_array}
 use Rattle.jsonb_value.specs.Json.Syntax.{items, empty_object, members, string_characters}
-use Rattle.jsonb_value.specs.Json.Syntax.{meaning, syntax_text, element_meaning, items_meaning}
+use Rattle.jsonb_value.specs.Json.Syntax.{meaning, element_meaning, items_meaning}
 use Rattle.jsonb_value.specs.Json.Syntax.{member_meaning, members_meaning}
 use Rattle.jsonb_value.specs.Reader.Reading.{skip_blank, expect, read_text, read_value}
 use Rattle.jsonb_value.proofs.ScanLaws.{level_within}

@@ -1,5 +1,5 @@
 -- What the steps of reading a string make of all of it.
-use Rattle.std.proofs.Common.{◌≡◌, ℕ, ◌<◌, true, sym, ◌∙◌, List, [], ◌++◌, length, Some}
+use Rattle.std.proofs.Common.{◌≡◌, ℕ, ◌<◌, true, sym, ◌∙◌, List, ◌++◌, length, Some}
 use Rattle.std.specs.Prelude.{encode_utf8_all}
 use Rattle.std.specs.List.{list_all}
 use Rattle.jsonb_value.specs.declared.error.Error.{Error}

@@ -1,11 +1,11 @@
 -- Each step of the reader says of the rest what was said before it: whether it nests within a depth.
-use Rattle.std.proofs.Common.{◌≡◌, ◌↔◌, ℕ, suc, ◌+◌, ◌<◌, ◌≤◌, refl, sym, ap, ◌∙◌, List, [], ◌∷◌, length}
-use Rattle.std.proofs.Common.{arith, Some, None, Bool, true, false, reverse, ◌⊎◌, inl, inr}
-use Rattle.std.specs.Prelude.{max, ⊤, IsTrue, chars}
+use Rattle.std.proofs.Common.{◌≡◌, ◌↔◌, ℕ, suc, ◌<◌, ◌≤◌, refl, sym, ap, ◌∙◌, List, [], ◌∷◌, length}
+use Rattle.std.proofs.Common.{arith, Some, Bool, true, false, ◌⊎◌}
+use Rattle.std.specs.Prelude.{IsTrue, chars}
 use Rattle.std.specs.Str.{IsUtf8}
 use Rattle.jsonb_value.specs.declared.parser.open_kinds.OpenKinds.{OpenKinds}
 use Rattle.jsonb_value.specs.declared.text_depth.ScanState.TheVariants.{Outside}
-use Rattle.jsonb_value.specs.TextDepth.{greatest_level, text_depth}
+use Rattle.jsonb_value.specs.TextDepth.{text_depth}
 use Rattle.jsonb_value.specs.Reader.IsWithin.{IsWithin}
 use Rattle.jsonb_value.specs.Reader.OpenKinds.{kinds_held}
 use Rattle.jsonb_value.specs.declared.parser.number.Exponents.{Exponents}

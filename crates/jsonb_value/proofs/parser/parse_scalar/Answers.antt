@@ -1,4 +1,4 @@
-use Rattle.std.proofs.Common.{◌≡◌, Result, Ok, Err, IfOk, sym, ◌∙◌, chars}
+use Rattle.std.proofs.Common.{Result, Ok, Err, IfOk, sym, ◌∙◌, chars}
 use Rattle.jsonb_value.proofs.Json.FirstCharacter.{no_array, no_object, scalar}
 use Rattle.jsonb_value.proofs.parser.parse_scalar.Goals.{then-is_some-via-then-is_some}
 use Rattle.jsonb_value.proofs.parser.parse_scalar.Goals.{then-is_some-via-else-is_some+then-is_some-2}

@@ -5,6 +5,7 @@ use Rattle.jsonb_codec.specs.Tape.{cut}
 use Rattle.jsonb_codec.specs.declared.tape.write.Left.{Left}
 use Rattle.jsonb_codec.proofs.OnTape.Writing.{LeftAre, head_next, left_weight, part_next, plain_next}
 use Rattle.jsonb_codec.proofs.OnTape.Writing.{none_left, popped_all, popped_next, pushed}
+use Rattle.jsonb_codec.proofs.OnTape.Writing.{scalar_next}
 use Rattle.jsonb_codec.proofs.tape.write.append_payloads.Goals as goal
 
 pub parts-init : goal.parts-init
@@ -99,16 +100,16 @@ parts-preserved c = (
       let s = c.args.storage.now in
       let xs = reverse c.parts.left.items in
       let now = c.in-Some.now in
-      let part = c.in-Part.part in
+      let part = c.in-Part-2.part in
       let (r, (left, same)) = c.parts.invariant.1 p h in
       let lists = subst (λ o. LeftAre s (option_to_list o ++ xs) r) c.in-Some.is left in
       let y : Left = record now { places = c.in-Some-split_first.places } in
       let inner = record c.in-Some-split_first.places {
-        now = cut part.first part.last c.deref-in-Part.result.now;
+        now = cut part.first part.last c.deref-in-Part-2.result.now;
       } in
       let z : Left = record { start = part.start; end = part.end; places = inner } in
       let after = part_next s now y z xs r part lists (search rules) refl refl refl refl in
-      let are = ap (λ ys. cut part.first part.last ys) c.deref-in-Part.ensures.value in (
+      let are = ap (λ ys. cut part.first part.last ys) c.deref-in-Part-2.ensures.value in (
         r,
         (
           subst (λ ys. LeftAre s (z ∷ ys) r)
@@ -124,16 +125,16 @@ parts-smaller c =
     let s = c.args.storage.now in
     let xs = reverse c.parts.left.items in
     let now = c.in-Some.now in
-    let part = c.in-Part.part in
+    let part = c.in-Part-2.part in
     let (r, (left, same)) = c.parts.invariant.1 c.requires.0 c.requires.1 in
     let lists = subst (λ o. LeftAre s (option_to_list o ++ xs) r) c.in-Some.is left in
     let y : Left = record now { places = c.in-Some-split_first.places } in
     let inner = record c.in-Some-split_first.places {
-      now = cut part.first part.last c.deref-in-Part.result.now;
+      now = cut part.first part.last c.deref-in-Part-2.result.now;
     } in
     let z : Left = record { start = part.start; end = part.end; places = inner } in
     let after = part_next s now y z xs r part lists (search rules) refl refl refl refl in
-    let are = ap (λ ys. cut part.first part.last ys) c.deref-in-Part.ensures.value in
+    let are = ap (λ ys. cut part.first part.last ys) c.deref-in-Part-2.ensures.value in
     omega (
       arith,
       after.less are,
@@ -147,3 +148,69 @@ returns-clause-ok c = λ p h.
     let none = none_left c.args.storage.now c.parts.next c.parts.left.items r c.in_default.is
     c.parts.invariant.0 left in
     sym (same ∙ ap (λ x. c.parts.out.items ++ x) none ∙ append-nil c.parts.out.items)
+
+pub parts-preserved-then-part : goal.parts-preserved-then-part
+parts-preserved-then-part c = (
+  tt,
+  λ p h.
+      let s = c.args.storage.now in
+      let xs = reverse c.parts.left.items in
+      let now = c.in-Some.now in
+      let part = c.in-Part.part in
+      let (r, (left, same)) = c.parts.invariant.1 p h in
+      let lists = subst (λ o. LeftAre s (option_to_list o ++ xs) r) c.in-Some.is left in
+      let y : Left = record now { places = c.in-Some-split_first.places } in
+      let after = scalar_next s now y xs r part lists (search rules) refl refl (search rules) in
+      let bytes = cut part.start part.end s.payload.items in
+      let copied : c.extend_from_slice-in-Part.new.self.items ≡ c.parts.out.items ++ bytes =
+      search rules in (
+        after.rest,
+        (
+          after.left,
+          same ∙ ap (λ x. c.parts.out.items ++ x) after.same
+              ∙ sym (append_assoc c.parts.out.items bytes after.rest)
+              ∙ ap (λ x. x ++ after.rest) (sym copied),
+        ),
+      ),
+)
+
+pub slice_bounds-extend_from_slice-count-in-Part :
+    goal.slice_bounds-extend_from_slice-count-in-Part
+slice_bounds-extend_from_slice-count-in-Part c =
+    let s = c.args.storage.now in
+    let xs = reverse c.parts.left.items in
+    let now = c.in-Some.now in
+    let part = c.in-Part.part in
+    let (r, (left, same)) = c.parts.invariant.1 c.requires.0 c.requires.1 in
+    let lists = subst (λ o. LeftAre s (option_to_list o ++ xs) r) c.in-Some.is left in
+    let y : Left = record now { places = c.in-Some-split_first.places } in
+    let after = scalar_next s now y xs r part lists (search rules) refl refl (search rules) in
+    after.low
+
+pub slice_bounds-extend_from_slice-start-in-Part :
+    goal.slice_bounds-extend_from_slice-start-in-Part
+slice_bounds-extend_from_slice-start-in-Part c =
+    let s = c.args.storage.now in
+    let xs = reverse c.parts.left.items in
+    let now = c.in-Some.now in
+    let part = c.in-Part.part in
+    let (r, (left, same)) = c.parts.invariant.1 c.requires.0 c.requires.1 in
+    let lists = subst (λ o. LeftAre s (option_to_list o ++ xs) r) c.in-Some.is left in
+    let y : Left = record now { places = c.in-Some-split_first.places } in
+    let after = scalar_next s now y xs r part lists (search rules) refl refl (search rules) in
+    let low = after.low in
+    search (rules, low)
+
+pub slice_bounds-extend_from_slice-end-in-Part :
+    goal.slice_bounds-extend_from_slice-end-in-Part
+slice_bounds-extend_from_slice-end-in-Part c =
+    let s = c.args.storage.now in
+    let xs = reverse c.parts.left.items in
+    let now = c.in-Some.now in
+    let part = c.in-Part.part in
+    let (r, (left, same)) = c.parts.invariant.1 c.requires.0 c.requires.1 in
+    let lists = subst (λ o. LeftAre s (option_to_list o ++ xs) r) c.in-Some.is left in
+    let y : Left = record now { places = c.in-Some-split_first.places } in
+    let after = scalar_next s now y xs r part lists (search rules) refl refl (search rules) in
+    let high = after.high in
+    search (rules, high)

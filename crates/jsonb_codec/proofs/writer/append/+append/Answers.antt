@@ -1,10 +1,9 @@
 use Rattle.std.proofs.Common.{refl, ap, arith, length}
-use Rattle.jsonb_codec.specs.Shape.{payload, payloads}
+use Rattle.jsonb_codec.specs.Shape.{payloads}
 use Rattle.jsonb_codec.specs.Writing.{AreFew, CanGoOn}
-use Rattle.jsonb_codec.proofs.RoomLaws.{HasWordsAt-first, HasWordsAt-more, HasWordsAt-next}
 use Rattle.jsonb_codec.proofs.Shapes.{first, length-array, length-object}
-use Rattle.jsonb_codec.proofs.ShapeWriting.{going_start, going_fit, going_next, going_on, going_end}
-use Rattle.jsonb_codec.proofs.ShapeWriting.{stored_first, array_entries_room}
+use Rattle.jsonb_codec.proofs.ShapeWriting.{going_start, going_end, payload_can, payload_on}
+use Rattle.jsonb_codec.proofs.ShapeWriting.{words_on, array_entries_room}
 use Rattle.jsonb_codec.proofs.ShapeWriting.{object_entries_room, object_payloads_room}
 use Rattle.jsonb_codec.proofs.ShapeWriting.{object_words, object_written}
 use Rattle.jsonb_codec.proofs.writer.append.+append.Goals as goal
@@ -115,16 +114,12 @@ append_items-append_child-requires g t c κs within =
     let m = g.S.Source.meaning in
     let l = c.loop-item.invariant in let w = l.going in
     let f = first m.child m.items w.left (c.in-Some.ensures.split w.left w.are_left) in
-    let words = stored_first f c.loop-item.entry c.loop-item.out.items l.words in
-    let word = HasWordsAt-first _ _ _ _ words in
-    let fits = (going_fit w f).1.0 in
-    let room = going_next w f (λ k s. payload s) (λ k s us. refl) in
     let v = within.1.1 in
     let v' = v.1.1 in (
       omega (arith, l.smaller, c.in-Some.ensures.size),
       (
         within.0,
-        (within.1.0, (v.0, (v.1.0, (v'.0, (v'.1, (f.child, (f.is, (fits, (room, word))))))))),
+        (within.1.0, (v.0, (v.1.0, (v'.0, (v'.1, (f.child, (f.is, payload_can w f l.words))))))),
       ),
     )
 
@@ -134,10 +129,9 @@ append_items-loop-item-preserved g t c =
     let l = c.loop-item.invariant in let w = l.going in
     let f = first m.child m.items w.left (c.in-Some.ensures.split w.left w.are_left) in
     let put = c.append_child.ensures f.child f.is in
-    let words = stored_first f c.loop-item.entry c.loop-item.out.items l.words in
     record {
-      going = going_on w f (λ k s. payload s) (λ k s us. refl) _ put;
-      words = HasWordsAt-next _ _ _ _ (HasWordsAt-more _ _ words put);
+      going = payload_on w f l.words put;
+      words = words_on w f l.words put;
       smaller = omega (arith, l.smaller, c.in-Some.ensures.size);
     }
 
@@ -160,16 +154,12 @@ append_values-append_child-requires g t c κs within =
     let m = g.S.Source.meaning in
     let l = c.loop-value.invariant in let w = l.going in
     let f = first m.child m.members w.left (c.in-Some.ensures.split w.left w.are_left) in
-    let words = stored_first f c.loop-value.entry c.loop-value.out.items l.words in
-    let word = HasWordsAt-first _ _ _ _ words in
-    let fits = (going_fit w f).1.0 in
-    let room = going_next w f (λ k s. payload s) (λ k s us. refl) in
     let v = within.1.1 in
     let v' = v.1.1 in (
       omega (arith, l.smaller, c.in-Some.ensures.size),
       (
         within.0,
-        (within.1.0, (v.0, (v.1.0, (v'.0, (v'.1, (f.child, (f.is, (fits, (room, word))))))))),
+        (within.1.0, (v.0, (v.1.0, (v'.0, (v'.1, (f.child, (f.is, payload_can w f l.words))))))),
       ),
     )
 
@@ -179,10 +169,9 @@ append_values-loop-value-preserved g t c =
     let l = c.loop-value.invariant in let w = l.going in
     let f = first m.child m.members w.left (c.in-Some.ensures.split w.left w.are_left) in
     let put = c.append_child.ensures f.child f.is in
-    let words = stored_first f c.loop-value.entry c.loop-value.out.items l.words in
     record {
-      going = going_on w f (λ k s. payload s) (λ k s us. refl) _ put;
-      words = HasWordsAt-next _ _ _ _ (HasWordsAt-more _ _ words put);
+      going = payload_on w f l.words put;
+      words = words_on w f l.words put;
       smaller = omega (arith, l.smaller, c.in-Some.ensures.size);
     }
 

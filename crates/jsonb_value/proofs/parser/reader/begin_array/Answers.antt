@@ -1,4 +1,4 @@
-use Rattle.std.proofs.Common.{inl, ap, refl}
+use Rattle.std.proofs.Common.{inl, refl}
 use Rattle.jsonb_value.proofs.Json.ReaderSteps.{array_begins, array_is_empty, past_first, first_is}
 use Rattle.jsonb_value.proofs.Json.ReaderSteps.{past_empty}
 use Rattle.jsonb_value.proofs.Json.Within.{empty_within, full_is_deeper, opens_within, room}

@@ -1,11 +1,27 @@
-use Rattle.std.proofs.Common.{rules, refl, arith, ◌/◌, ◌+◌, length}
+use Rattle.std.proofs.Common.{rules, refl, arith, ◌/◌, ◌+◌, ◌++◌, length}
 use Rattle.jsonb_codec.specs.declared.constants.TheConstants.{ARRAY_CONTAINER_TAG}
 use Rattle.jsonb_codec.specs.WordBytes.{word}
 use Rattle.jsonb_codec.specs.Tape.{StoresHead}
 use Rattle.jsonb_codec.specs.declared.tape.storage.Storage.{Storage}
 use Rattle.jsonb_codec.proofs.OnTape.Closing.{array_head, array_long, head_grows, stores_further}
 use Rattle.jsonb_codec.proofs.OnTape.Open.{nothing_grows}
+use Rattle.jsonb_codec.proofs.tape.storage.Storage.push_array_head.Goals.{In_ok-extend_from_slice}
 use Rattle.jsonb_codec.proofs.tape.storage.Storage.push_array_head.Goals as goal
+
+stored : (c : In_ok-extend_from_slice) → StoresHead c.args.self.now
+    (record c.push_word.new.self { heads = c.extend_from_slice.new.self })
+    (word (ARRAY_CONTAINER_TAG + length c.args.words.now / 4) ++ c.args.words.now)
+stored c =
+    let mid = c.push_word.new.self in
+    let new : Storage = record mid { heads = c.extend_from_slice.new.self } in
+    let second : StoresHead mid new c.args.words.now = record {
+      heads = search rules;
+      payload = refl;
+      spelled = refl;
+      moved = refl;
+    } in
+    stores_further c.args.self.now mid new (word (ARRAY_CONTAINER_TAG
+    + length c.args.words.now / 4)) c.args.words.now c.in_ok-push_word.ensures.ok second
 
 pub returns-then-count-gt-MAX_COUNT-clause-grows :
     goal.returns-then-count-gt-MAX_COUNT-clause-grows
@@ -17,31 +33,11 @@ returns-then-count-gt-MAX_COUNT-clause-ok c = λ front trees fit is.
 
 pub returns-clause-grows : goal.returns-clause-grows
 returns-clause-grows c =
-    let words = c.args.words.now in
-    let mid = c.push_word.new.self in
-    let new : Storage = record mid { heads = c.extend_from_slice.new.self } in
-    let second : StoresHead mid new words = record {
-      heads = search rules;
-      payload = refl;
-      spelled = refl;
-      moved = refl;
-    } in
-    head_grows c.args.self.now new _
-    (stores_further c.args.self.now mid new _ words c.in_ok-push_word.ensures.ok second)
+    head_grows c.args.self.now _ _ (stored (goal.at.returns-clause-grows c).In_ok-extend_from_slice)
 
 pub returns-clause-ok : goal.returns-clause-ok
 returns-clause-ok c = λ front trees fit is.
-    let words = c.args.words.now in
-    let mid = c.push_word.new.self in
-    let new : Storage = record mid { heads = c.extend_from_slice.new.self } in
-    let second : StoresHead mid new words = record {
-      heads = search rules;
-      payload = refl;
-      spelled = refl;
-      moved = refl;
-    } in
-    array_head c.args.self.now new words front _ trees fit is
+    array_head c.args.self.now _ c.args.words.now front _ trees fit is
     (omega (arith, c.if-count-gt-MAX_COUNT.false))
     (omega (arith, c.payloads_len.ensures.ok front fit is))
-    (stores_further c.args.self.now mid new (word (ARRAY_CONTAINER_TAG + length words / 4)) words
-    c.in_ok-push_word.ensures.ok second)
+    (stored (goal.at.returns-clause-ok c).In_ok-extend_from_slice)

@@ -1,4 +1,5 @@
-use Rattle.std.proofs.Common.{refl, sym, ap, subst, ◌∙◌, ◌≡◌, ◌+◌, arith, get_or, length}
+use Rattle.std.proofs.Common.{refl, sym, ap, subst, ◌∙◌, ◌≡◌, ◌+◌, ◌^◌, ◌<◌, arith, get_or, false}
+use Rattle.std.proofs.Common.{length}
 use Rattle.std.proofs.lemmas.List.{take_all}
 use Rattle.jsonb_codec.specs.declared.constants.TheConstants.{STRING_TAG}
 use Rattle.jsonb_codec.specs.Keys.{IsKey, key_bytes}
@@ -9,6 +10,7 @@ use Rattle.jsonb_codec.proofs.OnTape.Closing.{head_grows, key_long, key_word_sto
 use Rattle.jsonb_codec.proofs.OnTape.Closing.{no_member, no_word, nothing_stored, part_short}
 use Rattle.jsonb_codec.proofs.OnTape.Open.{grows_further, nothing_grows}
 use Rattle.jsonb_codec.proofs.tape.storage.Storage.push_key_words.Goals.{then-is_none-via-then-is_none, then-is_none-via-else-is_none+then-length-gt-MAX_PAYLOAD}
+use Rattle.jsonb_codec.proofs.tape.storage.Storage.push_key_words.Goals.{After-is_none}
 use Rattle.jsonb_codec.proofs.tape.storage.Storage.push_key_words.Goals as goal
 
 pub loop-member-init : goal.loop-member-init
@@ -53,42 +55,38 @@ returns-then-is_none-clause-ok c = λ base ps front h fit.
           (omega (arith, measured, w.if-length-gt-MAX_PAYLOAD.true)) fit
     ]
 
-pub overflow_add-size : goal.overflow_add-size
-overflow_add-size c =
+-- the payload of a member that fits is short
+short : (c : After-is_none) → c.is_none.result ≡ false
+    → (get_or c.args.members.now c.loop-member.member-index no_member).part.size < 2 ^ 28
+short c on =
     let (base, (ps, (front, h))) = c.requires.members in
     let members = c.args.members.now in
     let index = c.loop-member.member-index in
     let m = get_or members index no_member in
     let low = c.loop-member-test.true in
-    let is = at_same members index no_member low in
-    let some = has_word m.word c.is_none.result c.is_none.ensures c.if-is_none.false in
-    omega (
-      arith,
-      part_short c.args.self.now base ps members front index some.0 m h low is some.1,
-      c.if-length-gt-MAX_PAYLOAD.false,
-    )
+    let some = has_word m.word c.is_none.result c.is_none.ensures on in
+    part_short c.args.self.now base ps members front index some.0 m h low
+    (at_same members index no_member low) some.1
+
+pub overflow_add-size : goal.overflow_add-size
+overflow_add-size c = omega (
+  arith,
+  short (goal.at.overflow_add-size c).After-is_none c.if-is_none.false,
+  c.if-length-gt-MAX_PAYLOAD.false,
+)
 
 pub overflow_add-size-in-loop-member : goal.overflow_add-size-in-loop-member
-overflow_add-size-in-loop-member c =
-    let (base, (ps, (front, h))) = c.requires.members in
-    let members = c.args.members.now in
-    let index = c.loop-member.member-index in
-    let m = get_or members index no_member in
-    let low = c.loop-member-test.true in
-    let is = at_same members index no_member low in
-    let some = has_word m.word c.is_none.result c.is_none.ensures c.if-is_none.false in
-    omega (
-      arith,
-      part_short c.args.self.now base ps members front index some.0 m h low is some.1,
-      c.if-length-gt-MAX_PAYLOAD.false,
-      c.loop-member.invariant.1.0,
-      low,
-      c.requires.few,
-    )
+overflow_add-size-in-loop-member c = omega (
+  arith,
+  short (goal.at.overflow_add-size-in-loop-member c).After-is_none c.if-is_none.false,
+  c.if-length-gt-MAX_PAYLOAD.false,
+  c.loop-member.invariant.1.0,
+  c.loop-member-test.true,
+  c.requires.few,
+)
 
 pub loop-member-preserved : goal.loop-member-preserved
 loop-member-preserved c =
-    let (first, (places, (all, are))) = c.requires.members in
     let old = c.args.self.now in
     let mid = c.loop-member.self in
     let new = c.push_word.new.self in
@@ -106,7 +104,7 @@ loop-member-preserved c =
       (
         omega (
           arith,
-          part_short old first places members all index some.0 m are low is some.1,
+          short (goal.at.loop-member-preserved c).After-is_none c.if-is_none.false,
           c.if-length-gt-MAX_PAYLOAD.false,
           c.loop-member.invariant.1.0,
         ),
