@@ -1,15 +1,16 @@
 -- The text of a container is that of its lines.
 use Rattle.std.proofs.Common.{◌≡◌, ℕ, zero, suc, ◌*◌, ◌≤◌, List, ◌∷◌, ◌++◌, codes}
-use Rattle.std.proofs.Common.{replicate, refl, sym, ap, ◌∙◌, arith, append_assoc}
+use Rattle.std.proofs.Common.{flat_map, replicate, refl, sym, ap, ◌∙◌, arith, append_assoc}
 use Rattle.std.specs.List.{repeat}
 use Rattle.std.proofs.Math.Nat.{le-max_right}
 use Rattle.jsonb_value.specs.Tree.{Tree, array, object, Trees, no_trees, tree, Pairs, no_pairs}
 use Rattle.jsonb_value.specs.Tree.{pair}
 use Rattle.jsonb_value.specs.Text.{Layout, in_one_line, on_lines, inside, line_start, colon_text}
-use Rattle.jsonb_value.specs.Text.{laid_out, more_items, more_pairs, string_text}
+use Rattle.jsonb_value.specs.Text.{laid_out, more_items, more_pairs, string_text, byte_text}
 use Rattle.jsonb_value.specs.Value.{trees_of}
 use Rattle.jsonb_codec.specs.Depth.{depth, depths, pair_depths, sizes, pair_sizes}
 use Rattle.jsonb.specs.Lines.{more_lines, bracket_text, pair_text, item_lines, pair_lines}
+use Rattle.jsonb.specs.Lines.{next_key}
 use Rattle.jsonb.specs.Node.{pairs_of}
 
 more_lines-items : (l : Layout) (ts : Trees) → more_lines l (item_lines l ts) ≡ more_items l ts
@@ -77,6 +78,16 @@ pub pairs_begin : (l : Layout) (ps : Pairs) (k : List ℕ) (t : Tree) (others : 
 pairs_begin l ps k t others are =
     lines_begin l (codes "{") (codes "}") (pair_text (inside l) k t) (pair_lines (inside l) others)
     ∙ bracketed-pairs l (pair k t others) ∙ ap (λ x. laid_out l (object x)) (sym are)
+
+-- A key that follows a pair in one line: its quotes stand with what is beside them.
+pub key_in_line : (k : List ℕ)
+    → codes ",\"" ++ (flat_map byte_text k ++ codes "\":") ≡ next_key in_one_line k
+key_in_line k = simp append_assoc
+
+-- A key that follows a pair is written, and its value.
+pub next_pair : (l : Layout) (k : List ℕ) (t : Tree)
+    → next_key l k ++ laid_out l t ≡ codes "," ++ (line_start l ++ pair_text l k t)
+next_pair l k t = simp append_assoc
 
 -- A further line is written.
 pub lines_next : (i : Layout) (done end all line : List ℕ) (lines : List (List ℕ))

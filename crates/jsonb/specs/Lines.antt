@@ -19,6 +19,10 @@ bracket_text l front end (line ∷ lines) = front
 abbrev pub pair_text : Layout → List ℕ → Tree → List ℕ
 pair_text l k t = string_text k ++ (colon_text l ++ laid_out l t)
 
+-- What stands between a pair and the value of the next one.
+abbrev pub next_key : Layout → List ℕ → List ℕ
+next_key l k = codes "," ++ (line_start l ++ (string_text k ++ colon_text l))
+
 -- The lines of an array's items.
 abbrev pub item_lines : Layout → Trees → List (List ℕ)
 item_lines l no_trees = []

@@ -16,7 +16,8 @@ pub use Rattle.jsonb_value.specs.Meaning.{document, meaning_cmp, other_bytes}
 pub use Rattle.jsonb_value.specs.Norm.{norm}
 pub use Rattle.jsonb_value.specs.NumCode.{NumCode}
 pub use Rattle.jsonb_value.specs.Plain.{IsPlain}
-pub use Rattle.jsonb_value.specs.Text.{colon_text, compact, extension_text, inside, laid_out}
+pub use Rattle.jsonb_value.specs.Text.{colon_text, compact, extension_text, in_one_line}
+pub use Rattle.jsonb_value.specs.Text.{inside, laid_out}
 pub use Rattle.jsonb_value.specs.Text.{length_64, line_start}
 pub use Rattle.jsonb_value.specs.Text.{pretty, quoted_text}
 pub use Rattle.jsonb_value.specs.Tree.{Extension, Pairs, Tree, Trees, array, no_pairs, no_trees}
@@ -63,7 +64,7 @@ pub use Rattle.jsonb.specs.ItemValues.{extension_of_item, extension_source, numb
 pub use Rattle.jsonb.specs.ItemValues.{number_source}
 pub use Rattle.jsonb.specs.ItemView.{ItemView, extension, item_view, null, pair_view, result_view}
 pub use Rattle.jsonb.specs.Kind.{kind, kind_of_tree, kind_of_type, kind_rank, rank_order}
-pub use Rattle.jsonb.specs.Lines.{HasIndentRoom, pair_text}
+pub use Rattle.jsonb.specs.Lines.{HasIndentRoom, next_key, pair_text}
 pub use Rattle.jsonb.specs.Lookup.{AnswersBy, IsItemFound, IsRefusal, LooksUp, LooksUpBytes}
 pub use Rattle.jsonb.specs.Lookup.{LooksUpIn, LooksUpInBytes, find, find_pair, count_in_header}
 pub use Rattle.jsonb.specs.Lookup.{FindsEntry, FindsKey, found_view, value_view}

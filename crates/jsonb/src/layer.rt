@@ -12,5 +12,5 @@ pub use jsonb_codec::layer::{
 pub use jsonb_codec::{parts, writer};
 pub use jsonb_value::layer::{
     LEAF_PAIRS, extension_len, is_text_within, number_len, parse_scalar, parse_string,
-    refusal_within, string_len, write_number, write_string,
+    refusal_within, string_len, write_content, write_number, write_string,
 };

@@ -30,14 +30,15 @@ pub use item::JsonbItem;
 pub use item_type::JsonbItemType;
 pub use iterator::{ArrayIterator, ObjectIterator, ObjectKeyIterator, ObjectValueIterator};
 pub use jsonb_codec::{
-    Decoder, Encoder, JEntry, JsonAstEncoder, constants, encode_text, is_canonical, is_document,
-    is_document_within, nests_deeper, read_header, read_jentry, value_of,
+    Decoder, Encoder, JEntry, JsonAstEncoder, constants, encode_text, encode_text_within,
+    is_canonical, is_document, is_document_within, nests_deeper, read_header, read_jentry,
+    value_of,
 };
 pub use jsonb_value::{
     Date, Decimal64, Decimal128, Error, Exponents, ExtensionValue, Interval, JsonAst, Number,
     Object, Opaque, ParseError, Sink, Timestamp, TimestampTz, Value, extension_text, is_json,
     parse_value, parse_value_with_exponents, parse_value_with_exponents_within, parse_value_within,
-    read_text,
+    read_text, read_text_within,
 };
 pub use lookup::{FoundValue, MAX_READS, Reads};
 pub use nodes::{Items, Members};

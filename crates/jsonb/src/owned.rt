@@ -166,8 +166,9 @@ impl OwnedJsonb {
     ///
     /// `TooDeep` exactly if more brackets than `depth` are open at once, those in strings not
     /// counted, and before any other refusal. For JSON that number is the depth of its value, where
-    /// values that a later equal key replaces count too (`json_laws`). Every other text has the result of `parse`: its document, which is
-    /// within the depth, or `Refused` with the error of `parse`.
+    /// values that a later equal key replaces count too (`json_laws`). Every other text has the
+    /// result of `parse`: its document, which is within the depth, or `Refused` with the error of
+    /// `parse`.
     pub fn parse_within(alloc: Global, text: &str, depth: usize) -> Result<OwnedJsonb, ParseError>
         ensures value { ParsesWithin depth text.now (result_bytes result) }
         ensures parsed { IfOk result (λ owned. IsParsed text.now (owned_bytes owned)) }

@@ -3,7 +3,7 @@
 ghost use Rattle.std.specs.Prelude.{◌≡◌, ◌++◌, ◌^◌, ◌<◌, ℕ, string_bytes, IsOk, IfOk, IfErr, OnOk};
 ghost use Rattle.jsonb.specs.Words.{WritesStyledOnOk, formatter_writer, Tree, norm, IsTree, pretty};
 ghost use Rattle.jsonb.specs.Words.{extension_of, compact, inside, line_start, colon_text};
-ghost use Rattle.jsonb.specs.Words.{laid_out};
+ghost use Rattle.jsonb.specs.Words.{laid_out, next_key, in_one_line};
 ghost use Rattle.jsonb.specs.Words.{quoted_text, extension_text, depth, Doc, document_tree};
 ghost use Rattle.jsonb.specs.Words.{part_tree, rest_trees, rest_pairs, node_tree, array_of};
 ghost use Rattle.jsonb.specs.Words.{object_of, IsContainer, HoldsNoScalar, layout_of, lossy_text};
@@ -14,7 +14,7 @@ use crate::document::{Contents, Document, Node};
 use crate::nodes::{Items, Members};
 use bstr::ByteSlice;
 use jsonb_codec::parts::Part;
-use jsonb_value::layer::{write_number, write_string};
+use jsonb_value::layer::{write_content, write_number, write_string};
 use jsonb_value::{Error, ExtensionValue, extension_text};
 use std::alloc::Global;
 use std::fmt;
@@ -296,8 +296,7 @@ fn write_members<W: fmt::Write>(
     f.write_str("{")?;
     write_member(key, value, layout.inside(), f)?;
     'members: while let Some((key, value)) = members.next_parts() {
-        f.write_str(",")?;
-        write_member(key, value, layout.inside(), f)?;
+        write_next_member(key, value, layout.inside(), f)?;
     }
     layout.start_line(f)?;
     f.write_str("}")
@@ -320,6 +319,55 @@ fn write_member<W: fmt::Write>(
     write_string(key, f)?;
     layout.write_colon(f)?;
     write_node(Node::of_part(value), layout, f)
+}
+
+// Writes a pair of an object that follows another.
+#[cycle(text)]
+#[inline(always)]
+fn write_next_member<W: fmt::Write>(
+    key: &str,
+    value: Part<'_>,
+    layout: Layout,
+    f: &mut fmt::Formatter<W>,
+) -> fmt::Result
+    requires room { HasIndentRoom (layout_of layout) (depth (part_tree value)) }
+    ensures { WritesStyledOnOk W.write_str_gives f.old result (next_key (layout_of layout) key.now
+        ++ laid_out (layout_of layout) (part_tree value.entry)) f.new }
+{
+    write_next_key(key, layout, f)?;
+    write_node(Node::of_part(value), layout, f)
+}
+
+// Writes a key that follows a pair, up to its value.
+#[inline(always)]
+fn write_next_key<W: fmt::Write>(
+    key: &str,
+    layout: Layout,
+    f: &mut fmt::Formatter<W>,
+) -> fmt::Result
+    ensures { WritesStyledOnOk W.write_str_gives f.old result
+        (next_key (layout_of layout) key.now) f.new }
+{
+    match layout {
+        Layout::InOneLine => write_key_in_line(key, f),
+        Layout::OnLines(_) => {
+            f.write_str(",")?;
+            layout.start_line(f)?;
+            write_string(key, f)?;
+            layout.write_colon(f)
+        }
+    }
+}
+
+// Writes the same in one line. The quotes are written with what is beside them, so that there are
+// three writes, and not five.
+#[inline(never)]
+fn write_key_in_line<W: fmt::Write>(key: &str, f: &mut fmt::Formatter<W>) -> fmt::Result
+    ensures { WritesStyledOnOk W.write_str_gives f.old result (next_key in_one_line key.now) f.new }
+{
+    f.write_str(",\"")?;
+    write_content(key, f)?;
+    f.write_str("\":")
 }
 
 #[tactic(auto, using(jsonb_value::proofs::Writing::joins))]

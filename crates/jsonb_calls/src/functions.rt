@@ -1,10 +1,10 @@
 // The functions over documents, on examples of PostgreSQL's documentation of `jsonb`.
 use jsonb::{Document, Error, Node, Number, NumberItem, OwnedJsonb};
 use jsonb_functions::{
-    Bound, Comparison, Condition, Edit, Selector, Step, append_index_keys, append_top_keys, concat,
-    contains, document_of_path, edit_document, exists, exists_path, get_path, merge_patch,
-    read_path, read_path_text, select, select_first, select_within, steps_of_path, strip_nulls,
-    top_key,
+    Bound, Comparison, Condition, Edit, Selector, Step, Term, Test, append_index_keys,
+    append_top_keys, concat, contains, document_of_path, edit_document, exists, exists_path,
+    get_path, merge_patch, read_path, read_path_text, select, select_first, select_within,
+    steps_of_path, strip_nulls, top_key,
 };
 use std::alloc::Global;
 use std::test::Fail;
@@ -244,6 +244,45 @@ const PATH_TEXTS: &[(&str, Option<&[u64]>)] = &[
     ("$.segments[*]?(@.* > 40)", None),
     ("$.segments[*]?($.HR > 73)", None),
     ("$.segments?", None),
+    ("$.segments[*]?(@.HR > 70 && @.HR < 100).HR", Some(&[73])),
+    (
+        "$.segments[*]?(@.HR < 100||@.HR > 130).HR",
+        Some(&[73, 135]),
+    ),
+    (
+        "$.segments[*]?(@.HR == 73 || @.HR == 135 && @.HR < 100).HR",
+        Some(&[73]),
+    ),
+    (
+        "$.segments[*]?((@.HR == 73 || @.HR == 135) && @.HR > 100).HR",
+        Some(&[135]),
+    ),
+    (
+        "$.segments[*]?(@.HR > 100 && @.HR < 50 || @.HR == 73).HR",
+        Some(&[73]),
+    ),
+    ("$.segments[*]?(!(@.HR == 73)).HR", Some(&[135])),
+    ("$.segments[*]?(!(@.none == 1)).HR", Some(&[73, 135])),
+    (
+        "$.segments[*]?( ! ( @.HR == 73 || @.HR == 135 ) ).HR",
+        Some(&[]),
+    ),
+    (
+        "$.segments[*]?(!(@.HR == 73 && !(@.HR == 73))).HR",
+        Some(&[73, 135]),
+    ),
+    ("$.segments[*]?((@.HR == 73)).HR", Some(&[73])),
+    (
+        "$.segments[*]?(!(!(@.HR == 73 || @.HR == 1) || @.at[0] == 1)).HR",
+        Some(&[73]),
+    ),
+    ("$.segments[*]?(@.HR == 73 &&).HR", None),
+    ("$.segments[*]?(&& @.HR == 73).HR", None),
+    ("$.segments[*]?(@.HR == 73 & @.HR == 73).HR", None),
+    ("$.segments[*]?(@.HR == 73 @.HR == 73).HR", None),
+    ("$.segments[*]?(!@.HR == 73).HR", None),
+    ("$.segments[*]?((@.HR == 73).HR", None),
+    ("$.segments[*]?().HR", None),
 ];
 
 // Whether the path of a text selects these numbers; nothing, if it gives no path.
@@ -275,11 +314,13 @@ fn paths_given_as_texts(rt: HostRuntime) -> Result<(), Fail> {
 fn leads_above(alloc: Global, limit: Document, rate: u64) -> Result<bool, Error> {
     let mut to_rate = Vec::new(alloc);
     to_rate.push(Step::Key("HR"))?;
-    let condition = Condition {
+    let mut terms = Vec::new(alloc);
+    terms.push(Term::Test(Test {
         path: to_rate,
         comparison: Comparison::Greater,
         value: limit.value(),
-    };
+    }))?;
+    let condition = Condition { terms };
     let path = [
         Selector::Key("segments"),
         Selector::AllItems,

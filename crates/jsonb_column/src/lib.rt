@@ -16,4 +16,5 @@ mod zone_map;
 
 pub use column::{Column, Rows};
 pub use sorted::Sorted;
+pub use storage::{append_row, split_row};
 pub use zone_map::Zones;

@@ -1,14 +1,15 @@
-use Rattle.std.proofs.Common.{rules, ◌++◌, codes, refl, sym, ap, subst, arith}
+use Rattle.std.proofs.Common.{rules, ◌++◌, ◌∙◌, codes, refl, sym, ap, subst, arith}
 use Rattle.jsonb_value.specs.Text.{inside, line_start, colon_text, laid_out}
 use Rattle.jsonb_value.specs.Value.{trees_of}
 use Rattle.jsonb_value.proofs.Writing.{joins_two, joins_three}
 use Rattle.jsonb.specs.EntryTrees.{part_tree, rest_trees, rest_pairs}
-use Rattle.jsonb.specs.Lines.{item_lines, pair_lines, pair_text, HasIndentRoom}
+use Rattle.jsonb.specs.Lines.{item_lines, next_key, pair_lines, pair_text, HasIndentRoom}
 use Rattle.jsonb_codec.specs.Depth.{depth, size}
 use Rattle.jsonb.specs.Node.{pairs_of}
 use Rattle.jsonb.proofs.EntryTreeLaws.{entry_tree-node}
 use Rattle.jsonb.specs.Texts.{layout_of}
 use Rattle.jsonb.proofs.LineLaws.{items_begin, items_after, pairs_begin, pairs_after, lines_next}
+use Rattle.jsonb.proofs.LineLaws.{next_pair}
 use Rattle.jsonb.proofs.text.+text.Goals as goal
 
 pub write_line-write_node-requires : goal.write_line-write_node-requires
@@ -111,6 +112,30 @@ write_member-returns g t c flush ok =
     joins_two _ _ _ _ _ _ _ three four (ap (λ t. colon_text l ++ laid_out l t) (sym is)) in
     joins_three _ _ _ _ _ _ _ _ _ one two ends refl
 
+pub write_next_member-write_node-requires : goal.write_next_member-write_node-requires
+write_next_member-write_node-requires g t c κs within =
+    let is = entry_tree-node c.args.value c.of_part.result c.of_part.ensures.means in
+    let l = layout_of c.args.layout in
+    let room : HasIndentRoom l (depth (part_tree c.args.value)) = search rules in (
+      omega (arith, ap size is),
+      (
+        within,
+        (
+          c.of_part.ensures.container,
+          subst (λ u. HasIndentRoom l (depth u)) is room,
+        ),
+      ),
+    )
+
+pub write_next_member-returns : goal.write_next_member-returns
+write_next_member-returns g t c flush ok =
+    let one = c.write_next_key.ensures flush (search rules) in
+    let two = c.write_node.ensures one.flush ok in
+    let l = layout_of c.args.layout in
+    let is = entry_tree-node c.args.value c.of_part.result c.of_part.ensures.means in
+    joins_two _ _ _ _ _ _ _ one two
+    (ap (λ t. next_key l c.args.key.now ++ laid_out l t) (sym is))
+
 pub write_members-members-init : goal.write_members-members-init
 write_members-members-init g t c =
     let l = layout_of c.args.layout in
@@ -148,10 +173,10 @@ write_members-members-preserved g t c =
           (rw c.in-Some-next_parts.ensures at whole),
       λ flush.
           let so_far = writes flush in
-          let one = c.write_str-in-Some-next_parts.ensures.styled so_far.flush (search rules) in
-          let two = c.write_member-in-Some-next_parts.ensures one.flush (search rules) in
-          joins_three _ _ _ _ _ _ _ _ _ so_far one two
-          (cc c.inside-in-Some-next_parts.ensures),
+          let one = c.write_next_member.ensures so_far.flush (search rules) in
+          joins_two _ _ _ _ _ _ _ so_far one
+          (ap (λ i. done ++ (next_key i k ++ laid_out i u)) c.inside-in-Some-next_parts.ensures
+          ∙ ap (λ s. done ++ s) (next_pair (inside l) k u)),
     )
 
 pub write_members-returns : goal.write_members-returns

@@ -28,6 +28,9 @@ decreases-write_members g l = 4 * pair_sizes (pairs_of (rest_pairs l.members)) +
 abbrev pub decreases-write_member : goal.decreases-write_member
 decreases-write_member g l = 4 * size (part_tree l.value) + 2
 
+abbrev pub decreases-write_next_member : goal.decreases-write_next_member
+decreases-write_next_member g l = 4 * size (part_tree l.value) + 2
+
 -- what is written so far, followed by what is left to write, up to the closing bracket
 abbrev pub invariant-write_items-items : goal.invariant-write_items-items
 invariant-write_items-items g l =

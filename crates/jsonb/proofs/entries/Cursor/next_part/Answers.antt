@@ -1,7 +1,7 @@
 use Rattle.std.proofs.Common.{◌+◌, ◌-◌, ◌∷◌, List, ℕ, Ok, sym, ap, subst, ◌∙◌, arith}
 use Rattle.std.proofs.lemmas.Grind.{merely}
 use Rattle.jsonb_codec.specs.Parts.{IsSomePayload}
-use Rattle.jsonb.specs.Entries.{entries_of, entry_there, run_from}
+use Rattle.jsonb.specs.Entries.{entries_of, run_from}
 use Rattle.jsonb.specs.EntryTrees.{AreParts}
 use Rattle.jsonb.proofs.EntryLaws.{entries_of-first}
 use Rattle.jsonb.proofs.entries.Cursor.next_part.Goals as goal
