@@ -30,3 +30,6 @@ pub mod PathLaws
 pub mod NameLaws
 pub mod PointerLaws
 pub mod NameListLaws
+pub mod TermLaws
+pub mod ConditionLaws
+pub mod TreeLaws

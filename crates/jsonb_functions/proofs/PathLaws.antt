@@ -1,17 +1,16 @@
 -- A path of which some steps were read.
 use Rattle.std.proofs.Common.{◌≡◌, ℕ, List, [], ◌∷◌, ◌++◌, map, refl, sym, Bool, true, false}
-use Rattle.std.proofs.Common.{ap, ◌∙◌, subst, arith, Bor, append_assoc, inl, inr, zero, suc}
+use Rattle.std.proofs.Common.{ap, ◌∙◌, subst, arith, Bor, append_assoc, inl, inr}
 use Rattle.std.proofs.lemmas.List.{append-nil}
-use Rattle.std.specs.Prelude.{Option, None, Some, ◌↔◌}
+use Rattle.std.specs.Prelude.{Option, None, Some, ◌↔◌, IfOk, IfSome, Result, Ok, Err}
 use Rattle.std.specs.Global.{Vec}
 use Rattle.jsonb_functions.specs.declared.selection.Selector.{Selector}
 use Rattle.jsonb_functions.specs.PathText.{SelectorView, selector_view, AreSteps, BeginsWith}
-use Rattle.jsonb_functions.specs.PathText.{IsFilterPath, IsStep, IsWrittenStep, PathText, Reads}
-use Rattle.jsonb_functions.specs.PathText.{EndsName, ReadsStep, StopsAt, filter_bytes, is_in_name}
-use Rattle.jsonb_functions.specs.PathText.{path_view, spaces}
+use Rattle.jsonb_functions.specs.PathText.{BeginsWithStep, EndsName, IsFilter, IsFilterPath}
+use Rattle.jsonb_functions.specs.PathText.{PathText, Reads, ReadsStep, StopsAt, after_spaces}
+use Rattle.jsonb_functions.specs.PathText.{is_in_name, path_view}
 use Rattle.jsonb_functions.proofs.HashLaws.{map_joined}
 use Rattle.jsonb_functions.proofs.PathStepLaws.{written_begins}
-use Rattle.jsonb_functions.proofs.PathTextLaws.{after_them}
 
 -- What may come after all steps.
 abbrev pub EndsAs : Bool → List ℕ → Type 0
@@ -19,13 +18,13 @@ EndsAs true end = (rest : List ℕ) × (end ≡ 32 ∷ rest)
 EndsAs false end = end ≡ []
 
 -- What follows the steps that were read leads on, and each path of the text begins with them.
-pub record IsRead (IsOne : List ℕ → SelectorView → Type 0) (in_filter : Bool)
+pub record IsRead (Begins : List ℕ → SelectorView → List ℕ → Type 0) (in_filter : Bool)
     (text left : List ℕ) (path : List Selector) : Type 0 where
-  pub going : (end : List ℕ) (q : List SelectorView) → AreSteps IsOne end left q
-      → AreSteps IsOne end text (map selector_view path ++ q)
+  pub going : (end : List ℕ) (q : List SelectorView) → AreSteps Begins end left q
+      → AreSteps Begins end text (map selector_view path ++ q)
   pub only : (end : List ℕ) → EndsAs in_filter end → (p : List SelectorView)
-      → AreSteps IsOne end text p
-      → (q : List SelectorView) × ((p ≡ map selector_view path ++ q) × AreSteps IsOne end left q)
+      → AreSteps Begins end text p
+      → (q : List SelectorView) × ((p ≡ map selector_view path ++ q) × AreSteps Begins end left q)
 
 end_stops : (in_filter : Bool) (end : List ℕ) → EndsAs in_filter end
     → EndsName in_filter end
@@ -33,18 +32,18 @@ end_stops true end (rest, e) = subst (EndsName true) (sym e) refl
 end_stops false end e = subst (EndsName false) (sym e) tt
 
 -- Steps that begin as steps do.
-module _ (IsOne : List ℕ → SelectorView → Type 0) (in_filter : Bool)
-    (begins : (text : List ℕ) (s : SelectorView) (rest : List ℕ) → BeginsWith IsOne text s rest
+module _ (Begins : List ℕ → SelectorView → List ℕ → Type 0) (in_filter : Bool)
+    (begins : (text : List ℕ) (s : SelectorView) (rest : List ℕ) → Begins text s rest
     → EndsName in_filter text × (EndsAs in_filter text → ⊥)) where
   steps_stop : (end rest : List ℕ) (path : List SelectorView) → EndsAs in_filter end
-      → AreSteps IsOne end rest path → EndsName in_filter rest
+      → AreSteps Begins end rest path → EndsName in_filter rest
   steps_stop end rest [] ends steps =
       subst (EndsName in_filter) (sym steps) (end_stops in_filter end ends)
   steps_stop end rest (s ∷ path) ends steps =
-      (begins rest s steps.1 (steps.0, steps.2, steps.3)).0
+      (begins rest s steps.0 steps.1).0
 
   -- At the first byte.
-  pub first_read : (text : List ℕ) → IsRead IsOne in_filter text text []
+  pub first_read : (text : List ℕ) → IsRead Begins in_filter text text []
   first_read text = record {
     going = λ end q steps. steps;
     only = λ end ends p h. (p, (refl, h));
@@ -53,27 +52,26 @@ module _ (IsOne : List ℕ → SelectorView → Type 0) (in_filter : Bool)
   -- One more step was read.
   next_only : (end : List ℕ) → EndsAs in_filter end → (left : List ℕ) (rest : Bor (List ℕ))
       (views others : List SelectorView) (selector : Selector) → (left ≡ end → ⊥)
-      → ReadsStep IsOne in_filter left (Some (selector, rest))
+      → ReadsStep Begins in_filter left (Some (selector, rest))
       → ((q : List SelectorView) → others ++ q ≡ views ++ (selector_view selector ∷ q))
-      → (p q : List SelectorView) → p ≡ views ++ q → AreSteps IsOne end left q
-      → (r : List SelectorView) × ((p ≡ others ++ r) × AreSteps IsOne end rest.now r)
+      → (p q : List SelectorView) → p ≡ views ++ q → AreSteps Begins end left q
+      → (r : List SelectorView) × ((p ≡ others ++ r) × AreSteps Begins end rest.now r)
   next_only end ends left rest views others selector some step more p [] e steps =
       absurd (some steps)
   next_only end ends left rest views others selector some step more p (s ∷ q) e steps =
-      let is = step.only s steps.1 (steps.0, steps.2, steps.3)
-      (steps_stop end steps.1 q ends steps.4) in (
+      let is = step.only s steps.0 steps.1 (steps_stop end steps.0 q ends steps.2) in (
         q,
         (
           e ∙ ap (λ x. views ++ (x ∷ q)) (sym is.0) ∙ sym (more q),
-          subst (λ xs. AreSteps IsOne end xs q) (sym is.1) steps.4,
+          subst (λ xs. AreSteps Begins end xs q) (sym is.1) steps.2,
         ),
       )
 
   pub read_on : (text left : List ℕ) (rest : Bor (List ℕ)) (read new : List Selector)
       (selector : Selector) → (EndsAs in_filter left → ⊥)
-      → ReadsStep IsOne in_filter left (Some (selector, rest))
-      → new ≡ read ++ (selector ∷ []) → IsRead IsOne in_filter text left read
-      → IsRead IsOne in_filter text rest.now new
+      → ReadsStep Begins in_filter left (Some (selector, rest))
+      → new ≡ read ++ (selector ∷ []) → IsRead Begins in_filter text left read
+      → IsRead Begins in_filter text rest.now new
   read_on text left rest read new selector some step e h =
       let views = map selector_view read in
       let first = selector_view selector in
@@ -83,8 +81,8 @@ module _ (IsOne : List ℕ → SelectorView → Type 0) (in_filter : Bool)
       ∙ append_assoc views (first ∷ []) q in
       record {
         going = λ end q steps.
-            subst (λ p. AreSteps IsOne end text p) (sym (more q)) (h.going end (first ∷ q)
-            (step.is.0, rest.now, step.is.1, step.is.2, steps));
+            subst (λ p. AreSteps Begins end text p) (sym (more q)) (h.going end (first ∷ q)
+            (rest.now, step.is, steps));
         only = λ end ends p is.
             let was = h.only end ends p is in
             next_only end ends left rest views (map selector_view new) selector
@@ -93,44 +91,44 @@ module _ (IsOne : List ℕ → SelectorView → Type 0) (in_filter : Bool)
       }
 
   no_next : (end left : List ℕ) → EndsAs in_filter end → (EndsAs in_filter left → ⊥)
-      → ReadsStep IsOne in_filter left None → (q : List SelectorView)
-      → AreSteps IsOne end left q → ⊥
+      → ReadsStep Begins in_filter left None → (q : List SelectorView)
+      → AreSteps Begins end left q → ⊥
   no_next end left ends some step [] steps = some (subst (EndsAs in_filter) (sym steps) ends)
   no_next end left ends some step (s ∷ q) steps =
-      step.only s steps.1 (steps.0, steps.2, steps.3) (steps_stop end steps.1 q ends steps.4)
+      step.only s steps.0 steps.1 (steps_stop end steps.0 q ends steps.2)
 
   pub none_read : (text left : List ℕ) (read : List Selector) → (EndsAs in_filter left → ⊥)
-      → ReadsStep IsOne in_filter left None → IsRead IsOne in_filter text left read
+      → ReadsStep Begins in_filter left None → IsRead Begins in_filter text left read
       → (end : List ℕ) → EndsAs in_filter end → (p : List SelectorView)
-      → AreSteps IsOne end text p → ⊥
+      → AreSteps Begins end text p → ⊥
   none_read text left read some step h end ends p is =
       let was = h.only end ends p is in no_next end left ends some step was.0 was.1.1
 
   -- All steps were read.
   last_steps : (end left : List ℕ) → EndsAs in_filter left → (views : List SelectorView)
-      → (p q : List SelectorView) → p ≡ views ++ q → AreSteps IsOne end left q
+      → (p q : List SelectorView) → p ≡ views ++ q → AreSteps Begins end left q
       → (views ≡ p) × (left ≡ end)
   last_steps end left ends views p [] e steps = (sym (e ∙ append-nil views), steps)
   last_steps end left ends views p (s ∷ q) e steps =
-      absurd ((begins left s steps.1 (steps.0, steps.2, steps.3)).1 ends)
+      absurd ((begins left s steps.0 steps.1).1 ends)
 
   pub read_only : (text left : List ℕ) (read : List Selector) → EndsAs in_filter left
-      → IsRead IsOne in_filter text left read → (end : List ℕ) → EndsAs in_filter end
-      → (p : List SelectorView) → AreSteps IsOne end text p
+      → IsRead Begins in_filter text left read → (end : List ℕ) → EndsAs in_filter end
+      → (p : List SelectorView) → AreSteps Begins end text p
       → (map selector_view read ≡ p) × (left ≡ end)
   read_only text left read here h end ends p is =
       let was = h.only end ends p is in
       last_steps end left here (map selector_view read) p was.0 was.1.0 was.1.1
 
   pub all_steps : (text left : List ℕ) (read : List Selector)
-      → IsRead IsOne in_filter text left read
-      → AreSteps IsOne left text (map selector_view read)
+      → IsRead Begins in_filter text left read
+      → AreSteps Begins left text (map selector_view read)
   all_steps text left read h =
-      subst (AreSteps IsOne left text) (append-nil (map selector_view read)) (h.going left [] refl)
+      subst (AreSteps Begins left text) (append-nil (map selector_view read)) (h.going left [] refl)
 
 -- A byte that begins a step.
 written_step_begins : (in_filter : Bool) (text : List ℕ) (s : SelectorView) (rest : List ℕ)
-    → BeginsWith (IsWrittenStep in_filter) text s rest
+    → BeginsWith in_filter text s rest
     → EndsName in_filter text
 written_step_begins true text s rest h =
     elim (written_begins true text s rest h) [
@@ -151,7 +149,7 @@ no_bytes_begin : (c : ℕ) (text xs : List ℕ) → text ≡ c ∷ xs → text �
 no_bytes_begin c text xs x y = let both : c ∷ xs ≡ [] = sym x ∙ y in absurd (cc)
 
 pub path_begins : (text : List ℕ) (s : SelectorView) (rest : List ℕ)
-    → BeginsWith (IsWrittenStep true) text s rest
+    → BeginsWith true text s rest
     → EndsName true text × (EndsAs true text → ⊥)
 path_begins text s rest h = (
   written_step_begins true text s rest h,
@@ -161,32 +159,75 @@ path_begins text s rest h = (
   ],
 )
 
-spaced_some : (n : ℕ) (xs : List ℕ) → (xs ≡ [] → ⊥) → spaces n ++ xs ≡ [] → ⊥
-spaced_some zero xs some e = some e
-spaced_some (suc n) xs some e = absurd (let h : ⊥ = cc in h)
-
-step_begins_by : (text front : List ℕ) (s : SelectorView) (rest : List ℕ) → text ≡ front ++ rest
-    → IsStep front s → EndsName false text × (text ≡ [] → ⊥)
-step_begins_by text front s rest e (inl is) =
-    let h : BeginsWith (IsWrittenStep false) text s rest = (front, e, is) in (
-      written_step_begins false text s rest h,
-      λ none. elim (written_begins false text s rest h) [
-        | inl w ↦ no_bytes_begin 46 text w.0 w.1 none
-        | inr w ↦ no_bytes_begin 91 text w.0 w.1 none
-      ],
-    )
-step_begins_by text front s rest e (inr (n, f, is, means)) =
-    let first = e ∙ ap (λ b. b ++ rest) is ∙ append_assoc (spaces n) (filter_bytes f) rest in (
-      subst (EndsName false) (sym first)
-          (subst (StopsAt (is_in_name false)) (sym (after_them n (filter_bytes f ++ rest))) refl),
-      λ none. spaced_some n (filter_bytes f ++ rest)
-          (no_bytes_begin 63 (filter_bytes f ++ rest) _ refl) (sym first ∙ none),
-    )
-
 pub step_begins : (text : List ℕ) (s : SelectorView) (rest : List ℕ)
-    → BeginsWith IsStep text s rest
-    → EndsName false text × (EndsAs false text → ⊥)
-step_begins text s rest h = step_begins_by text h.0 s rest h.1 h.2
+    → BeginsWithStep text s rest → EndsName false text × (EndsAs false text → ⊥)
+step_begins text s rest (inl h) = (
+  written_step_begins false text s rest h,
+  λ none. elim (written_begins false text s rest h) [
+    | inl w ↦ no_bytes_begin 46 text w.0 w.1 none
+    | inr w ↦ no_bytes_begin 91 text w.0 w.1 none
+  ],
+)
+step_begins text s rest (inr (condition, e, is)) = (
+  subst (StopsAt (is_in_name false)) (sym e) refl,
+  λ none. no_bytes_begin 63 (after_spaces text) condition e (ap after_spaces none),
+)
+
+-- A filter was read, after spaces and a question mark, or a step that is no filter.
+not_written : (text condition : List ℕ) (s : SelectorView) (rest : List ℕ)
+    → after_spaces text ≡ 63 ∷ condition → BeginsWith false text s rest → ⊥
+not_written text condition s rest e h =
+    elim (written_begins false text s rest h) [
+      | inl w ↦ let both : 63 ∷ condition ≡ 46 ∷ w.0 = sym e ∙ ap after_spaces w.1 in
+          let first : ◌≡◌ {A = ℕ} 63 46 = cc in absurd (omega (arith, first))
+      | inr w ↦ let both : 63 ∷ condition ≡ 91 ∷ w.0 = sym e ∙ ap after_spaces w.1 in
+          let first : ◌≡◌ {A = ℕ} 63 91 = cc in absurd (omega (arith, first))
+    ]
+
+filter_is : (text condition : List ℕ) (r : Option (Selector × Bor (List ℕ)))
+    → after_spaces text ≡ 63 ∷ condition
+    → IfSome r (λ x. IsFilter condition (selector_view x.0) x.1.now)
+    → IfSome r (λ x. BeginsWithStep text (selector_view x.0) x.1.now)
+filter_is text condition None e h = tt
+filter_is text condition (Some x) e h = inr (condition, e, h)
+
+filter_there : (text condition : List ℕ) (s : SelectorView) (rest : List ℕ)
+    → after_spaces text ≡ 63 ∷ condition → BeginsWithStep text s rest → IsFilter condition s rest
+filter_there text condition s rest e (inl h) = absurd (not_written text condition s rest e h)
+filter_there text condition s rest e (inr (other, is, h)) =
+    let whole : 63 ∷ other ≡ 63 ∷ condition = sym is ∙ e in
+    let same : other ≡ condition = cc in
+    subst (λ xs. IsFilter xs s rest) same h
+
+pub if_filter : {E : Type 0} (text condition : List ℕ)
+    (r : Result (Option (Selector × Bor (List ℕ))) E) → after_spaces text ≡ 63 ∷ condition
+    → IfOk r (Reads selector_view (IsFilter condition))
+    → IfOk r (ReadsStep BeginsWithStep false text)
+if_filter text condition (Ok x) e h = record {
+  is = filter_is text condition x e h.is;
+  only = λ s later b stops. h.only s later (filter_there text condition s later e b);
+}
+if_filter text condition (Err x) e h = tt
+
+as_step : (text : List ℕ) (r : Option (Selector × Bor (List ℕ)))
+    → IfSome r (λ x. BeginsWith false text (selector_view x.0) x.1.now)
+    → IfSome r (λ x. BeginsWithStep text (selector_view x.0) x.1.now)
+as_step text None h = h
+as_step text (Some x) h = inl h
+
+as_written : (text : List ℕ) (s : SelectorView) (rest : List ℕ)
+    → ((later : List ℕ) → after_spaces text ≡ 63 ∷ later → ⊥) → BeginsWithStep text s rest
+    → BeginsWith false text s rest
+as_written text s rest other (inl h) = h
+as_written text s rest other (inr (condition, e, h)) = absurd (other condition e)
+
+pub no_filter : (text : List ℕ) (r : Option (Selector × Bor (List ℕ)))
+    → ((rest : List ℕ) → after_spaces text ≡ 63 ∷ rest → ⊥)
+    → ReadsStep (BeginsWith false) false text r → ReadsStep BeginsWithStep false text r
+no_filter text r other h = record {
+  is = as_step text r h.is;
+  only = λ s later b stops. h.only s later (as_written text s later other b) stops;
+}
 
 -- The path of a text.
 pub other_text : (text : List ℕ) → ((rest : List ℕ) → text ≡ 36 ∷ rest → ⊥)
@@ -194,48 +235,49 @@ pub other_text : (text : List ℕ) → ((rest : List ℕ) → text ≡ 36 ∷ re
 other_text text other p = (λ h. absurd (other h.0 h.1), λ e. absurd (cc))
 
 starts_same : (text start : List ℕ) (p : List SelectorView) → text ≡ 36 ∷ start → PathText text p
-    → AreSteps IsStep [] start p
+    → AreSteps BeginsWithStep [] start p
 starts_same text start p e (rest, is, steps) =
     let both : 36 ∷ rest ≡ 36 ∷ start = sym is ∙ e in
     let same : rest ≡ start = cc in
-    subst (λ xs. AreSteps IsStep [] xs p) same steps
+    subst (λ xs. AreSteps BeginsWithStep [] xs p) same steps
 
 pub none_text : (text start left : List ℕ) (read : List Selector) → text ≡ 36 ∷ start
-    → (left ≡ [] → ⊥) → ReadsStep IsStep false left None → IsRead IsStep false start left read
+    → (left ≡ [] → ⊥) → ReadsStep BeginsWithStep false left None
+    → IsRead BeginsWithStep false start left read
     → (p : List SelectorView)
     → PathText text p ↔ ◌≡◌ {A = Option (List SelectorView)} None (Some p)
 none_text text start left read e some step h p = (
-  λ is. absurd (none_read IsStep false step_begins start left read some step h [] refl p
+  λ is. absurd (none_read BeginsWithStep false step_begins start left read some step h [] refl p
       (starts_same text start p e is)),
   λ none. absurd (cc),
 )
 
 pub all_read : (text start left : List ℕ) (read : List Selector) → text ≡ 36 ∷ start → left ≡ []
-    → IsRead IsStep false start left read
+    → IsRead BeginsWithStep false start left read
     → (p : List SelectorView) → PathText text p ↔ (Some (map selector_view read) ≡ Some p)
 all_read text start left read e end h p = (
-  λ is. let same = read_only IsStep false step_begins start left read end h [] refl p
+  λ is. let same = read_only BeginsWithStep false step_begins start left read end h [] refl p
       (starts_same text start p e is) in
       ap (λ x. Some x) same.0,
   λ found. let same : map selector_view read ≡ p = cc in (
     start,
     e,
-    subst (λ xs. AreSteps IsStep [] start xs) same
-        (subst (λ xs. AreSteps IsStep xs start (map selector_view read)) end
-        (all_steps IsStep false step_begins start left read h)),
+    subst (λ xs. AreSteps BeginsWithStep [] start xs) same
+        (subst (λ xs. AreSteps BeginsWithStep xs start (map selector_view read)) end
+        (all_steps BeginsWithStep false step_begins start left read h)),
   ),
 )
 
 -- The path of a filter.
 pub filter_path_read : (text left : List ℕ) (rest : Bor (List ℕ)) (read : Vec Selector)
-    → left ≡ 32 ∷ rest.now → IsRead (IsWrittenStep true) true text left read.items
+    → left ≡ 32 ∷ rest.now → IsRead (BeginsWith true) true text left read.items
     → Reads path_view (IsFilterPath text) (Some (read, rest))
 filter_path_read text left rest read e h = record {
-  is = subst (λ xs. AreSteps (IsWrittenStep true) xs text (path_view read)) e
-      (all_steps (IsWrittenStep true) true path_begins text left read.items h);
+  is = subst (λ xs. AreSteps (BeginsWith true) xs text (path_view read)) e
+      (all_steps (BeginsWith true) true path_begins text left read.items h);
   only = λ p later is.
       let same =
-      read_only (IsWrittenStep true) true path_begins text left read.items (rest.now, e) h
+      read_only (BeginsWith true) true path_begins text left read.items (rest.now, e) h
       (32 ∷ later) (later, refl) p is in
       let tail : 32 ∷ rest.now ≡ 32 ∷ later = sym e ∙ same.1 in
       (same.0, cc);
@@ -243,12 +285,12 @@ filter_path_read text left rest read e h = record {
 
 pub filter_path_none : (text left : List ℕ) (read : List Selector)
     → ((rest : List ℕ) → left ≡ 32 ∷ rest → ⊥)
-    → ReadsStep (IsWrittenStep true) true left None
-    → IsRead (IsWrittenStep true) true text left read
+    → ReadsStep (BeginsWith true) true left None
+    → IsRead (BeginsWith true) true text left read
     → Reads {A = Vec Selector} path_view (IsFilterPath text) None
 filter_path_none text left read other step h = record {
   is = tt;
   only = λ p later is.
-      none_read (IsWrittenStep true) true path_begins text left read (λ ends. other ends.0 ends.1)
+      none_read (BeginsWith true) true path_begins text left read (λ ends. other ends.0 ends.1)
       step h (32 ∷ later) (later, refl) p is;
 }

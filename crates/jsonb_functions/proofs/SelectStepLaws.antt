@@ -6,12 +6,15 @@ use Rattle.std.specs.Prelude.{if◌then◌else◌, nat_eq, ◌&&◌, ◌==◌}
 use Rattle.std.specs.Cmp.Lexicographic.{pointwise}
 use Rattle.std.specs.List.{sum_by}
 use Rattle.std.proofs.lemmas.List.Sums.{sum_by-cons}
+use Rattle.std.proofs.Math.Nat.{add-mul, mul-add}
 use Rattle.std.proofs.lemmas.Nat.{mul-le}
 use Rattle.jsonb_value.specs.Tree.{Tree, null, boolean, number, text, extension, array, object}
 use Rattle.jsonb_value.specs.Tree.{Trees, no_trees, tree, Pairs, no_pairs, pair, count, pair_count}
 use Rattle.jsonb.specs.Lookup.{find_pair}
 use Rattle.jsonb_value.specs.Value.{trees_of}
 use Rattle.jsonb.specs.Node.{array_of, object_of, pair_list, pairs_of, tree_list}
+use Rattle.jsonb_functions.specs.declared.filter.Term.{Term}
+use Rattle.jsonb_functions.specs.declared.filter.Term.TheVariants as terms
 use Rattle.jsonb_functions.specs.declared.path.Step.{Step}
 use Rattle.jsonb_functions.specs.declared.path.Step.TheVariants as steps
 use Rattle.jsonb_functions.specs.declared.selection.Selector.{Selector}
@@ -23,7 +26,8 @@ use Rattle.jsonb_functions.specs.Filter.{holds}
 use Rattle.jsonb_functions.specs.Found.{child_at, item_there}
 use Rattle.jsonb_functions.specs.Path.{item_place}
 use Rattle.jsonb_functions.specs.Selected.{children_at, items_before, items_through, member_trees}
-use Rattle.jsonb_functions.specs.SelectSteps.{asked, extent, extents, number_there, select_steps}
+use Rattle.jsonb_functions.specs.SelectSteps.{asked, extent, extents, number_there, path_size}
+use Rattle.jsonb_functions.specs.SelectSteps.{select_steps, selector_size, term_steps}
 use Rattle.jsonb_functions.specs.Weight.{pair_weights, weight, weights}
 use Rattle.jsonb_functions.proofs.StepLaws.{weight_positive}
 
@@ -139,14 +143,34 @@ extents_within [] t = extent_within t
 extents_within (s ∷ path) t =
     way_within s path t (child_at s t) refl (λ u. extents_within path u)
 
-asked_within : (s : Selector) (t : Tree) → asked s t ≤ weight t
-asked_within (Key k) t = extent_within t
-asked_within (Index i) t = extent_within t
-asked_within (FromEnd i) t = extent_within t
-asked_within AllItems t = extent_within t
-asked_within AllMembers t = extent_within t
-asked_within (Range first last) t = extent_within t
-asked_within (Filter condition) t = extents_within condition.path.items t
+-- A term takes at most as many steps as the tree weighs.
+term_within : (term : Term) (t : Tree) → term_steps term t ≤ weight t
+term_within (terms.Test test) t = extents_within test.path.items t
+term_within terms.And t = weight_positive t
+term_within terms.Or t = weight_positive t
+term_within terms.Open t = weight_positive t
+term_within terms.OpenNot t = weight_positive t
+term_within terms.Close t = weight_positive t
+
+terms_within : (ts : List Term) (t : Tree)
+    → sum_by (λ term. term_steps term t) ts ≤ length ts * weight t
+terms_within [] t = omega arith
+terms_within (term ∷ ts) t =
+    omega (
+      arith,
+      term_within term t,
+      terms_within ts t,
+      sum_by-cons (λ x. term_steps x t) term ts,
+    )
+
+asked_within : (s : Selector) (t : Tree) → asked s t ≤ selector_size s * weight t
+asked_within (Key k) t = omega (arith, extent_within t)
+asked_within (Index i) t = omega (arith, extent_within t)
+asked_within (FromEnd i) t = omega (arith, extent_within t)
+asked_within AllItems t = omega (arith, extent_within t)
+asked_within AllMembers t = omega (arith, extent_within t)
+asked_within (Range first last) t = omega (arith, extent_within t)
+asked_within (Filter condition) t = terms_within condition.terms.items t
 
 -- The children to which a selector leads weigh no more than the tree.
 listed : (ts : Trees) → total (tree_list ts) ≡ weights ts
@@ -214,8 +238,8 @@ children_within (Range first last) t =
 children_within (Filter condition) t = kept_total (holds condition t) t
 
 sum_within : (path : List Selector) (us : List Tree)
-    → ((u : Tree) → select_steps path u ≤ length path * weight u)
-    → sum_by (λ u. select_steps path u) us ≤ length path * total us
+    → ((u : Tree) → select_steps path u ≤ path_size path * weight u)
+    → sum_by (λ u. select_steps path u) us ≤ path_size path * total us
 sum_within path [] h = omega arith
 sum_within path (u ∷ us) h =
     omega (
@@ -224,19 +248,22 @@ sum_within path (u ∷ us) h =
       sum_within path us h,
       total_cons u us,
       sum_by-cons (λ v. select_steps path v) u us,
-      ap (λ n. length path * n) (total_cons u us),
+      ap (λ n. path_size path * n) (total_cons u us),
+      mul-add (path_size path) (weight u) (total us),
     )
 
 pub steps_within : (path : List Selector) (t : Tree)
-    → select_steps path t ≤ length path * weight t
+    → select_steps path t ≤ path_size path * weight t
 steps_within [] t = omega arith
 steps_within (s ∷ path) t =
     let us = children_at s t in
-    let fewer : length path * total us ≤ length path * weight t =
-    mul-le (length path) (total us) (length path) (weight t) (omega arith) (children_within s t) in
+    let fewer : path_size path * total us ≤ path_size path * weight t =
+    mul-le (path_size path) (total us) (path_size path) (weight t) (omega arith)
+    (children_within s t) in
     omega (
       arith,
       asked_within s t,
       sum_within path us (λ u. steps_within path u),
       fewer,
+      add-mul (selector_size s) (path_size path) (weight t),
     )

@@ -1,5 +1,6 @@
 pub mod ArraySets
 pub mod ChosenSource
+pub mod Conditions
 pub mod Contains
 pub mod Edited
 pub mod EditSource

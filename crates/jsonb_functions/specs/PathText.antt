@@ -15,20 +15,40 @@ use Rattle.std.specs.List.{after_first, before_first}
 use Rattle.std.specs.Option.{option_or}
 use Rattle.jsonb_functions.specs.declared.filter.Comparison.{Comparison}
 use Rattle.jsonb_functions.specs.declared.filter.Comparison.TheVariants as comparisons
+use Rattle.jsonb_functions.specs.declared.filter.Term.{Term}
+use Rattle.jsonb_functions.specs.declared.filter.Term.TheVariants as terms
 use Rattle.jsonb_functions.specs.declared.selection.Bound.{Bound}
 use Rattle.jsonb_functions.specs.declared.selection.Bound.TheVariants as bounds
 use Rattle.jsonb_functions.specs.declared.selection.Selector.{Selector}
 use Rattle.jsonb_functions.specs.declared.selection.Selector.TheVariants as selectors
 use Rattle.jsonb_functions.specs.StoredPath.{StepView, key, index, from_end, step_then, step_view}
 
--- A step of a path with wildcards, without where its key is stored; a filter has the steps of its
--- path, the comparison and the tree to compare with.
+-- A term of a condition, without where its keys are stored; a test has the steps of its path, the
+-- comparison and the tree to compare with.
+pub data TermView : Type 0 where
+  tested : List StepView → Comparison → Tree → TermView
+  also : TermView
+  or_else : TermView
+  opens : TermView
+  opens_not : TermView
+  closes : TermView
+
+abbrev pub term_view : Term → TermView
+term_view (terms.Test t) = tested (map step_view t.path.items) t.comparison (node_tree t.value)
+term_view terms.And = also
+term_view terms.Or = or_else
+term_view terms.Open = opens
+term_view terms.OpenNot = opens_not
+term_view terms.Close = closes
+
+-- A step of a path with wildcards, without where its key is stored; a filter has the terms of its
+-- condition.
 pub data SelectorView : Type 0 where
   step : StepView → SelectorView
   all_items : SelectorView
   all_members : SelectorView
   range : Bound → Bound → SelectorView
-  filter : List StepView → Comparison → Tree → SelectorView
+  filter : List TermView → SelectorView
 
 abbrev pub selector_view : Selector → SelectorView
 selector_view (selectors.Key k) = step (key k.now)
@@ -37,8 +57,7 @@ selector_view (selectors.FromEnd i) = step (from_end i)
 selector_view selectors.AllItems = all_items
 selector_view selectors.AllMembers = all_members
 selector_view (selectors.Range first last) = range first last
-selector_view (selectors.Filter condition) =
-    filter (map step_view condition.path.items) condition.comparison (node_tree condition.value)
+selector_view (selectors.Filter condition) = filter (map term_view condition.terms.items)
 
 -- The step that leads to one value, if it is one.
 abbrev pub single_step : SelectorView → Option StepView
@@ -46,7 +65,7 @@ single_step (step s) = Some s
 single_step all_items = None
 single_step all_members = None
 single_step (range first last) = None
-single_step (filter path comparison t) = None
+single_step (filter ts) = None
 
 -- The steps of a path that each lead to one value, if each does.
 abbrev pub single_steps : List SelectorView → Option (List StepView)
@@ -166,26 +185,21 @@ abbrev pub IsWrittenStep : Bool → List ℕ → SelectorView → Type 0
 IsWrittenStep in_filter bytes s =
     (w : Written) × (bytes ≡ written_bytes w) × (written_step in_filter w ≡ Some s)
 
--- The bytes are these steps, each as `IsOne` says, and then the end.
-abbrev pub AreSteps : (List ℕ → SelectorView → Type 0) → List ℕ → List ℕ → List SelectorView
-    → Type 0
-AreSteps IsOne end bytes [] = bytes ≡ end
-AreSteps IsOne end bytes (s ∷ path) = (front : List ℕ) × (rest : List ℕ)
-    × (bytes ≡ front ++ rest) × IsOne front s × AreSteps IsOne end rest path
+-- The text begins with this step, which is no filter, and goes on so.
+abbrev pub BeginsWith : Bool → List ℕ → SelectorView → List ℕ → Type 0
+BeginsWith in_filter text s rest =
+    (front : List ℕ) × (text ≡ front ++ rest) × IsWrittenStep in_filter front s
 
--- A literal as it is written: a string between quotes, or a word.
-pub data Literal : Type 0 where
-  string : List ℕ → Literal
-  word : List ℕ → Literal
+-- The text is these steps, each as `Begins` says, and then the end.
+abbrev pub AreSteps : (List ℕ → SelectorView → List ℕ → Type 0) → List ℕ → List ℕ
+    → List SelectorView → Type 0
+AreSteps Begins end text [] = text ≡ end
+AreSteps Begins end text (s ∷ path) =
+    (rest : List ℕ) × Begins text s rest × AreSteps Begins end rest path
 
--- Its bytes: `"text"`, or the word.
-abbrev pub literal_bytes : Literal → List ℕ
-literal_bytes (string s) = 34 ∷ (s ++ (34 ∷ []))
-literal_bytes (word w) = w
-
--- A word has no control character, no space, no quote and no closing parenthesis.
+-- A word has no control character, no space, no quote, no `&`, no `|` and no closing parenthesis.
 abbrev pub is_in_word : ℕ → Bool
-is_in_word c = nat_lt 32 c && not (c == 34) && not (c == 41)
+is_in_word c = nat_lt 32 c && not (c == 34) && not (c == 38) && not (c == 41) && not (c == 124)
 
 -- Null, a truth value or a number.
 abbrev pub scalar_tree : Tree → Option Tree
@@ -197,11 +211,6 @@ scalar_tree t = None
 -- The word is null, a truth value or a number, with or without an exponent, as JSON spells it.
 abbrev pub IsLiteralWord : List ℕ → Tree → Type 0
 IsLiteralWord w t = JsonWithExponents (chars w) t × (scalar_tree t ≡ Some t)
-
--- The literal means the tree. There is no quote in a string.
-abbrev pub IsLiteral : Literal → Tree → Type 0
-IsLiteral (string s) t = (all_are (is_not 34) s ≡ true) × (t ≡ trees.text s)
-IsLiteral (word w) t = (all_are is_in_word w ≡ true) × IsLiteralWord w t
 
 -- The comparison that is written so, if it is one.
 abbrev pub comparison_in : List ℕ → Option Comparison
@@ -215,56 +224,118 @@ comparison_in c =
     else if bytes_eq c (codes ">=") then Some comparisons.GreaterOrEqual
     else None
 
--- A filter as it is written: the bytes of its path and of its comparison, its literal, and how many
--- spaces are before and after its `(`, and before its `)`.
-pub record WrittenFilter : Type 0 where
-  pub before_open : ℕ
-  pub after_open : ℕ
-  pub before_close : ℕ
-  pub path : List ℕ
-  pub comparison : List ℕ
-  pub literal : Literal
-
--- The bytes after its `?`: `(`, `@`, the path, a space, the comparison, a space, the literal, `)`
--- and the rest of the text.
-abbrev pub condition_bytes : WrittenFilter → List ℕ → List ℕ
-condition_bytes f rest = spaces f.before_open ++ (40 ∷ (spaces f.after_open ++ (64 ∷ (f.path
-    ++ (32 ∷ (f.comparison ++ (32 ∷ (literal_bytes f.literal
-    ++ (spaces f.before_close ++ (41 ∷ rest))))))))))
-
--- Its bytes.
-abbrev pub filter_bytes : WrittenFilter → List ℕ
-filter_bytes f = 63 ∷ condition_bytes f []
-
--- The filter means this step. There are no wildcards, ranges and filters in its path.
-pub record IsFilter (f : WrittenFilter) (s : SelectorView) : Type 0 where
-  pub path : List SelectorView
-  pub steps : List StepView
-  pub comparison : Comparison
-  pub value : Tree
-  pub is_path : AreSteps (IsWrittenStep true) [] f.path path
-  pub is_single : single_steps path ≡ Some steps
-  pub is_comparison : comparison_in f.comparison ≡ Some comparison
-  pub is_value : IsLiteral f.literal value
-  pub is : s ≡ filter steps comparison value
-
--- The bytes are those of this step, a filter with spaces before it.
-abbrev pub IsStep : List ℕ → SelectorView → Type 0
-IsStep bytes s = IsWrittenStep false bytes s
-    ⊎ ((n : ℕ) × (f : WrittenFilter) × (bytes ≡ spaces n ++ filter_bytes f) × IsFilter f s)
-
--- The text is `$` and these steps.
-abbrev pub PathText : List ℕ → List SelectorView → Type 0
-PathText text path = (rest : List ℕ) × (text ≡ 36 ∷ rest) × AreSteps IsStep [] rest path
-
--- The text begins with this step.
-abbrev pub BeginsWith : (List ℕ → SelectorView → Type 0) → List ℕ → SelectorView → List ℕ → Type 0
-BeginsWith IsOne text s rest = (front : List ℕ) × (text ≡ front ++ rest) × IsOne front s
-
 -- The bytes are none, or begin with one that does not pass the test.
 abbrev pub StopsAt : (ℕ → Bool) → List ℕ → Type 0
 StopsAt test [] = ⊤
 StopsAt test (c ∷ cs) = test c ≡ false
+
+-- The text begins with a filter's path and a space.
+abbrev pub IsFilterPath : List ℕ → List SelectorView → List ℕ → Type 0
+IsFilterPath text path rest = AreSteps (BeginsWith true) (32 ∷ rest) text path
+
+-- The text begins with a comparison and a space.
+abbrev pub IsComparison : List ℕ → Comparison → List ℕ → Type 0
+IsComparison text comparison rest = (c : List ℕ)
+    × (text ≡ c ++ (32 ∷ rest)) × (comparison_in c ≡ Some comparison)
+
+-- The text begins with a string between quotes, in which there is no quote.
+abbrev pub BeginsWithString : List ℕ → Tree → List ℕ → Type 0
+BeginsWithString text t rest = (s : List ℕ) × (text ≡ 34 ∷ (s ++ (34 ∷ rest)))
+    × (all_are (is_not 34) s ≡ true) × (t ≡ trees.text s)
+
+-- The text begins with a word, which goes as far as it can.
+abbrev pub BeginsWithWord : List ℕ → Tree → List ℕ → Type 0
+BeginsWithWord text t rest = (w : List ℕ) × (text ≡ w ++ rest)
+    × (all_are is_in_word w ≡ true) × (w ≡ [] → ⊥) × StopsAt is_in_word rest × IsLiteralWord w t
+
+-- The text begins with a literal: a string, or a word that means a scalar.
+abbrev pub BeginsWithLiteral : List ℕ → Tree → List ℕ → Type 0
+BeginsWithLiteral text t rest = BeginsWithString text t rest ⊎ BeginsWithWord text t rest
+
+-- The text begins with a test after its `@`: a path, a space, a comparison, a space and a literal.
+-- There are no wildcards, ranges and filters in its path.
+pub record BeginsWithTest (text : List ℕ) (t : TermView) (rest : List ℕ) : Type 0 where
+  pub path : List SelectorView
+  pub after_path : List ℕ
+  pub steps : List StepView
+  pub comparison : Comparison
+  pub after_comparison : List ℕ
+  pub value : Tree
+  pub is_path : IsFilterPath text path after_path
+  pub is_single : single_steps path ≡ Some steps
+  pub is_comparison : IsComparison after_path comparison after_comparison
+  pub is_value : BeginsWithLiteral after_comparison value rest
+  pub is : t ≡ tested steps comparison value
+
+-- What is after a byte, if it is the first one.
+abbrev pub tail_after : ℕ → List ℕ → Option (List ℕ)
+tail_after c [] = None
+tail_after c (d ∷ ds) = if d == c then Some ds else None
+
+abbrev pub if_after : Option (List ℕ) → (List ℕ → Option (List ℕ)) → Option (List ℕ)
+if_after None f = None
+if_after (Some rest) f = f rest
+
+-- What is after two such bytes.
+abbrev pub tail_after_two : ℕ → List ℕ → Option (List ℕ)
+tail_after_two c text = if_after (tail_after c text) (tail_after c)
+
+-- What is after `!`, spaces and `(`.
+abbrev pub tail_after_not : List ℕ → Option (List ℕ)
+tail_after_not text = if_after (tail_after 33 text) (λ rest. tail_after 40 (after_spaces rest))
+
+-- The mark with which the text begins, and what is after it.
+abbrev pub mark_or : Option (List ℕ) → TermView → Option (TermView × List ℕ)
+    → Option (TermView × List ℕ)
+mark_or None mark others = others
+mark_or (Some rest) mark others = Some (mark, rest)
+
+abbrev pub mark_in : List ℕ → Option (TermView × List ℕ)
+mark_in text =
+    mark_or (tail_after 40 text) opens
+    (mark_or (tail_after 41 text) closes
+    (mark_or (tail_after_two 38 text) also
+    (mark_or (tail_after_two 124 text) or_else
+    (mark_or (tail_after_not text) opens_not None))))
+
+-- The text begins with a term, after spaces: a test after `@`, or a mark.
+abbrev pub BeginsWithTerm : List ℕ → TermView → List ℕ → Type 0
+BeginsWithTerm text t rest =
+    ((inner : List ℕ) × (after_spaces text ≡ 64 ∷ inner) × BeginsWithTest inner t rest)
+    ⊎ (mark_in (after_spaces text) ≡ Some (t, rest))
+
+-- Whether a value is to come, and in how many groups, after a term where it can stand: a test or an
+-- open group where a value is to come, and else `&&`, `||`, or `)` in a group.
+abbrev pub state_after : Bool → ℕ → TermView → Option (Bool × ℕ)
+state_after true depth (tested path comparison t) = Some (false, depth)
+state_after true depth opens = Some (true, suc depth)
+state_after true depth opens_not = Some (true, suc depth)
+state_after false depth also = Some (true, depth)
+state_after false depth or_else = Some (true, depth)
+state_after false (suc depth) closes = Some (false, depth)
+state_after wants depth t = None
+
+-- The text begins with these terms, each where it can stand, and the `)` of the filter.
+abbrev pub AreTerms : Bool → ℕ → List ℕ → List TermView → List ℕ → Type 0
+AreTerms wants depth text [] rest =
+    (wants ≡ false) × (depth ≡ 0) × (after_spaces text ≡ 41 ∷ rest)
+AreTerms wants depth text (t ∷ ts) rest = (after : List ℕ) × (state : Bool × ℕ)
+    × BeginsWithTerm text t after × (state_after wants depth t ≡ Some state)
+    × AreTerms state.0 state.1 after ts rest
+
+-- The text is `(` after spaces, and then the terms of the filter and its `)`.
+abbrev pub IsFilter : List ℕ → SelectorView → List ℕ → Type 0
+IsFilter text s rest = (inner : List ℕ) × (ts : List TermView)
+    × (after_spaces text ≡ 40 ∷ inner) × AreTerms true 0 inner ts rest × (s ≡ filter ts)
+
+-- The text begins with this step: one that is no filter, or spaces, `?` and a filter.
+abbrev pub BeginsWithStep : List ℕ → SelectorView → List ℕ → Type 0
+BeginsWithStep text s rest = BeginsWith false text s rest
+    ⊎ ((condition : List ℕ) × (after_spaces text ≡ 63 ∷ condition) × IsFilter condition s rest)
+
+-- The text is `$` and these steps.
+abbrev pub PathText : List ℕ → List SelectorView → Type 0
+PathText text path = (rest : List ℕ) × (text ≡ 36 ∷ rest) × AreSteps BeginsWithStep [] rest path
 
 -- A name as it is ends before these bytes, or before the spaces with which they begin.
 abbrev pub EndsName : Bool → List ℕ → Type 0
@@ -283,17 +354,12 @@ name_len in_filter (c ∷ cs) =
     if is_in_name in_filter c then longer_name c (name_len in_filter cs) else 0
 
 -- The first step was read, and there is no other where a name as it is ends.
-pub record ReadsStep (IsOne : List ℕ → SelectorView → Type 0) (in_filter : Bool) (text : List ℕ)
-    (read : Option (Selector × Bor (List ℕ))) : Type 0 where
-  pub is : IfSome read (λ r. BeginsWith IsOne text (selector_view r.0) r.1.now)
-  pub only : (s : SelectorView) (rest : List ℕ) → BeginsWith IsOne text s rest
+pub record ReadsStep (Begins : List ℕ → SelectorView → List ℕ → Type 0) (in_filter : Bool)
+    (text : List ℕ) (read : Option (Selector × Bor (List ℕ))) : Type 0 where
+  pub is : IfSome read (λ r. Begins text (selector_view r.0) r.1.now)
+  pub only : (s : SelectorView) (rest : List ℕ) → Begins text s rest
       → EndsName in_filter rest
       → MatchOption read ⊥ (λ r. (selector_view r.0 ≡ s) × (r.1.now ≡ rest))
-
--- The bytes after the `@` with which the condition of a filter begins, after its `(`.
-abbrev pub IsBeginning : List ℕ → List ℕ → Type 0
-IsBeginning text rest = (inner : List ℕ) × (after_spaces text ≡ 40 ∷ inner)
-    × (after_spaces inner ≡ 64 ∷ rest)
 
 -- The beginning of a text was read, and there is no other reading.
 pub record Reads {A B : Type 0} (view : A → B) (Begins : B → List ℕ → Type 0)
@@ -306,16 +372,5 @@ pub record Reads {A B : Type 0} (view : A → B) (Begins : B → List ℕ → Ty
 abbrev pub path_view : Vec Selector → List SelectorView
 path_view path = map selector_view path.items
 
--- The text begins with a filter's path and a space.
-abbrev pub IsFilterPath : List ℕ → List SelectorView → List ℕ → Type 0
-IsFilterPath text path rest = AreSteps (IsWrittenStep true) (32 ∷ rest) text path
-
--- The text begins with a comparison and a space.
-abbrev pub IsComparison : List ℕ → Comparison → List ℕ → Type 0
-IsComparison text comparison rest = (c : List ℕ)
-    × (text ≡ c ++ (32 ∷ rest)) × (comparison_in c ≡ Some comparison)
-
--- The text begins with a literal, spaces and a closing parenthesis.
-abbrev pub BeginsWithLiteral : List ℕ → Tree → List ℕ → Type 0
-BeginsWithLiteral text t rest = (l : Literal) × (n : ℕ)
-    × (text ≡ literal_bytes l ++ (spaces n ++ (41 ∷ rest))) × IsLiteral l t
+abbrev pub terms_view : Vec Term → List TermView
+terms_view ts = map term_view ts.items

@@ -3,6 +3,8 @@ use Rattle.std.specs.Prelude.{ℕ, suc, ◌+◌, List, [], ◌∷◌, length, Op
 use Rattle.std.specs.List.{sum_by}
 use Rattle.jsonb_value.specs.Order.{extension_data}
 use Rattle.jsonb_value.specs.Tree.{Tree, text, extension, array, object, count, pair_count}
+use Rattle.jsonb_functions.specs.declared.filter.Term.{Term}
+use Rattle.jsonb_functions.specs.declared.filter.Term.TheVariants as terms
 use Rattle.jsonb_functions.specs.declared.path.Step.{Step}
 use Rattle.jsonb_functions.specs.declared.selection.Selector.{Selector}
 use Rattle.jsonb_functions.specs.declared.selection.Selector.TheVariants.{Filter}
@@ -27,11 +29,24 @@ abbrev pub extents : List Step → Tree → ℕ
 extents [] t = extent t
 extents (s ∷ path) t = extent t + number_there (child_at s t) (λ u. extents path u)
 
--- The steps to ask a selector of a tree: one, its extent, and for a filter those on the way of the
--- condition's path.
+-- The steps to ask a term of a tree: one, and for a test those on the way of its path.
+abbrev pub term_steps : Term → Tree → ℕ
+term_steps (terms.Test test) t = suc (extents test.path.items t)
+term_steps term t = 1
+
+-- The steps to ask a selector of a tree: one and its extent, and for a filter those of its terms.
 abbrev pub asked : Selector → Tree → ℕ
-asked (Filter condition) t = suc (extents condition.path.items t)
+asked (Filter condition) t = sum_by (λ term. term_steps term t) condition.terms.items
 asked s t = suc (extent t)
+
+-- How many selectors a path has, where each term of a filter counts as one.
+abbrev pub selector_size : Selector → ℕ
+selector_size (Filter condition) = length condition.terms.items
+selector_size s = 1
+
+abbrev pub path_size : List Selector → ℕ
+path_size [] = 0
+path_size (s ∷ path) = selector_size s + path_size path
 
 -- The steps to follow a path from a tree: to ask its first selector, and to follow the others from
 -- each child to which that leads.

@@ -26,6 +26,7 @@ pub use Rattle.jsonb_functions.specs.ArraySets.{are_equal, difference, distinct,
 pub use Rattle.jsonb_functions.specs.ArraySets.{intersection}
 pub use Rattle.jsonb_functions.specs.ArraySets.{matched_array, matched_items, overlaps, some_shared}
 pub use Rattle.jsonb_functions.specs.ChosenSource.{FirstKept, kept_pairs, listed_trees}
+pub use Rattle.jsonb_functions.specs.Conditions.{AnyOf, any_terms, meets_any}
 pub use Rattle.jsonb_functions.specs.Contains.{contained, contains_whole, has_top_key}
 pub use Rattle.jsonb_functions.specs.Contains.{items_contained, items_or_none, members_contained}
 pub use Rattle.jsonb_functions.specs.Contains.{is_there, some_tree}
@@ -34,7 +35,8 @@ pub use Rattle.jsonb_functions.specs.EditSource.{made_tree, operation_of, plan_s
 pub use Rattle.jsonb_functions.specs.Edited.{before_if, can_wrap, count_done, edited, edited_whole}
 pub use Rattle.jsonb_functions.specs.Edited.{here_at, here_missing, keys_before, makes_container}
 pub use Rattle.jsonb_functions.specs.Edited.{pairs_have_key, wrapped}
-pub use Rattle.jsonb_functions.specs.Filter.{compares, filtered, holds}
+pub use Rattle.jsonb_functions.specs.Filter.{after_open, after_term, compares, filtered, holds}
+pub use Rattle.jsonb_functions.specs.Filter.{passes, verdict_of}
 pub use Rattle.jsonb_functions.specs.Found.{child_at, found_at}
 pub use Rattle.jsonb_functions.specs.IndexHash.{AppendsSome, AreAmong, IsAmong, hash_64}
 pub use Rattle.jsonb_functions.specs.IndexHash.{items_hashes, members_hashes, tree_hashes}
@@ -52,17 +54,18 @@ pub use Rattle.jsonb_functions.specs.PatchSource.{next_keys_size, next_size, pat
 pub use Rattle.jsonb_functions.specs.Patched.{pairs_or_none, pairs_patched, patched}
 pub use Rattle.jsonb_functions.specs.Path.{is_next, item_place, position_view}
 pub use Rattle.jsonb_functions.specs.PathDocument.{path_tree, step_tree, stored_step}
-pub use Rattle.jsonb_functions.specs.PathText.{BeginsWithLiteral, EndsName, IsBeginning}
-pub use Rattle.jsonb_functions.specs.PathText.{IsComparison, IsFilterPath}
-pub use Rattle.jsonb_functions.specs.PathText.{IsLiteralWord, IsStep, IsWrittenStep, PathText}
-pub use Rattle.jsonb_functions.specs.PathText.{Reads, ReadsStep, SelectorView, StopsAt, all_are}
-pub use Rattle.jsonb_functions.specs.PathText.{after_spaces, bound_in, capped_number}
+pub use Rattle.jsonb_functions.specs.PathText.{AreTerms, BeginsWith, BeginsWithLiteral}
+pub use Rattle.jsonb_functions.specs.PathText.{BeginsWithStep, BeginsWithTerm, BeginsWithTest}
+pub use Rattle.jsonb_functions.specs.PathText.{EndsName, IsComparison, IsFilter, IsFilterPath}
+pub use Rattle.jsonb_functions.specs.PathText.{IsLiteralWord, PathText}
+pub use Rattle.jsonb_functions.specs.PathText.{Reads, ReadsStep, SelectorView, StopsAt, TermView}
+pub use Rattle.jsonb_functions.specs.PathText.{after_spaces, all_are, bound_in, capped_number}
 pub use Rattle.jsonb_functions.specs.PathText.{comparison_in, ends_in_space, from_end_of}
 pub use Rattle.jsonb_functions.specs.PathText.{is_in_name, is_in_word, is_not, is_space, item_at}
-pub use Rattle.jsonb_functions.specs.PathText.{member_step, name_len, path_view, place_in}
-pub use Rattle.jsonb_functions.specs.PathText.{range_in}
+pub use Rattle.jsonb_functions.specs.PathText.{mark_in, member_step, name_len, path_view, place_in}
+pub use Rattle.jsonb_functions.specs.PathText.{range_in, state_after, tail_after, tail_after_not}
 pub use Rattle.jsonb_functions.specs.PathText.{scalar_tree, selector_view, single_step}
-pub use Rattle.jsonb_functions.specs.PathText.{single_steps}
+pub use Rattle.jsonb_functions.specs.PathText.{single_steps, tail_after_two, term_view, terms_view}
 pub use Rattle.jsonb_functions.specs.Picked.{AreSorted, is_named, keeps, picked}
 pub use Rattle.jsonb_functions.specs.Selected.{children_at, chosen_trees, first_tree, first_trees}
 pub use Rattle.jsonb_functions.specs.Selected.{items_before, items_through, member_trees, selected}

@@ -37,7 +37,7 @@ pub use array_sets::{array_distinct, array_except, array_intersection, array_ove
 pub use choice::Kept;
 pub use containment::{contains, contains_within, exists};
 pub use edit::{Edit, edit_document};
-pub use filter::{Comparison, Condition, holds};
+pub use filter::{Comparison, Condition, Term, Test, holds};
 pub use found::get_path;
 pub use index::append_index_keys;
 pub use join::concat;

@@ -1,21 +1,23 @@
 //! Paths that are given as texts.
 
-ghost use Rattle.std.specs.Prelude.{◌≡◌, ◌↔◌, ◌∷◌, ◌++◌, ◌<◌, ℕ, List, IfErr, IfOk, MatchOption};
-ghost use Rattle.std.specs.Prelude.{Some, map, option_map, true, false};
+ghost use Rattle.std.specs.Prelude.{◌≡◌, ◌↔◌, ◌∷◌, ◌++◌, ◌<◌, ◌-◌, ◌^◌, ℕ, List, [], IfErr, IfOk};
+ghost use Rattle.std.specs.Prelude.{MatchOption, Some, map, option_map, true, false};
 ghost use Rattle.std.specs.List.{after_first, before_first, prefix_len};
-ghost use Rattle.jsonb_functions.specs.Words.{EndsName, IsBeginning, after_spaces, ends_in_space};
-ghost use Rattle.jsonb_functions.specs.Words.{name_len};
-ghost use Rattle.jsonb_functions.specs.Words.{BeginsWithLiteral, IsComparison, IsFilterPath};
-ghost use Rattle.jsonb_functions.specs.Words.{IsLiteralWord, IsStep, IsWrittenStep, PathText};
-ghost use Rattle.jsonb_functions.specs.Words.{Reads, ReadsStep, SelectorView, StopsAt, Tree};
-ghost use Rattle.jsonb_functions.specs.Words.{all_are, bound_in, comparison_in, from_end_of};
+ghost use Rattle.jsonb_functions.specs.Words.{AreTerms, BeginsWith, BeginsWithLiteral};
+ghost use Rattle.jsonb_functions.specs.Words.{BeginsWithStep, BeginsWithTerm, BeginsWithTest};
+ghost use Rattle.jsonb_functions.specs.Words.{EndsName, IsComparison, IsFilter, IsFilterPath};
+ghost use Rattle.jsonb_functions.specs.Words.{IsLiteralWord, PathText, Reads, ReadsStep};
+ghost use Rattle.jsonb_functions.specs.Words.{SelectorView, StopsAt, Tree, after_spaces, all_are};
+ghost use Rattle.jsonb_functions.specs.Words.{bound_in, comparison_in, ends_in_space, from_end_of};
 ghost use Rattle.jsonb_functions.specs.Words.{is_in_name, is_in_word, is_not, is_space, item_at};
-ghost use Rattle.jsonb_functions.specs.Words.{member_step, node_tree, path_view, place_in};
-ghost use Rattle.jsonb_functions.specs.Words.{range_in, scalar_tree, selector_view, single_step};
-ghost use Rattle.jsonb_functions.specs.Words.{single_steps, step_view, tree_of};
+ghost use Rattle.jsonb_functions.specs.Words.{mark_in, member_step, name_len, node_tree};
+ghost use Rattle.jsonb_functions.specs.Words.{path_view, place_in, range_in, scalar_tree};
+ghost use Rattle.jsonb_functions.specs.Words.{selector_view, single_step, single_steps};
+ghost use Rattle.jsonb_functions.specs.Words.{state_after, step_view, tail_after, tail_after_not};
+ghost use Rattle.jsonb_functions.specs.Words.{tail_after_two, term_view, terms_view, tree_of};
 
 use crate::digits::read_number;
-use crate::filter::{Comparison, Condition};
+use crate::filter::{Comparison, Condition, Term, Test};
 use crate::path::Step;
 use crate::selection::{Bound, Selector};
 use jsonb::layer::parse_scalar;
@@ -36,6 +38,10 @@ use std::alloc::Global;
 /// as in `$ ? ( @.price < 3 )`. The comparison is `==`, `!=` or `<>`, `<`, `<=`, `>` or `>=`, with
 /// one space before and after it. The literal is `null`, `true`, `false`, a JSON
 /// number, read exactly, with or without an exponent, or a string without quotes and escapes in it.
+///
+/// `&&` and `||` join comparisons, where `&&` binds more: `?(@.price < 3 && @.size == "L")`. `(`
+/// and `)` group them, and `!(` and `)` turn what is between them: `?(!(@.price < 3 || @.old ==
+/// true))`. There may be spaces before each of these.
 ///
 /// `None` for any other text; `OutOfMemory`, the only error, if an allocation fails.
 pub fn read_path_text<'a>(alloc: Global, text: &'a str) -> Result<Option<Vec<Selector<'a>>>, Error>
@@ -94,7 +100,7 @@ fn step_of<'a>(selector: &Selector<'a>) -> Option<Step<'a>>
 
 // The first step of a text, and what is after it.
 fn read_step<'a>(alloc: Global, text: &'a str) -> Result<Option<(Selector<'a>, &'a str)>, Error>
-    ensures ok { IfOk result (ReadsStep IsStep false text.now) }
+    ensures ok { IfOk result (ReadsStep BeginsWithStep false text.now) }
     ensures memory { IfErr result (λ e. e ≡ Error.OutOfMemory) }
 {
     match after_char(after_spaces(text), '?') {
@@ -118,7 +124,7 @@ fn after_spaces(text: &str) -> &str
 // A step that is not a filter, and what is after it. In a filter, a name as it is ends before a
 // space too.
 fn read_written<'a>(text: &'a str, in_filter: bool) -> Option<(Selector<'a>, &'a str)>
-    ensures { ReadsStep (IsWrittenStep in_filter) in_filter text.now result }
+    ensures { ReadsStep (BeginsWith in_filter) in_filter text.now result }
 {
     if let Some(name) = after_char(text, '.') {
         return read_member(name, in_filter);
@@ -129,7 +135,7 @@ fn read_written<'a>(text: &'a str, in_filter: bool) -> Option<(Selector<'a>, &'a
 
 // A step after a point, and what is after it.
 fn read_member<'a>(text: &'a str, in_filter: bool) -> Option<(Selector<'a>, &'a str)>
-    ensures { ReadsStep (IsWrittenStep in_filter) in_filter (46 ∷ text.now) result }
+    ensures { ReadsStep (BeginsWith in_filter) in_filter (46 ∷ text.now) result }
 {
     match after_char(text, '"') {
         Some(quoted) => read_quoted(quoted, in_filter),
@@ -139,7 +145,7 @@ fn read_member<'a>(text: &'a str, in_filter: bool) -> Option<(Selector<'a>, &'a 
 
 // A key up to a quote, and what is after that.
 fn read_quoted<'a>(text: &'a str, in_filter: bool) -> Option<(Selector<'a>, &'a str)>
-    ensures { ReadsStep (IsWrittenStep in_filter) in_filter (46 ∷ (34 ∷ text.now)) result }
+    ensures { ReadsStep (BeginsWith in_filter) in_filter (46 ∷ (34 ∷ text.now)) result }
 {
     match split_at(text, '"') {
         Some((name, rest)) => Some((Selector::Key(name), rest)),
@@ -150,7 +156,7 @@ fn read_quoted<'a>(text: &'a str, in_filter: bool) -> Option<(Selector<'a>, &'a 
 // A key as it is, or the step to each member, and what is after it.
 fn read_plain<'a>(text: &'a str, in_filter: bool) -> Option<(Selector<'a>, &'a str)>
     requires { (rest : List ℕ) → text.now ≡ 34 ∷ rest → ⊥ }
-    ensures { ReadsStep (IsWrittenStep in_filter) in_filter (46 ∷ text.now) result }
+    ensures { ReadsStep (BeginsWith in_filter) in_filter (46 ∷ text.now) result }
 {
     let (name, rest) = split_name(text, in_filter);
     if name.is_empty() {
@@ -230,7 +236,7 @@ fn split_at(text: &str, end: char) -> Option<(&str, &str)>
 
 // A step up to a closing bracket, and what is after that.
 fn read_bracketed<'a>(text: &'a str, in_filter: bool) -> Option<(Selector<'a>, &'a str)>
-    ensures { ReadsStep (IsWrittenStep in_filter) in_filter (91 ∷ text.now) result }
+    ensures { ReadsStep (BeginsWith in_filter) in_filter (91 ∷ text.now) result }
 {
     match split_at(text, ']') {
         Some((place, rest)) => match read_place(place) {
@@ -316,16 +322,146 @@ fn bound_from_end(number: usize) -> Bound
 
 // A filter after its question mark, and what is after it.
 fn read_filter<'a>(alloc: Global, text: &'a str) -> Result<Option<(Selector<'a>, &'a str)>, Error>
-    ensures ok { IfOk result (ReadsStep IsStep false (63 ∷ text.now)) }
+    ensures ok { IfOk result (Reads selector_view (IsFilter text.now)) }
     ensures memory { IfErr result (λ e. e ≡ Error.OutOfMemory) }
 {
-    let Some(condition) = after_beginning(text) else {
+    let Some(inner) = after_char(after_spaces(text), '(') else {
         return Ok(None);
     };
-    let Some((path, rest)) = read_filter_path(alloc, condition)? else {
+    let Some((terms, rest)) = read_terms(alloc, inner)? else {
         return Ok(None);
     };
-    let Some(steps) = steps_of_path(alloc, &path)? else {
+    Ok(Some((Selector::Filter(Condition { terms }), rest)))
+}
+
+// The terms of a filter, and what is after its closing parenthesis.
+fn read_terms<'a>(alloc: Global, text: &'a str) -> Result<Option<(Vec<Term<'a>>, &'a str)>, Error>
+    ensures ok { IfOk result (Reads terms_view (AreTerms true 0 text.now)) }
+    ensures memory { IfErr result (λ e. e ≡ Error.OutOfMemory) }
+{
+    let mut terms = Vec::new(alloc);
+    let mut wants_value = true;
+    let mut depth = 0;
+    let mut left = text;
+    loop {
+        if let Some(rest) = after_last(left, wants_value, depth) {
+            return Ok(Some((terms, rest)));
+        }
+        let Some((term, rest)) = read_term(alloc, left)? else {
+            return Ok(None);
+        };
+        let Some((wants_next, depth_next)) = state_after(wants_value, depth, &term) else {
+            return Ok(None);
+        };
+        terms.push(term)?;
+        wants_value = wants_next;
+        depth = depth_next;
+        left = rest;
+    }
+}
+
+// The text after the parenthesis that closes a filter, `None` if a term is missing before it or a
+// group is open.
+fn after_last(text: &str, wants_value: bool, depth: usize) -> Option<&str>
+    ensures { MatchOption result ((rest : List ℕ) → AreTerms wants_value depth text.now [] rest → ⊥)
+        (λ rest. AreTerms wants_value depth text.now [] rest.now) }
+{
+    if wants_value || depth > 0 {
+        return None;
+    }
+    after_char(after_spaces(text), ')')
+}
+
+// After a term: whether a value has to follow, and how many groups are open. `None` if the term is
+// not allowed at its position.
+fn state_after(wants_value: bool, depth: usize, term: &Term<'_>) -> Option<(bool, usize)>
+    requires { depth < 2 ^ 64 - 1 }
+    ensures { result ≡ state_after wants_value depth (term_view term.now) }
+{
+    match (wants_value, term) {
+        (true, Term::Test(_)) => Some((false, depth)),
+        (true, Term::Open | Term::OpenNot) => Some((true, depth + 1)),
+        (false, Term::And | Term::Or) => Some((true, depth)),
+        (false, Term::Close) => match depth {
+            0 => None,
+            deep => Some((false, deep - 1)),
+        },
+        _ => None,
+    }
+}
+
+// A term of a condition, and what is after it.
+fn read_term<'a>(alloc: Global, text: &'a str) -> Result<Option<(Term<'a>, &'a str)>, Error>
+    ensures ok { IfOk result (Reads term_view (BeginsWithTerm text.now)) }
+    ensures memory { IfErr result (λ e. e ≡ Error.OutOfMemory) }
+{
+    let start = after_spaces(text);
+    match after_char(start, '@') {
+        Some(test) => read_test(alloc, test),
+        None => Ok(read_mark(start)),
+    }
+}
+
+// A term that is no test, and what is after it.
+fn read_mark<'a>(text: &'a str) -> Option<(Term<'a>, &'a str)>
+    ensures { option_map (λ r. (term_view r.0, r.1.now)) result ≡ mark_in text.now }
+{
+    if let Some(rest) = tail_after(text, '(') {
+        return Some((Term::Open, rest));
+    }
+    if let Some(rest) = tail_after(text, ')') {
+        return Some((Term::Close, rest));
+    }
+    if let Some(rest) = tail_after_two(text, '&') {
+        return Some((Term::And, rest));
+    }
+    if let Some(rest) = tail_after_two(text, '|') {
+        return Some((Term::Or, rest));
+    }
+    match tail_after_not(text) {
+        Some(rest) => Some((Term::OpenNot, rest)),
+        None => None,
+    }
+}
+
+// What is after a character, if it is the first one.
+fn tail_after(text: &str, first: char) -> Option<&str>
+    requires { first < 128 }
+    ensures { option_map (λ rest. rest.now) result ≡ tail_after first text.now }
+{
+    after_char(text, first)
+}
+
+// What is after two such characters, if they are the first ones.
+fn tail_after_two(text: &str, first: char) -> Option<&str>
+    requires { first < 128 }
+    ensures { option_map (λ rest. rest.now) result ≡ tail_after_two first text.now }
+{
+    match tail_after(text, first) {
+        Some(rest) => tail_after(rest, first),
+        None => None,
+    }
+}
+
+// What is after `!`, spaces and an opening parenthesis.
+fn tail_after_not(text: &str) -> Option<&str>
+    ensures { option_map (λ rest. rest.now) result ≡ tail_after_not text.now }
+{
+    match tail_after(text, '!') {
+        Some(rest) => tail_after(after_spaces(rest), '('),
+        None => None,
+    }
+}
+
+// A test after its `@`, and what is after it.
+fn read_test<'a>(alloc: Global, text: &'a str) -> Result<Option<(Term<'a>, &'a str)>, Error>
+    ensures ok { IfOk result (Reads term_view (BeginsWithTest text.now)) }
+    ensures memory { IfErr result (λ e. e ≡ Error.OutOfMemory) }
+{
+    let Some((path, rest)) = read_filter_path(alloc, text)? else {
+        return Ok(None);
+    };
+    let Some(path) = steps_of_path(alloc, &path)? else {
         return Ok(None);
     };
     let Some((comparison, rest)) = read_comparison(rest) else {
@@ -334,21 +470,12 @@ fn read_filter<'a>(alloc: Global, text: &'a str) -> Result<Option<(Selector<'a>,
     let Some((value, rest)) = read_literal(alloc, rest)? else {
         return Ok(None);
     };
-    let condition = Condition {
-        path: steps,
+    let test = Test {
+        path,
         comparison,
         value,
     };
-    Ok(Some((Selector::Filter(condition), rest)))
-}
-
-// What is after the beginning of a filter.
-fn after_beginning(text: &str) -> Option<&str>
-    ensures { MatchOption result ((rest : List ℕ) → IsBeginning text.now rest → ⊥)
-        (λ rest. IsBeginning text.now rest.now) }
-{
-    let rest = after_char(after_spaces(text), '(')?;
-    after_char(after_spaces(rest), '@')
+    Ok(Some((Term::Test(test), rest)))
 }
 
 // The steps before a space, and what is after that.
@@ -401,7 +528,7 @@ fn comparison_in(word: &str) -> Option<Comparison>
     }
 }
 
-// A literal before a closing parenthesis, and what is after that.
+// A literal, and what is after it.
 fn read_literal<'a>(alloc: Global, text: &'a str) -> Result<Option<(Node<'a>, &'a str)>, Error>
     ensures ok { IfOk result (Reads node_tree (BeginsWithLiteral text.now)) }
     ensures memory { IfErr result (λ e. e ≡ Error.OutOfMemory) }
@@ -412,37 +539,26 @@ fn read_literal<'a>(alloc: Global, text: &'a str) -> Result<Option<(Node<'a>, &'
     }
 }
 
-// What is after spaces and a closing parenthesis.
-fn after_closing(text: &str) -> Option<&str>
-    ensures { MatchOption result ((rest : List ℕ) → after_spaces text.now ≡ 41 ∷ rest → ⊥)
-        (λ rest. after_spaces text.now ≡ 41 ∷ rest.now) }
-{
-    after_char(after_spaces(text), ')')
-}
-
-// A string before a quote and a closing parenthesis, and what is after these.
+// A string before a quote, and what is after that.
 fn read_string<'a>(text: &'a str) -> Option<(Node<'a>, &'a str)>
     ensures { Reads node_tree (BeginsWithLiteral (34 ∷ text.now)) result }
 {
     match split_at(text, '"') {
-        Some((value, rest)) => match after_closing(rest) {
-            Some(rest) => Some((Node::String(value), rest)),
-            None => None,
-        },
+        Some((value, rest)) => Some((Node::String(value), rest)),
         None => None,
     }
 }
 
-// A word before a closing parenthesis, and what is after that.
+// A word, and what is after it.
 fn read_word<'a>(alloc: Global, text: &'a str) -> Result<Option<(Node<'a>, &'a str)>, Error>
     requires { (rest : List ℕ) → text.now ≡ 34 ∷ rest → ⊥ }
     ensures ok { IfOk result (Reads node_tree (BeginsWithLiteral text.now)) }
     ensures memory { IfErr result (λ e. e ≡ Error.OutOfMemory) }
 {
     let (word, rest) = split_word(text);
-    let Some(rest) = after_closing(rest) else {
+    if word.is_empty() {
         return Ok(None);
-    };
+    }
     match read_scalar(alloc, word)? {
         Some(value) => Ok(Some((value, rest))),
         None => Ok(None),
@@ -467,12 +583,12 @@ fn word_len(text: &str) -> usize
     bytes.iter().take_while(|byte| is_in_word(**byte)).count()
 }
 
-// Whether a byte can be in a word: a control character, a space, a quote or a closing parenthesis
-// cannot.
+// Whether a byte can be in a word: a control character, a space, a quote, `&`, `|` or a closing
+// parenthesis cannot.
 fn is_in_word(byte: u8) -> bool
     ensures { result ≡ is_in_word byte }
 {
-    byte > b' ' && byte != b'"' && byte != b')'
+    byte > b' ' && !matches!(byte, b'"' | b'&' | b')' | b'|')
 }
 
 // The value of a word: null, a truth value or a number, as JSON spells it.

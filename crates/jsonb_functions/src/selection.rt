@@ -1,8 +1,10 @@
 //! The values that paths with wildcards select.
 
 ghost use Rattle.std.specs.Prelude.{◌≡◌, ◌++◌, ◌∷◌, [], ◌*◌, ◌<◌, ◌≤◌, IfErr, IfNone, IfOk};
-ghost use Rattle.std.specs.Prelude.{IfSome, OnOk, drop, is_some, length, map, option_map};
-ghost use Rattle.jsonb_functions.specs.SelectSteps.{asked, extents, select_steps};
+ghost use Rattle.std.specs.Prelude.{IfSome, OnOk, drop, is_some, map, option_map};
+ghost use Rattle.jsonb_functions.specs.SelectSteps.{asked, extents, path_size, select_steps};
+ghost use Rattle.jsonb_functions.specs.SelectSteps.{term_steps};
+ghost use Rattle.std.specs.List.{sum_by};
 ghost use Rattle.jsonb_functions.specs.Steps.{Takes};
 ghost use Rattle.jsonb_functions.specs.Words.{YieldsFirstBy, children_at, chosen_trees};
 ghost use Rattle.jsonb_functions.specs.Words.{document_tree, filtered, first_tree, first_trees};
@@ -11,7 +13,7 @@ ghost use Rattle.jsonb_functions.specs.Words.{member_trees, node_tree, rest_tree
 ghost use Rattle.jsonb_functions.specs.Words.{tree_list, trees_between, weight};
 
 use crate::extent::extent_of;
-use crate::filter::{Condition, holds};
+use crate::filter::{Condition, Term, holds};
 use crate::found::child_of;
 use crate::path::Step;
 use crate::steps::{Unanswered, take};
@@ -75,10 +77,11 @@ pub fn select<'a>(
 
 /// The values that `select` returns, unless that takes more than so many steps. There is a step for
 /// each value that a selector is asked of, and one for each of its items or members, or of the
-/// bytes of a text, or of binary or opaque data; a filter also takes one for each item, member or
-/// byte of each value on the way of its condition's path. So `$.*?(@ > 1)` takes 3 of `{"a":2}`:
-/// for the object, its member, and the number. `None` if the steps do not suffice, which is so only
-/// if they are fewer than the selectors times the document's weight, which is the number of its
+/// bytes of a text, or of binary or opaque data. A filter takes one for each term of its condition,
+/// and for a test also one for each item, member or byte of each value on the way of its path. So
+/// `$.*?(@ > 1)` takes 3 of `{"a":2}`: for the object, its member, and the test of the number.
+/// `None` if the steps do not suffice, which is so only if they are fewer than the selectors, where
+/// a filter counts for each of its terms, times the document's weight, which is the number of its
 /// values and keys, and of the bytes of texts, keys, and binary and opaque values. `OutOfMemory` is
 /// the only error.
 #[tactic(auto, using(crate::proofs::SelectStepLaws::steps_within))]
@@ -97,7 +100,7 @@ pub fn select_within<'a>(
 
     // So many steps always suffice.
     ensures most { select_steps path.now (document_tree document.entry)
-        ≤ length path.now * weight (document_tree document.entry) }
+        ≤ path_size path.now * weight (document_tree document.entry) }
     ensures memory { IfErr result (λ e. e ≡ Error.OutOfMemory) }
 {
     let mut found = Vec::new(alloc);
@@ -184,10 +187,36 @@ fn append_found<'a>(node: Node<'a>, found: &mut Vec<Node<'a>>) -> Result<(), Una
 fn ask(node: Node<'_>, selector: &Selector<'_>, steps: &mut u128) -> Result<(), Unanswered>
     ensures { Takes result (asked selector.now (node_tree node.entry)) steps.old steps.new }
 {
-    take(steps, 1)?;
     match selector {
-        Selector::Filter(condition) => follow(node, &condition.path, steps),
-        _ => take(steps, extent_of(node)),
+        Selector::Filter(condition) => ask_terms(node, &condition.terms, steps),
+        _ => {
+            take(steps, 1)?;
+            take(steps, extent_of(node))
+        }
+    }
+}
+
+// Takes the steps for the terms of a condition.
+fn ask_terms(node: Node<'_>, terms: &[Term<'_>], steps: &mut u128) -> Result<(), Unanswered>
+    ensures { Takes result (sum_by (λ term. term_steps term (node_tree node.entry)) terms.now)
+        steps.old steps.new }
+{
+    let mut left = terms;
+    while let [term, rest @ ..] = left {
+        ask_term(node, term, steps)?;
+        left = rest;
+    }
+    Ok(())
+}
+
+// Takes the steps for a term of a condition.
+fn ask_term(node: Node<'_>, term: &Term<'_>, steps: &mut u128) -> Result<(), Unanswered>
+    ensures { Takes result (term_steps term.now (node_tree node.entry)) steps.old steps.new }
+{
+    take(steps, 1)?;
+    match term {
+        Term::Test(test) => follow(node, &test.path, steps),
+        _ => Ok(()),
     }
 }
 

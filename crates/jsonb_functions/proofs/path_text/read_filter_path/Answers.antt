@@ -1,5 +1,5 @@
 use Rattle.std.proofs.Common.{rules, true}
-use Rattle.jsonb_functions.specs.PathText.{IsWrittenStep}
+use Rattle.jsonb_functions.specs.PathText.{BeginsWith}
 use Rattle.jsonb_functions.proofs.PathLaws.{filter_path_none, filter_path_read, path_begins}
 use Rattle.jsonb_functions.proofs.PathLaws.{read_on}
 use Rattle.jsonb_functions.proofs.path_text.read_filter_path.Goals as goal
@@ -17,7 +17,7 @@ returns-in_default-read_written-clause-ok c =
 pub loop-rest-preserved : goal.loop-rest-preserved
 loop-rest-preserved c = (
   search rules,
-  read_on (IsWrittenStep true) true path_begins c.args.text.now c.loop-rest.left.now
+  read_on (BeginsWith true) true path_begins c.args.text.now c.loop-rest.left.now
       c.in-Some-read_written.rest c.loop-rest.steps.items c.push.new.self.items
       c.in-Some-read_written.selector (λ ends. c.in_default.ensures ends.0 ends.1)
       c.in-Some-read_written.ensures c.in_ok-push.ensures.items c.loop-rest.invariant.1,

@@ -2,13 +2,13 @@
 use Rattle.std.proofs.Common.{true, length}
 use denote.Text.{Utf8}
 use denote.Shadow.{shadow}
-use Rattle.jsonb_functions.specs.PathText.{IsWrittenStep}
+use Rattle.jsonb_functions.specs.PathText.{BeginsWith}
 use Rattle.jsonb_functions.proofs.PathLaws.{IsRead}
 use Rattle.jsonb_functions.proofs.path_text.read_filter_path.Given as goal
 
 abbrev pub invariant-loop-rest : goal.invariant-loop-rest
 invariant-loop-rest l =
-    shadow (Utf8 l.left) × IsRead (IsWrittenStep true) true l.fn.text l.left l.steps.items
+    shadow (Utf8 l.left) × IsRead (BeginsWith true) true l.fn.text l.left l.steps.items
 
 abbrev pub decreases-loop-rest : goal.decreases-loop-rest
 decreases-loop-rest l = length l.left

@@ -1,5 +1,7 @@
-use Rattle.std.proofs.Common.{false, rules}
-use Rattle.jsonb_functions.specs.PathText.{IsStep}
+use Rattle.std.proofs.Common.{arith, false, rules}
+use Rattle.jsonb_functions.specs.PathText.{BeginsWithStep}
+use Rattle.jsonb_functions.specs.PathText.{selector_view}
+use Rattle.jsonb_functions.proofs.TermLaws.{step_shorter}
 use Rattle.jsonb_functions.proofs.PathLaws.{all_read, first_read, none_text, read_on}
 use Rattle.jsonb_functions.proofs.PathLaws.{step_begins}
 use Rattle.jsonb_functions.proofs.PathStepLaws.{no_bytes, all_bytes}
@@ -11,7 +13,7 @@ loop-left-init c = (
   (
     c.in-Some.start.now,
     c.in-Some.ensures,
-    rw c.new-path.ensures.items (first_read IsStep false step_begins c.in-Some.start.now),
+    rw c.new-path.ensures.items (first_read BeginsWithStep false step_begins c.in-Some.start.now),
   ),
 )
 
@@ -29,7 +31,7 @@ loop-left-preserved c =
       (
         read.0,
         read.1,
-        read_on IsStep false step_begins read.0 c.loop-left.left.now c.in-Some-2.rest
+        read_on BeginsWithStep false step_begins read.0 c.loop-left.left.now c.in-Some-2.rest
             c.loop-left.path.items c.push.new.self.items c.in-Some-2.selector
             (no_bytes c.loop-left.left.now c.loop-left-test.ensures)
             (rw c.in-Some-2.is at c.in_ok-selector.ensures.ok) c.in_ok-push.ensures.items read.2,
@@ -41,3 +43,12 @@ returns-clause-ok c =
     let read = c.loop-left.invariant.1 in
     all_read c.args.text.now read.0 c.loop-left.left.now c.loop-left.path.items read.1
     (all_bytes c.loop-left.left.now c.loop-left-test.ensures) read.2
+
+pub loop-left-smaller : goal.loop-left-smaller
+loop-left-smaller c =
+    let step = rw c.in-Some-2.is at c.in_ok-selector.ensures.ok in
+    omega (
+      arith,
+      step_shorter c.loop-left.left.now (selector_view c.in-Some-2.selector) c.in-Some-2.rest.now
+          step.is,
+    )

@@ -1,10 +1,10 @@
 use Rattle.std.proofs.Common.{sym, ◌∙◌}
-use Rattle.jsonb_functions.proofs.FilterTextLaws.{if_spaced, no_filter}
+use Rattle.jsonb_functions.proofs.PathLaws.{if_filter, no_filter}
 use Rattle.jsonb_functions.proofs.path_text.read_step.Goals as goal
 
 pub returns-in-Some-clause-ok : goal.returns-in-Some-clause-ok
 returns-in-Some-clause-ok c =
-    if_spaced c.args.text.now c.in-Some.condition.now c.read_filter.result
+    if_filter c.args.text.now c.in-Some.condition.now c.read_filter.result
     (sym c.after_spaces.ensures ∙ c.in-Some.ensures) c.read_filter.ensures.ok
 
 pub returns-in-None-clause-ok : goal.returns-in-None-clause-ok
