@@ -25,7 +25,8 @@
  * ORDER: if a call has several reasons to refuse, KOHIBLAD_OVERLAP comes first. Then come texts,
  * keys and names that are not UTF-8, in calls with a depth bytes that are not documents within it,
  * what is of another kind, what is past a limit of the format, and last KOHIBLAD_NO_ROOM. The calls
- * that differ say so: kohiblad_parse, kohiblad_text_fault, kohiblad_build_object and kohiblad_sort.
+ * that differ say so: kohiblad_parse, kohiblad_text_fault, kohiblad_build_object, kohiblad_sort and
+ * the kohiblad_take calls.
  * KOHIBLAD_OUT_OF_MEMORY comes after the tests for UTF-8 and documents, and in place of any status
  * that would be found later.
  *
@@ -247,6 +248,62 @@ struct kohiblad_extension_value {
     int32_t seconds; /* of a timestamp with a zone: the zone's offset */
     uint64_t offset; /* of the data */
     uint64_t length; /* of the data */
+};
+
+/* When a number fits a column of numbers. */
+enum kohiblad_fit {
+    KOHIBLAD_BY_VALUE = 0, /* if it equals the value: 1.5 and 2 fit scale 2 */
+    KOHIBLAD_EXACT = 1     /* if the value gives its kind and digits back: 1.50 fits scale 2 */
+};
+
+/* What a row has in a column of one type. */
+enum kohiblad_row_state {
+    KOHIBLAD_ROW_ABSENT = 0,     /* no member, or the row has no bytes */
+    KOHIBLAD_ROW_VALUE = 1,      /* a value */
+    KOHIBLAD_ROW_NULL = 2,       /* null */
+    KOHIBLAD_ROW_UNFIT = 3,      /* another member, which is no value of the type */
+    KOHIBLAD_ROW_NO_DOCUMENT = 4 /* bytes that are not a document */
+};
+
+/* A whole number of 128 bits, high * 2^64 + low. Where the least byte comes first, as on x86-64,
+ * its bytes are those of Arrow's decimal128. */
+struct kohiblad_int128 {
+    uint64_t low;
+    int64_t high;
+};
+
+/* The rows of a column that are unfit or no document: how many, and the first of them. */
+struct kohiblad_taken {
+    uint32_t status;
+    uint64_t unfit;
+    uint64_t first_unfit; /* the number of rows, if there is none */
+};
+
+/* What the members of rows are: in how many rows they are what a count is named after. */
+struct kohiblad_survey_counts {
+    uint32_t status;
+    uint32_t least_scale;    /* the least and the greatest number of digits after the point */
+    uint32_t greatest_scale;
+    uint64_t most_digits;    /* of a number, written without its point */
+    uint64_t longest_text;   /* in bytes */
+    uint64_t rows;
+    uint64_t not_documents;
+    uint64_t absent;
+    uint64_t nulls;
+    uint64_t booleans;
+    uint64_t int64s;         /* numbers by the kind in which they are stored: */
+    uint64_t uint64s;        /* whole numbers that are not negative are mostly of this one */
+    uint64_t decimal64s;
+    uint64_t decimal128s;
+    uint64_t texts;
+    uint64_t binaries;
+    uint64_t dates;
+    uint64_t timestamps;
+    uint64_t zoned_timestamps;
+    uint64_t intervals;
+    uint64_t opaques;
+    uint64_t arrays;
+    uint64_t objects;
 };
 
 /* The version number of the library: a million per major, a thousand per minor and one per patch
@@ -673,6 +730,80 @@ static inline uint32_t kohiblad_member_key(const uint8_t *bytes, size_t size,
 static inline uint32_t kohiblad_sort(const uint8_t *bytes, size_t size, const size_t *offsets,
     size_t count, size_t depth, size_t *order, size_t room) KOHIBLAD_INLINE("kohiblad_sort");
 
+/* Counts what the members of rows at the end of a path are: numbers by the kind in which they are
+ * stored, and rows without the member. A row of no bytes has no member, and one that is not a
+ * document of at most this depth has a count of its own. Beside the counts are the least and the
+ * greatest number of digits after the point, the most digits of a number without its point, and the
+ * longest text in bytes; each is 0 if there is no number or text. `path` is the document of a path,
+ * as kohiblad_get_path takes it. INVALID_EOF if an offset is below the previous one or beyond the
+ * bytes; then INVALID_JSONB if the path is not a document of at most this depth; OTHER_KIND if it
+ * is not an array of texts and whole numbers of 64 bits; OUT_OF_MEMORY if an allocation fails,
+ * which only the path makes. If the status is not OK, all fields are 0. */
+static inline struct kohiblad_survey_counts kohiblad_survey(const uint8_t *bytes, size_t size,
+    const size_t *offsets, size_t count, const uint8_t *path, size_t path_size, size_t depth)
+    KOHIBLAD_INLINE("kohiblad_survey");
+
+/* Takes the members of rows at the end of a path as whole numbers of 64 bits with a sign. For row
+ * k, which begins at `offsets[k]` and ends at `offsets[k + 1]`, `values[k]` is the number, and
+ * `states[k]` is 1; or the value is 0, and the state 0 if the row has no such member or no bytes, 2
+ * if the member is null, 3 if it is no such number, and 4 if the row is not a document of at most
+ * this depth. With KOHIBLAD_BY_VALUE a number is taken if it equals the value, as 2.0 equals 2;
+ * otherwise only if it is stored in the kind that the value's digits have in a JSON text. `path` is
+ * the document of a path, as kohiblad_get_path takes it. The answer counts the rows of states 3 and
+ * 4, and names the first of them, or their number if there is none. INVALID_EOF if an offset is
+ * below the previous one or beyond the bytes; then INVALID_JSONB if the path is not a document of
+ * at most this depth; then NO_ROOM if `values` or `states` has fewer places than there are rows;
+ * OTHER_KIND if the path is not an array of texts and whole numbers of 64 bits; OUT_OF_MEMORY if an
+ * allocation fails, which only the path makes. If the status is not OK, `values` and `states` are
+ * unchanged, and the counts are 0. */
+static inline struct kohiblad_taken kohiblad_take_int64(const uint8_t *bytes, size_t size,
+    const size_t *offsets, size_t count, const uint8_t *path, size_t path_size, size_t depth,
+    uint32_t fit, int64_t *values, size_t room, uint8_t *states, size_t states_room)
+    KOHIBLAD_INLINE("kohiblad_take_int64");
+
+/* Takes the members of rows at the end of a path as whole numbers of 64 bits without a sign. All
+ * else is as kohiblad_take_int64 has it. */
+static inline struct kohiblad_taken kohiblad_take_uint64(const uint8_t *bytes, size_t size,
+    const size_t *offsets, size_t count, const uint8_t *path, size_t path_size, size_t depth,
+    uint32_t fit, uint64_t *values, size_t room, uint8_t *states, size_t states_room)
+    KOHIBLAD_INLINE("kohiblad_take_uint64");
+
+/* Takes the members of rows at the end of a path as decimals with `scale` digits after the point,
+ * each a whole number of 128 bits without its point: 5 with scale 2 is 500. With KOHIBLAD_BY_VALUE
+ * a number is taken if it equals the value; otherwise only if it is stored in the kind that the
+ * value's digits have in a JSON text, with as many of them after the point: 1.50, and not 1.5.
+ * INVALID_JSONB also, before all others, if the scale is above 255. All else is as
+ * kohiblad_take_int64 has it. */
+static inline struct kohiblad_taken kohiblad_take_decimal(const uint8_t *bytes, size_t size,
+    const size_t *offsets, size_t count, const uint8_t *path, size_t path_size, size_t depth,
+    uint32_t fit, uint32_t scale, struct kohiblad_int128 *values, size_t room, uint8_t *states,
+    size_t states_room) KOHIBLAD_INLINE("kohiblad_take_decimal");
+
+/* Takes the members of rows at the end of a path as truth values, 0 or 1. All else is as
+ * kohiblad_take_int64 has it. */
+static inline struct kohiblad_taken kohiblad_take_boolean(const uint8_t *bytes, size_t size,
+    const size_t *offsets, size_t count, const uint8_t *path, size_t path_size, size_t depth,
+    uint8_t *values, size_t room, uint8_t *states, size_t states_room)
+    KOHIBLAD_INLINE("kohiblad_take_boolean");
+
+/* Takes the members of rows at the end of a path as texts, and copies them to `out`, one after
+ * another, and their length in bytes to `*length`. The text of row k, which begins at `offsets[k]`
+ * and ends at `offsets[k + 1]`, begins at `text_offsets[k]` and ends at `text_offsets[k + 1]`; so
+ * there is one offset more than there are rows, and the first is 0. `states[k]` is 1; or the text
+ * is empty, and the state 0 if the row has no such member or no bytes, 2 if the member is null, 3
+ * if it is no text, and 4 if the row is not a document of at most this depth. `path` is the
+ * document of a path, as kohiblad_get_path takes it. The answer counts the rows of states 3 and 4,
+ * and names the first of them, or their number if there is none. INVALID_EOF if an offset is below
+ * the previous one or beyond the bytes; then INVALID_JSONB if the path is not a document of at most
+ * this depth; OTHER_KIND if it is not an array of texts and whole numbers of 64 bits; OUT_OF_MEMORY
+ * if an allocation fails; NO_ROOM if `out`, `text_offsets` or `states` is too short. If the status
+ * is not OK, these are unchanged, the counts are 0, and `*length` is 0, or for NO_ROOM the length
+ * of the texts. */
+static inline struct kohiblad_taken kohiblad_take_text(const uint8_t *bytes, size_t size,
+    const size_t *offsets, size_t count, const uint8_t *path, size_t path_size, size_t depth,
+    uint8_t *out, size_t room, size_t *length, size_t *text_offsets, size_t offsets_room,
+    uint8_t *states, size_t states_room) KOHIBLAD_INLINE("kohiblad_take_text");
+
 /* Whether the document `left` contains `right`, as 0 or 1. An object contains the objects whose
  * keys it has, with values that contain those; an array contains the arrays for each of whose items
  * it has one that contains it; a scalar contains what equals it; and at the top an array also
@@ -870,10 +1001,11 @@ static inline struct kohiblad_place kohiblad_get_path(const uint8_t *bytes, size
  * filters, and a key with a space in it is written between quotes. The comparison is `==`, `!=` or
  * `<>`, `<`, `<=`, `>` or `>=`, with one space before and after it, and the literal `null`, `true`,
  * `false`, a JSON number, which is read exactly, or a string without quotes and escapes in it, in
- * which a backslash is a backslash. INVALID_UTF8 if the text is not UTF-8; INVALID_JSONB if the
- * bytes are not a document of at most this depth; OTHER_KIND if the text is not a path;
- * OUT_OF_MEMORY if an allocation fails; NO_ROOM if `out` is too short. If the status is not OK,
- * `out` is unchanged, and `*count` is 0, or for NO_ROOM the number of places. */
+ * which a backslash is a backslash. `&&` and `||` join comparisons, in groups in parentheses, and
+ * `!` turns a group. INVALID_UTF8 if the text is not UTF-8; INVALID_JSONB if the bytes are not a
+ * document of at most this depth; OTHER_KIND if the text is not a path; OUT_OF_MEMORY if an
+ * allocation fails; NO_ROOM if `out` is too short. If the status is not OK, `out` is unchanged, and
+ * `*count` is 0, or for NO_ROOM the number of places. */
 static inline uint32_t kohiblad_select(const uint8_t *bytes, size_t size, const uint8_t *path,
     size_t path_size, size_t depth, struct kohiblad_place *out, size_t room, size_t *count)
     KOHIBLAD_INLINE("kohiblad_select");
@@ -984,6 +1116,29 @@ uint32_t kohiblad_export_member_key(const uint8_t *bytes, size_t size, const uin
     KOHIBLAD_EXPORT("kohiblad_member_key");
 uint32_t kohiblad_export_sort(const uint8_t *bytes, size_t size, const size_t *offsets,
     size_t count, size_t depth, size_t *order, size_t room) KOHIBLAD_EXPORT("kohiblad_sort");
+struct kohiblad_survey_counts kohiblad_export_survey(const uint8_t *bytes, size_t size,
+    const size_t *offsets, size_t count, const uint8_t *path, size_t path_size, size_t depth)
+    KOHIBLAD_EXPORT("kohiblad_survey");
+struct kohiblad_taken kohiblad_export_take_int64(const uint8_t *bytes, size_t size,
+    const size_t *offsets, size_t count, const uint8_t *path, size_t path_size, size_t depth,
+    uint32_t fit, int64_t *values, size_t room, uint8_t *states, size_t states_room)
+    KOHIBLAD_EXPORT("kohiblad_take_int64");
+struct kohiblad_taken kohiblad_export_take_uint64(const uint8_t *bytes, size_t size,
+    const size_t *offsets, size_t count, const uint8_t *path, size_t path_size, size_t depth,
+    uint32_t fit, uint64_t *values, size_t room, uint8_t *states, size_t states_room)
+    KOHIBLAD_EXPORT("kohiblad_take_uint64");
+struct kohiblad_taken kohiblad_export_take_decimal(const uint8_t *bytes, size_t size,
+    const size_t *offsets, size_t count, const uint8_t *path, size_t path_size, size_t depth,
+    uint32_t fit, uint32_t scale, struct kohiblad_int128 *values, size_t room, uint8_t *states,
+    size_t states_room) KOHIBLAD_EXPORT("kohiblad_take_decimal");
+struct kohiblad_taken kohiblad_export_take_boolean(const uint8_t *bytes, size_t size,
+    const size_t *offsets, size_t count, const uint8_t *path, size_t path_size, size_t depth,
+    uint8_t *values, size_t room, uint8_t *states, size_t states_room)
+    KOHIBLAD_EXPORT("kohiblad_take_boolean");
+struct kohiblad_taken kohiblad_export_take_text(const uint8_t *bytes, size_t size,
+    const size_t *offsets, size_t count, const uint8_t *path, size_t path_size, size_t depth,
+    uint8_t *out, size_t room, size_t *length, size_t *text_offsets, size_t offsets_room,
+    uint8_t *states, size_t states_room) KOHIBLAD_EXPORT("kohiblad_take_text");
 struct kohiblad_truth kohiblad_export_contains(const uint8_t *left, size_t left_size,
     const uint8_t *right, size_t right_size, size_t depth, size_t steps)
     KOHIBLAD_EXPORT("kohiblad_contains");
@@ -1327,6 +1482,106 @@ static inline uint32_t kohiblad_sort(const uint8_t *bytes, size_t size, const si
         return KOHIBLAD_OVERLAP;
     return kohiblad_export_sort(kohiblad_in(bytes), size, kohiblad_offsets_in(offsets), count,
         depth, kohiblad_order_out(order), room);
+}
+static inline struct kohiblad_survey_counts kohiblad_survey(const uint8_t *bytes, size_t size,
+    const size_t *offsets, size_t count, const uint8_t *path, size_t path_size, size_t depth) {
+    return kohiblad_export_survey(kohiblad_in(bytes), size, kohiblad_offsets_in(offsets), count,
+        kohiblad_in(path), path_size, depth);
+}
+/* Whether the values and states of rows lie apart from each other, */
+static inline bool kohiblad_is_column(const void *values, size_t size, const uint8_t *states,
+                                      size_t room) {
+    return !kohiblad_meet(values, size, states, room);
+}
+/* and each from rows and a path. */
+static inline bool kohiblad_is_outside(const void *out, size_t out_size, const uint8_t *bytes,
+                                       size_t size, const size_t *offsets, size_t count,
+                                       const uint8_t *path, size_t path_size) {
+    return !kohiblad_meet(out, out_size, bytes, size)
+        && !kohiblad_meet(out, out_size, offsets, count * sizeof *offsets)
+        && !kohiblad_meet(out, out_size, path, path_size);
+}
+static inline int64_t *kohiblad_int64s_out(int64_t *out) {
+    static int64_t none;
+    return out ? out : &none;
+}
+static inline struct kohiblad_int128 *kohiblad_int128s_out(struct kohiblad_int128 *out) {
+    static struct kohiblad_int128 none;
+    return out ? out : &none;
+}
+static inline struct kohiblad_taken kohiblad_take_int64(const uint8_t *bytes, size_t size,
+    const size_t *offsets, size_t count, const uint8_t *path, size_t path_size, size_t depth,
+    uint32_t fit, int64_t *values, size_t room, uint8_t *states, size_t states_room) {
+    struct kohiblad_taken overlap = { KOHIBLAD_OVERLAP, 0, 0 };
+    if (!kohiblad_is_column(values, room * sizeof *values, states, states_room)
+        || !kohiblad_is_outside(values, room * sizeof *values, bytes, size, offsets, count, path,
+                                path_size)
+        || !kohiblad_is_outside(states, states_room, bytes, size, offsets, count, path, path_size))
+        return overlap;
+    return kohiblad_export_take_int64(kohiblad_in(bytes), size, kohiblad_offsets_in(offsets), count,
+        kohiblad_in(path), path_size, depth, fit, kohiblad_int64s_out(values), room,
+        kohiblad_out(states), states_room);
+}
+static inline struct kohiblad_taken kohiblad_take_uint64(const uint8_t *bytes, size_t size,
+    const size_t *offsets, size_t count, const uint8_t *path, size_t path_size, size_t depth,
+    uint32_t fit, uint64_t *values, size_t room, uint8_t *states, size_t states_room) {
+    struct kohiblad_taken overlap = { KOHIBLAD_OVERLAP, 0, 0 };
+    if (!kohiblad_is_column(values, room * sizeof *values, states, states_room)
+        || !kohiblad_is_outside(values, room * sizeof *values, bytes, size, offsets, count, path,
+                                path_size)
+        || !kohiblad_is_outside(states, states_room, bytes, size, offsets, count, path, path_size))
+        return overlap;
+    return kohiblad_export_take_uint64(kohiblad_in(bytes), size, kohiblad_offsets_in(offsets),
+        count, kohiblad_in(path), path_size, depth, fit, kohiblad_keys_out(values), room,
+        kohiblad_out(states), states_room);
+}
+static inline struct kohiblad_taken kohiblad_take_decimal(const uint8_t *bytes, size_t size,
+    const size_t *offsets, size_t count, const uint8_t *path, size_t path_size, size_t depth,
+    uint32_t fit, uint32_t scale, struct kohiblad_int128 *values, size_t room, uint8_t *states,
+    size_t states_room) {
+    struct kohiblad_taken overlap = { KOHIBLAD_OVERLAP, 0, 0 };
+    if (!kohiblad_is_column(values, room * sizeof *values, states, states_room)
+        || !kohiblad_is_outside(values, room * sizeof *values, bytes, size, offsets, count, path,
+                                path_size)
+        || !kohiblad_is_outside(states, states_room, bytes, size, offsets, count, path, path_size))
+        return overlap;
+    return kohiblad_export_take_decimal(kohiblad_in(bytes), size, kohiblad_offsets_in(offsets),
+        count, kohiblad_in(path), path_size, depth, fit, scale, kohiblad_int128s_out(values), room,
+        kohiblad_out(states), states_room);
+}
+static inline struct kohiblad_taken kohiblad_take_boolean(const uint8_t *bytes, size_t size,
+    const size_t *offsets, size_t count, const uint8_t *path, size_t path_size, size_t depth,
+    uint8_t *values, size_t room, uint8_t *states, size_t states_room) {
+    struct kohiblad_taken overlap = { KOHIBLAD_OVERLAP, 0, 0 };
+    if (!kohiblad_is_column(values, room * sizeof *values, states, states_room)
+        || !kohiblad_is_outside(values, room * sizeof *values, bytes, size, offsets, count, path,
+                                path_size)
+        || !kohiblad_is_outside(states, states_room, bytes, size, offsets, count, path, path_size))
+        return overlap;
+    return kohiblad_export_take_boolean(kohiblad_in(bytes), size, kohiblad_offsets_in(offsets),
+        count, kohiblad_in(path), path_size, depth, kohiblad_out(values), room,
+        kohiblad_out(states), states_room);
+}
+static inline struct kohiblad_taken kohiblad_take_text(const uint8_t *bytes, size_t size,
+    const size_t *offsets, size_t count, const uint8_t *path, size_t path_size, size_t depth,
+    uint8_t *out, size_t room, size_t *length, size_t *text_offsets, size_t offsets_room,
+    uint8_t *states, size_t states_room) {
+    struct kohiblad_taken overlap = { KOHIBLAD_OVERLAP, 0, 0 };
+    size_t offsets_size = offsets_room * sizeof *text_offsets;
+    if (!kohiblad_is_room(out, room, length)
+        || !kohiblad_is_apart(out, room, length, text_offsets, offsets_size)
+        || !kohiblad_is_apart(out, room, length, states, states_room)
+        || !kohiblad_is_column(text_offsets, offsets_size, states, states_room)
+        || !kohiblad_is_outside(out, room, bytes, size, offsets, count, path, path_size)
+        || !kohiblad_is_outside(length, sizeof *length, bytes, size, offsets, count, path,
+                                path_size)
+        || !kohiblad_is_outside(text_offsets, offsets_size, bytes, size, offsets, count, path,
+                                path_size)
+        || !kohiblad_is_outside(states, states_room, bytes, size, offsets, count, path, path_size))
+        return overlap;
+    return kohiblad_export_take_text(kohiblad_in(bytes), size, kohiblad_offsets_in(offsets), count,
+        kohiblad_in(path), path_size, depth, kohiblad_out(out), room, length,
+        kohiblad_order_out(text_offsets), offsets_room, kohiblad_out(states), states_room);
 }
 static inline struct kohiblad_truth kohiblad_contains(const uint8_t *left, size_t left_size,
     const uint8_t *right, size_t right_size, size_t depth, size_t steps) {

@@ -146,6 +146,56 @@ struct kohiblad_extension_value {
     uint64_t length;
 };
 
+enum kohiblad_fit {
+    KOHIBLAD_BY_VALUE = 0,
+    KOHIBLAD_EXACT = 1
+};
+
+enum kohiblad_row_state {
+    KOHIBLAD_ROW_ABSENT = 0,
+    KOHIBLAD_ROW_VALUE = 1,
+    KOHIBLAD_ROW_NULL = 2,
+    KOHIBLAD_ROW_UNFIT = 3,
+    KOHIBLAD_ROW_NO_DOCUMENT = 4
+};
+
+struct kohiblad_int128 {
+    uint64_t low;
+    int64_t high;
+};
+
+struct kohiblad_taken {
+    uint32_t status;
+    uint64_t unfit;
+    uint64_t first_unfit;
+};
+
+struct kohiblad_survey_counts {
+    uint32_t status;
+    uint32_t least_scale;
+    uint32_t greatest_scale;
+    uint64_t most_digits;
+    uint64_t longest_text;
+    uint64_t rows;
+    uint64_t not_documents;
+    uint64_t absent;
+    uint64_t nulls;
+    uint64_t booleans;
+    uint64_t int64s;
+    uint64_t uint64s;
+    uint64_t decimal64s;
+    uint64_t decimal128s;
+    uint64_t texts;
+    uint64_t binaries;
+    uint64_t dates;
+    uint64_t timestamps;
+    uint64_t zoned_timestamps;
+    uint64_t intervals;
+    uint64_t opaques;
+    uint64_t arrays;
+    uint64_t objects;
+};
+
 uint32_t kohiblad_version(void);
 uint32_t kohiblad_status_name(uint32_t status, uint8_t *out, size_t room, size_t *length);
 bool kohiblad_check(const uint8_t *bytes, size_t size, size_t depth);
@@ -210,6 +260,24 @@ uint32_t kohiblad_member_key(const uint8_t *bytes, size_t size, const uint8_t *n
     size_t names_size, size_t depth, uint8_t *out, size_t room, size_t *length);
 uint32_t kohiblad_sort(const uint8_t *bytes, size_t size, const size_t *offsets, size_t count,
     size_t depth, size_t *order, size_t room);
+struct kohiblad_survey_counts kohiblad_survey(const uint8_t *bytes, size_t size,
+    const size_t *offsets, size_t count, const uint8_t *path, size_t path_size, size_t depth);
+struct kohiblad_taken kohiblad_take_int64(const uint8_t *bytes, size_t size, const size_t *offsets,
+    size_t count, const uint8_t *path, size_t path_size, size_t depth, uint32_t fit,
+    int64_t *values, size_t room, uint8_t *states, size_t states_room);
+struct kohiblad_taken kohiblad_take_uint64(const uint8_t *bytes, size_t size, const size_t *offsets,
+    size_t count, const uint8_t *path, size_t path_size, size_t depth, uint32_t fit,
+    uint64_t *values, size_t room, uint8_t *states, size_t states_room);
+struct kohiblad_taken kohiblad_take_decimal(const uint8_t *bytes, size_t size,
+    const size_t *offsets, size_t count, const uint8_t *path, size_t path_size, size_t depth,
+    uint32_t fit, uint32_t scale, struct kohiblad_int128 *values, size_t room, uint8_t *states,
+    size_t states_room);
+struct kohiblad_taken kohiblad_take_boolean(const uint8_t *bytes, size_t size,
+    const size_t *offsets, size_t count, const uint8_t *path, size_t path_size, size_t depth,
+    uint8_t *values, size_t room, uint8_t *states, size_t states_room);
+struct kohiblad_taken kohiblad_take_text(const uint8_t *bytes, size_t size, const size_t *offsets,
+    size_t count, const uint8_t *path, size_t path_size, size_t depth, uint8_t *out, size_t room,
+    size_t *length, size_t *text_offsets, size_t offsets_room, uint8_t *states, size_t states_room);
 struct kohiblad_truth kohiblad_contains(const uint8_t *left, size_t left_size, const uint8_t *right,
     size_t right_size, size_t depth, size_t steps);
 struct kohiblad_truth kohiblad_exists(const uint8_t *bytes, size_t size, const uint8_t *key,

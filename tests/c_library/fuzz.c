@@ -686,6 +686,57 @@ static void path_within(struct block b, bool shallow, size_t depth) {
     drop(p); drop(out); drop(t);
 }
 
+/* A member of rows of any bytes as a column: of each row the state and the value are what the calls
+ * for one document say of it. */
+static void column_of(struct block rows, const size_t *where, bool good, size_t depth) {
+    static const char *const wanted[] = { "$.a", "$", "$[0]", "$.c.d" };
+    static uint8_t path[ROOM], copy[2 * ROOM];
+    const char *text = wanted[below(4)];
+    size_t path_size, length;
+    assert(!kohiblad_path_of_text((const uint8_t *)text, strlen(text), path, ROOM, &path_size));
+    struct block values = make(3 * sizeof(int64_t)), states = make(3);
+    memset(states.at, 9, 3);
+    const int64_t *at = (const int64_t *)(const void *)values.at;
+    struct kohiblad_taken taken = kohiblad_take_int64(rows.at, rows.size, where, 4, path, path_size,
+        depth, KOHIBLAD_BY_VALUE, (int64_t *)(void *)values.at, 3, states.at, 3);
+    struct kohiblad_survey_counts all = kohiblad_survey(rows.at, rows.size, where, 4, path,
+                                                        path_size, depth);
+    assert(taken.status == (!good ? KOHIBLAD_INVALID_EOF : depth < 1 ? KOHIBLAD_INVALID_JSONB
+                                                                    : KOHIBLAD_OK));
+    assert(all.status == taken.status && all.rows == (all.status ? 0 : 3));
+    uint64_t counts[5] = { 0 };
+    for (size_t i = 0; i < 3; i++) {
+        uint8_t state = states.at[i];
+        if (taken.status) {
+            assert(state == 9);
+            continue;
+        }
+        assert(state < 5);
+        counts[state]++;
+        const uint8_t *row = rows.at + where[i];
+        size_t row_size = where[i + 1] - where[i];
+        if (row_size == 0 || !kohiblad_check(row, row_size, depth)) {
+            assert(state == (row_size ? KOHIBLAD_ROW_NO_DOCUMENT : KOHIBLAD_ROW_ABSENT));
+            continue;
+        }
+        struct kohiblad_place place = kohiblad_get_path(row, row_size, path, path_size, depth);
+        assert((state == KOHIBLAD_ROW_ABSENT) == (place.status == KOHIBLAD_NONE));
+        if (state == KOHIBLAD_ROW_ABSENT) continue;
+        assert((state == KOHIBLAD_ROW_NULL) == (place.type == KOHIBLAD_TYPE_NULL));
+        if (place.length + 8 > sizeof copy) continue;
+        assert(!kohiblad_copy(place.type, row + place.offset, place.length, copy, sizeof copy,
+                              &length));
+        struct kohiblad_integer number = kohiblad_as_int64(copy, length);
+        assert(number.status || (state == KOHIBLAD_ROW_VALUE && at[i] == number.value));
+        assert(state == KOHIBLAD_ROW_VALUE || at[i] == 0);
+    }
+    if (taken.status == KOHIBLAD_OK) {
+        assert(all.absent == counts[0] && all.nulls == counts[2] && all.not_documents == counts[4]);
+        assert(taken.unfit == counts[3] + counts[4] && taken.first_unfit <= 3);
+    }
+    drop(states); drop(values);
+}
+
 /* Any bytes as names: the path that they give leads somewhere, or nowhere. */
 static void names_within(struct block b, bool shallow, size_t depth) {
     static const char letters[] = "//~~01{{}},,\"\"\\-2ab $.[]N\xC3\xA9";
@@ -1011,6 +1062,7 @@ int main(int argc, char **argv) {
         } else {
             assert(order_of[0] == 7 && order_of[1] == 7 && order_of[2] == 7);
         }
+        column_of(rows, where, good, depth);
         ANSWER(status, out, length,
                kohiblad_build_array(rows.at, rows.size, where, 3, SIZE_MAX, out.at, out.size,
                                     &length));

@@ -41,6 +41,26 @@ int main(void) {
            == KOHIBLAD_NO_ROOM);
     assert(length == 4);
     assert(kohiblad_sort(NULL, 0, NULL, 0, SIZE_MAX, NULL, 0) == KOHIBLAD_OK);
+    /* The path without steps, and no rows. */
+    static const uint8_t whole[] = { 0x80, 0, 0, 0 };
+    assert(kohiblad_survey(NULL, 0, NULL, 0, whole, sizeof whole, 1).status == KOHIBLAD_OK);
+    assert(kohiblad_survey(NULL, 0, NULL, 0, NULL, 0, 9).status == KOHIBLAD_INVALID_JSONB);
+    assert(kohiblad_take_int64(NULL, 0, NULL, 0, whole, sizeof whole, 1, KOHIBLAD_EXACT, NULL, 0,
+                               NULL, 0).status == KOHIBLAD_OK);
+    assert(kohiblad_take_uint64(NULL, 0, NULL, 0, whole, sizeof whole, 1, KOHIBLAD_EXACT, NULL, 0,
+                                NULL, 0).status == KOHIBLAD_OK);
+    assert(kohiblad_take_decimal(NULL, 0, NULL, 0, whole, sizeof whole, 1, KOHIBLAD_EXACT, 2, NULL,
+                                 0, NULL, 0).status == KOHIBLAD_OK);
+    assert(kohiblad_take_boolean(NULL, 0, NULL, 0, whole, sizeof whole, 1, NULL, 0, NULL, 0).status
+           == KOHIBLAD_OK);
+    /* Also of no rows there is one offset. */
+    assert(kohiblad_take_text(NULL, 0, NULL, 0, whole, sizeof whole, 1, NULL, 0, &length, NULL, 0,
+                              NULL, 0).status == KOHIBLAD_NO_ROOM);
+    assert(length == 0);
+    assert(kohiblad_take_text(NULL, 0, NULL, 0, whole, sizeof whole, 1, NULL, 0, &length,
+                              &key_length, 1, NULL, 0).status == KOHIBLAD_OK);
+    assert(length == 0 && key_length == 0);
+    key_length = 9;
     struct kohiblad_cursor cursor = { 0, 0, 0 };
     struct kohiblad_place value;
     assert(kohiblad_begin(NULL, 0, &cursor) == KOHIBLAD_INVALID_EOF);
@@ -210,6 +230,17 @@ int main(void) {
     assert(kohiblad_sort(block, 8, numbers, 2, SIZE_MAX, numbers, 4) == KOHIBLAD_OVERLAP);
     assert(kohiblad_sort(block, 8, numbers, 2, SIZE_MAX, numbers + 2, 2)
            == KOHIBLAD_OK && numbers[2] == 0);
+    /* Values and states that meet each other, the rows, the offsets or the path. */
+    assert(kohiblad_take_boolean(block, 8, numbers, 2, whole, 4, 9, block + 8, 4, block + 9, 4)
+               .status == KOHIBLAD_OVERLAP);
+    assert(kohiblad_take_boolean(block, 8, numbers, 2, whole, 4, 9, block + 7, 1, block + 9, 4)
+               .status == KOHIBLAD_OVERLAP);
+    assert(kohiblad_take_boolean(block, 8, numbers, 2, whole, 4, 9, block + 8, 1,
+                                 (uint8_t *)numbers, 4).status == KOHIBLAD_OVERLAP);
+    assert(kohiblad_take_uint64(block, 8, numbers, 2, block + 8, 4, 9, 0, (uint64_t *)(numbers + 2),
+                                1, block + 8, 4).status == KOHIBLAD_OVERLAP);
+    assert(kohiblad_take_text(block, 8, numbers, 2, whole, 4, 9, block + 8, 4, &length, &length, 1,
+                              block + 12, 1).status == KOHIBLAD_OVERLAP);
     assert(kohiblad_get_member(block, 8, 0, block + 8, 8, &length, block + 12, 8, numbers)
            == KOHIBLAD_OVERLAP);
     assert(kohiblad_get_member(block, 8, 0, block + 8, 8, &length, block + 16, 8, &length)

@@ -26,7 +26,7 @@ void *__wrap_realloc(void *block, size_t size) {
 
 static const char text[] = "{\"a\":1,\"b\":[true,\"\\u00e9\"],"
                            "\"c\":{\"d\":\"e\",\"f\":-12.5,\"g\":[[],{}]}}";
-enum { ROOM = 1024, CALLS = 45 };
+enum { ROOM = 1024, CALLS = 48 };
 static uint8_t document[ROOM], pairs[ROOM];
 static size_t size, offsets[5], pairs_size, order[4];
 static uint64_t keys[ROOM / 8];
@@ -39,9 +39,11 @@ static bool takes_memory(int which) {
         || (which > 23 && which != 44);
 }
 
-/* Whether a call has no length: a sort, whether arrays overlap, and what a document has. */
+/* Whether a call has no length: a sort, whether arrays overlap, what a document has, and what rows
+ * have. */
 static bool has_no_length(int which) {
-    return which == 6 || which == 34 || (which > 37 && which < 41) || which == 43;
+    return which == 6 || which == 34 || (which > 37 && which < 41) || which == 43
+        || (which > 44 && which < 47);
 }
 
 static uint32_t call(int which, uint8_t *out, size_t *length) {
@@ -127,6 +129,15 @@ static uint32_t call(int which, uint8_t *out, size_t *length) {
         assert(expected.classes == (expected.status ? 0 : KOHIBLAD_EXPECTED_END));
         return expected.status;
     }
+    case 45:
+        return kohiblad_take_decimal(pairs, pairs_size, offsets, 5, path, path_size, 8,
+                                     KOHIBLAD_BY_VALUE, 2, (struct kohiblad_int128 *)keys, 4, out,
+                                     4).status;
+    case 46:
+        return kohiblad_survey(pairs, pairs_size, offsets, 5, path, path_size, 8).status;
+    case 47:
+        return kohiblad_take_text(pairs, pairs_size, offsets, 4, path, path_size, 8, out,
+                                  ROOM / 2, length, order, 4, out + ROOM / 2, ROOM / 2).status;
     default: return kohiblad_key_cut(document, size, 8, out, ROOM, length);
     }
 }

@@ -15,8 +15,10 @@ mod types;
 
 pub use column_type::ColumnType;
 pub use columns::{extract, push_member, push_row};
+pub use keeping::opened;
 pub use lattice::{LeastType, holds_all, least_type};
 pub use laws::least_laws;
+pub use member::member_of;
 pub use numbers::{Fit, value_at_scale};
 pub use survey::{Scales, Survey};
 pub use texts::{extract_texts, push_text};

@@ -32,3 +32,5 @@ pub mod Walks
 pub mod WithinLaws
 pub mod Yielded
 pub mod NamedPathLaws
+pub mod TakingLaws
+pub mod TakenTextLaws

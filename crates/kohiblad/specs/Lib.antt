@@ -23,4 +23,8 @@ pub mod KeySink
 pub mod KeyParts
 pub mod MemberTable
 pub mod KeyTests
+pub mod RowCells
+pub mod ColumnSurvey
+pub mod Taking
+pub mod TakenTexts
 pub mod Words

@@ -125,7 +125,8 @@ fn path_place(alloc: Global, bytes: &[u8], path: Document<'_>) -> KohibladPlace
 /// and filters, and a key with a space in it is written between quotes. The comparison is `==`,
 /// `!=` or `<>`, `<`, `<=`, `>` or `>=`, with one space before and after it, and the literal
 /// `null`, `true`, `false`, a JSON number, which is read exactly, or a string without quotes and
-/// escapes in it, in which a backslash is a backslash. `InvalidUtf8` if the text is not UTF-8;
+/// escapes in it, in which a backslash is a backslash. `&&` and `||` join comparisons, in groups in
+/// parentheses, and `!` turns a group. `InvalidUtf8` if the text is not UTF-8;
 /// `InvalidJsonb` if the bytes are not a document of at most this depth; `OTHER_KIND` if the text
 /// is not a path; `OutOfMemory` if an allocation fails; `NO_ROOM` if `out` is too short. If the
 /// status is not `OK`, `out` is unchanged, and `count` is 0, or for `NO_ROOM` the number of

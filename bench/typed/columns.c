@@ -1,0 +1,183 @@
+/* Takes a member out of a million rows of ten members: columns [ROWS]. Prints, for each way, the
+ * least time of the processor of five rounds, in milliseconds. All ways must have one sum. */
+#define _POSIX_C_SOURCE 200809L
+#include "kohiblad.h"
+
+#include <assert.h>
+#include <stdio.h>
+#include <stdlib.h>
+#include <string.h>
+#include <time.h>
+
+enum { ROUNDS = 5, BATCH = 2048, ROOM = 512, DEPTH = 64 };
+
+static uint8_t *rows, states[BATCH];
+static size_t *offsets, count, path_size;
+static uint8_t path[64];
+static const char *name;
+static int64_t values[BATCH];
+static struct kohiblad_int128 decimals[BATCH];
+
+static uint64_t state = 88172645463325252u;
+static unsigned below(unsigned limit) {
+    state ^= state << 13;
+    state ^= state >> 7;
+    state ^= state << 17;
+    return (unsigned)((state >> 11) % limit);
+}
+
+/* One row in ten has no note, and one price in a hundred is whole. */
+static void make_rows(void) {
+    static const char *const cities[] = { "Oslo", "Bergen", "Bern", "Turku", "Rome", "Lyon", "Gent",
+                                          "Cork" };
+    size_t size = 0, room = 256 * count, length;
+    rows = malloc(room);
+    offsets = malloc((count + 1) * sizeof *offsets);
+    assert(rows && offsets);
+    offsets[0] = 0;
+    for (size_t i = 0; i < count; i++) {
+        char text[ROOM], price[32];
+        unsigned cents = below(100000);
+        snprintf(price, sizeof price, below(100) ? "%u.%02u" : "%u", cents / 100, cents % 100);
+        int wide = snprintf(text, sizeof text,
+            "{\"at\":%zu,\"city\":\"%s\",\"id\":%zu,%s\"ok\":%s,\"price\":%s,\"qty\":%u,"
+            "\"score\":%d,\"sku\":\"k%03u\",\"tax\":%u}", 1700000000 + i, cities[below(8)], i,
+            below(10) ? "\"note\":\"n12\"," : "", below(2) ? "true" : "false", price,
+            below(20) + 1, (int)below(2001) - 1000, below(1000), below(250));
+        assert(!kohiblad_parse((const uint8_t *)text, (size_t)wide, DEPTH, 0, rows + size,
+                               room - size, &length));
+        offsets[i + 1] = size += length;
+    }
+    printf("%zu rows of %.0f bytes\n", count, (double)size / (double)count);
+}
+
+static uint32_t word(const uint8_t *at) {
+    return (uint32_t)at[0] << 24 | (uint32_t)at[1] << 16 | (uint32_t)at[2] << 8 | at[3];
+}
+
+/* The rows read through, a word of each 64 bytes. */
+static int64_t read_all(void) {
+    uint32_t sum = 0;
+    for (size_t at = 0; at + 4 <= offsets[count]; at += 64) sum += word(rows + at);
+    return sum ? 0 : 1;
+}
+
+/* What a C program does that trusts its rows: it searches the keys, and reads the payload. */
+static int64_t trusting(void) {
+    int64_t sum = 0;
+    size_t wanted = strlen(name);
+    for (size_t i = 0; i < count; i++) {
+        const uint8_t *row = rows + offsets[i];
+        size_t members = word(row) & 0xFFFFFFF, key = 4 + 8 * members;
+        for (size_t k = 0; k < members; k++) {
+            size_t size = word(row + 4 + 4 * k) & 0xFFFFFFF;
+            if (size == wanted && !memcmp(row + key, name, size)) {
+                size_t at = key;
+                for (size_t j = k; j < members + k; j++)
+                    at += word(row + 4 + 4 * j) & 0xFFFFFFF;
+                size_t bytes = (word(row + 4 + 4 * (members + k)) & 0xFFFFFFF) - 1;
+                uint64_t bits = 0;
+                for (size_t j = 0; j < bytes; j++) bits = bits << 8 | row[at + 1 + j];
+                if (row[at] == 0x40 && bytes < 8 && bytes)
+                    bits |= ~(uint64_t)0 << (8 * bytes);
+                sum += (int64_t)bits;
+                break;
+            }
+            key += size;
+        }
+    }
+    return sum;
+}
+
+static int64_t one_by_one(void) {
+    int64_t sum = 0;
+    for (size_t i = 0; i < count; i++) {
+        uint8_t document[ROOM];
+        size_t length;
+        if (!kohiblad_get_key(rows + offsets[i], offsets[i + 1] - offsets[i], (const uint8_t *)name,
+                              strlen(name), document, sizeof document, &length))
+            sum += kohiblad_as_int64(document, length).value;
+    }
+    return sum;
+}
+
+static int64_t checked(void) {
+    int64_t bad = 0;
+    for (size_t i = 0; i < count; i++)
+        bad += !kohiblad_check(rows + offsets[i], offsets[i + 1] - offsets[i], DEPTH);
+    return bad;
+}
+
+static int64_t taken(void) {
+    int64_t sum = 0;
+    for (size_t first = 0; first < count; first += BATCH) {
+        size_t many = count - first < BATCH ? count - first : BATCH;
+        struct kohiblad_taken answer = kohiblad_take_int64(rows, offsets[count], offsets + first,
+            many + 1, path, path_size, DEPTH, KOHIBLAD_BY_VALUE, values, BATCH, states, BATCH);
+        assert(answer.status == KOHIBLAD_OK);
+        for (size_t i = 0; i < many; i++) sum += values[i];
+    }
+    return sum;
+}
+
+static int64_t taken_decimals(void) {
+    int64_t sum = 0;
+    for (size_t first = 0; first < count; first += BATCH) {
+        size_t many = count - first < BATCH ? count - first : BATCH;
+        struct kohiblad_taken answer = kohiblad_take_decimal(rows, offsets[count], offsets + first,
+            many + 1, path, path_size, DEPTH, KOHIBLAD_BY_VALUE, 2, decimals, BATCH, states, BATCH);
+        assert(answer.status == KOHIBLAD_OK && answer.unfit == 0);
+        for (size_t i = 0; i < many; i++) sum += (int64_t)decimals[i].low;
+    }
+    return sum;
+}
+
+static int64_t surveyed(void) {
+    struct kohiblad_survey_counts counts = kohiblad_survey(rows, offsets[count], offsets, count + 1,
+                                                           path, path_size, DEPTH);
+    assert(counts.status == KOHIBLAD_OK && counts.rows == count);
+    return 0;
+}
+
+static int64_t timed(const char *what, int64_t (*way)(void)) {
+    double least = 1e9;
+    int64_t sum = 0;
+    for (int round = 0; round < ROUNDS; round++) {
+        struct timespec from, to;
+        clock_gettime(CLOCK_PROCESS_CPUTIME_ID, &from);
+        sum = way();
+        clock_gettime(CLOCK_PROCESS_CPUTIME_ID, &to);
+        double took = (double)(to.tv_sec - from.tv_sec) * 1e3
+            + (double)(to.tv_nsec - from.tv_nsec) / 1e6;
+        if (took < least) least = took;
+    }
+    printf("%-44s %8.1f\n", what, least);
+    return sum;
+}
+
+static void ask(const char *member) {
+    char text[16];
+    name = member;
+    snprintf(text, sizeof text, "$.%s", member);
+    assert(!kohiblad_path_of_text((const uint8_t *)text, strlen(text), path, sizeof path,
+                                  &path_size));
+    printf("%s\n", text);
+}
+
+int main(int many, char **words) {
+    static const char *const members[] = { "at", "qty", "tax" };
+    count = many > 1 ? strtoul(words[1], NULL, 10) : 1000000;
+    make_rows();
+    timed("a word of each cache line", read_all);
+    assert(timed("kohiblad_check of each row", checked) == 0);
+    for (int i = 0; i < 3; i++) {
+        ask(members[i]);
+        int64_t sum = timed("a loop in C that trusts the rows", trusting);
+        assert(timed("kohiblad_get_key and _as_int64 of each row", one_by_one) == sum);
+        assert(timed("kohiblad_take_int64, 2,048 rows at a time", taken) == sum);
+    }
+    ask("price");
+    timed("kohiblad_take_decimal, scale 2", taken_decimals);
+    timed("kohiblad_survey", surveyed);
+    return 0;
+}

@@ -1,0 +1,73 @@
+/* Adds up a member of each document of a file, given by a path, with two digits after the point.
+ * The rows are taken in batches, so that memory is bounded and stays in the cache.
+ *
+ *     sum '$.price' < rows.docs
+ */
+#include <kohiblad.h>
+
+#include <inttypes.h>
+#include <stdio.h>
+#include <string.h>
+
+enum { DEPTH = 64, BATCH = 2048, ROOM = 1 << 22, SCALE = 2 };
+
+static uint8_t rows[ROOM], states[BATCH];
+static size_t offsets[BATCH + 1];
+static struct kohiblad_int128 values[BATCH];
+
+/* Reads up to a batch of documents into `rows`, and returns how many: 0 at the end, and -1 if the
+ * file is cut or a document longer than there is room. The one that did not fit comes next. */
+static long next_batch(void) {
+    static uint8_t prefix[8];
+    static uint64_t length;
+    static int is_kept;
+    size_t size = 0;
+    for (long count = 0;; count++) {
+        if (!is_kept && count < BATCH) {
+            size_t found = fread(prefix, 1, sizeof prefix, stdin);
+            if (found == 0) return count;
+            if (found < sizeof prefix) return -1;
+            length = 0;
+            for (size_t i = 0; i < sizeof prefix; i++) length = length << 8 | prefix[i];
+            is_kept = 1;
+        }
+        if (count == BATCH || length > ROOM - size) return count > 0 ? count : -1;
+        if (fread(rows + size, 1, (size_t)length, stdin) < length) return -1;
+        is_kept = 0;
+        size += (size_t)length;
+        offsets[count + 1] = size;
+    }
+}
+
+int main(int count, char **words) {
+    uint8_t path[4096];
+    size_t path_size;
+    uint64_t unfit = 0;
+    int64_t sum = 0;
+    long batch;
+    if (count != 2
+        || kohiblad_path_of_text((const uint8_t *)words[1], strlen(words[1]), path, sizeof path,
+                                 &path_size)) {
+        fprintf(stderr, "usage: sum PATH < DOCUMENTS\n");
+        return 2;
+    }
+    while ((batch = next_batch()) > 0) {
+        struct kohiblad_taken taken = kohiblad_take_decimal(rows, offsets[batch], offsets,
+            (size_t)batch + 1, path, path_size, DEPTH, KOHIBLAD_BY_VALUE, SCALE, values, BATCH,
+            states, BATCH);
+        if (taken.status != KOHIBLAD_OK) {
+            fprintf(stderr, "%s\n", kohiblad_status_reason(taken.status));
+            return 1;
+        }
+        unfit += taken.unfit;
+        /* A row without a value has 0. These sums are small enough for 64 bits. */
+        for (long i = 0; i < batch; i++) sum += (int64_t)values[i].low;
+    }
+    if (batch < 0) {
+        fprintf(stderr, "the file is cut, or a document is too long\n");
+        return 1;
+    }
+    printf("%" PRId64 ".%02d, and %" PRIu64 " rows with something else\n", sum / 100,
+           (int)(sum % 100), unfit);
+    return fflush(stdout) || ferror(stdout);
+}

@@ -1,0 +1,151 @@
+-- The members of rows as values of one type, as C receives them.
+use Rattle.std.specs.Prelude.{◌≡◌, ◌<◌, ◌≤◌, ◌⊎◌, ◌∷◌, ◌++◌, [], ℕ, Bool, true, false}
+use Rattle.std.specs.Prelude.{if◌then◌else◌, nat_le, zero, suc, List, map, length, drop, Option}
+use Rattle.std.specs.Prelude.{None, Some}
+use Rattle.std.specs.List.{AllZip}
+use Rattle.jsonb_value.specs.declared.error.Error.TheVariants.{InvalidEOF, InvalidJsonb}
+use Rattle.jsonb_value.specs.declared.error.Error.TheVariants.{OutOfMemory}
+use Rattle.jsonb_value.specs.Meaning.{Meaning, document, other_bytes}
+use Rattle.jsonb_value.specs.Tree as trees
+use Rattle.jsonb_value.specs.Tree.{Tree}
+use Rattle.jsonb_functions.specs.declared.path.Step.{Step}
+use Rattle.jsonb_functions.specs.StoredPath.{StepView, path_in, step_view}
+use Rattle.typed_vector.specs.Cells.{Cell, absent, value, other}
+use Rattle.jsonb_typed.specs.Types.{IsDecimal}
+use Rattle.jsonb_typed.specs.declared.numbers.Fit.{Fit}
+use Rattle.jsonb_typed.specs.declared.numbers.Fit.TheVariants.{ByValue, Exact}
+use Rattle.kohiblad.specs.declared.taking.KohibladTaken.{KohibladTaken}
+use Rattle.kohiblad.specs.declared.taken_types.KohibladInt128.{KohibladInt128}
+use Rattle.kohiblad.specs.RowCells.{row_cell}
+use Rattle.kohiblad.specs.Rows.{are_offsets, rows}
+use Rattle.kohiblad.specs.Scalars.{from_halves}
+use Rattle.kohiblad.specs.Status.{code, no_room, other_kind}
+
+-- The state of a row whose member has no value: 2 for null, 3 for any other.
+abbrev pub tree_state : Tree → ℕ
+tree_state trees.null = 2
+tree_state t = 3
+
+-- The state of a row that is no document: 0 if it has no bytes, otherwise 4.
+abbrev pub bytes_state : List ℕ → ℕ
+bytes_state [] = 0
+bytes_state (b ∷ bs) = 4
+
+-- What is written for a row, a value and a state: 0 if there is no member, 1 beside the value that
+-- stands for it, otherwise the state of a member without a value, and 4 for other bytes.
+abbrev pub IsTakenCell : {V : Type 0} → (V → Tree → Type 0) → V → Cell Tree → V × ℕ → Type 0
+IsTakenCell Stands blank absent taken = taken ≡ (blank, 0)
+IsTakenCell {V = V} Stands blank (value t) taken =
+    (Stands taken.0 t × (taken.1 ≡ 1))
+    ⊎ (((v : V) → Stands v t → ⊥) × (taken ≡ (blank, tree_state t)))
+IsTakenCell Stands blank (other bytes) taken = taken ≡ (blank, 4)
+
+-- The same of a row.
+abbrev pub IsTakenRow : {V : Type 0} → (V → Tree → Type 0) → V → ℕ → List Step → List ℕ → V × ℕ
+    → Type 0
+IsTakenRow Stands blank depth path row taken =
+    IsTakenCell Stands blank (row_cell depth path row) taken
+
+-- The values that are written for rows, and their states.
+abbrev pub values_of : {V : Type 0} → List (V × ℕ) → List V
+values_of taken = map (λ row. row.0) taken
+
+abbrev pub states_of : {V : Type 0} → List (V × ℕ) → List ℕ
+states_of taken = map (λ row. row.1) taken
+
+-- How many rows have a member other than null, and no value, or are no document.
+abbrev pub unfit_count : List ℕ → ℕ
+unfit_count [] = 0
+unfit_count (state ∷ states) =
+    if nat_le 3 state then suc (unfit_count states) else unfit_count states
+
+-- The number of the first of them; that of the rows if there is none.
+abbrev pub first_unfit : List ℕ → ℕ
+first_unfit [] = 0
+first_unfit (state ∷ states) = if nat_le 3 state then 0 else suc (first_unfit states)
+
+-- The rows that have these states, counted.
+abbrev pub taken_answer : List ℕ → KohibladTaken
+taken_answer states = record {
+  status = 0;
+  unfit = unfit_count states;
+  first_unfit = first_unfit states;
+}
+
+-- A result with this status, and 0 in all fields.
+abbrev pub not_taken : ℕ → KohibladTaken
+not_taken status = record { status = status; unfit = 0; first_unfit = 0 }
+
+-- The buffers of values and of states, before and after.
+pub record Buffers (V : Type 0) : Type 0 where
+  pub values : List V
+  pub values_after : List V
+  pub states : List ℕ
+  pub states_after : List ℕ
+
+-- The buffers are unchanged.
+abbrev pub AreKept : {V : Type 0} → Buffers V → Type 0
+AreKept b = (b.values_after ≡ b.values) × (b.states_after ≡ b.states)
+
+-- The values and states of these rows are at the start of the buffers, and the rest is unchanged.
+abbrev pub ArePut : {V : Type 0} → List (V × ℕ) → Buffers V → Type 0
+ArePut taken b = (b.values_after ≡ values_of taken ++ drop (length taken) b.values)
+    × (b.states_after ≡ states_of taken ++ drop (length taken) b.states)
+
+-- Each row is taken, as the relation says, and put into the buffers.
+abbrev pub AreRowsPut : {V : Type 0} → (List ℕ → V × ℕ → Type 0) → List (List ℕ) → Buffers V
+    → List (V × ℕ) → Type 0
+AreRowsPut IsTaken rows b taken = AllZip IsTaken rows taken × ArePut taken b
+
+-- The members of the rows at the end of these steps are taken.
+abbrev pub AreStepsTaken : {V : Type 0} → (V → Tree → Type 0) → V → ℕ → List (List ℕ)
+    → Option (List StepView) → Buffers V → KohibladTaken → Type 0
+AreStepsTaken Stands blank depth rows None b answer =
+    (answer ≡ not_taken other_kind) × AreKept b
+AreStepsTaken {V = V} Stands blank depth rows (Some steps) b answer =
+    (path : List Step)
+    × ((map step_view path ≡ steps)
+    × ((taken : List (V × ℕ))
+    × (AreRowsPut (IsTakenRow Stands blank depth path) rows b taken
+    × (answer ≡ taken_answer (states_of taken)))))
+
+-- The members at the end of the path that a document gives are taken; or there is not enough
+-- memory. Too short a buffer is refused before.
+abbrev pub IsPathTaken : {V : Type 0} → (V → Tree → Type 0) → V → ℕ → List (List ℕ) → Meaning
+    → Buffers V → KohibladTaken → Type 0
+IsPathTaken Stands blank depth rows (document p) b answer =
+    (((length b.values < length rows) ⊎ (length b.states < length rows))
+    × ((answer ≡ not_taken no_room) × AreKept b))
+    ⊎ (((length rows ≤ length b.values) × (length rows ≤ length b.states))
+    × (AreStepsTaken Stands blank depth rows (path_in p) b answer
+    ⊎ ((answer ≡ not_taken (code OutOfMemory)) × AreKept b)))
+IsPathTaken Stands blank depth rows (other_bytes bytes) b answer =
+    (answer ≡ not_taken (code InvalidJsonb)) × AreKept b
+
+-- Offsets that are below the previous one or beyond the bytes are refused first; otherwise it is
+-- as `IsPathTaken` says.
+abbrev pub AreTaken : {V : Type 0} → (V → Tree → Type 0) → V → ℕ → List ℕ → List ℕ → Meaning
+    → Buffers V → KohibladTaken → Type 0
+AreTaken Stands blank depth bytes offsets path b answer =
+    ((are_offsets (length bytes) 0 offsets ≡ false)
+    × ((answer ≡ not_taken (code InvalidEOF)) × AreKept b))
+    ⊎ ((are_offsets (length bytes) 0 offsets ≡ true)
+    × IsPathTaken Stands blank depth (rows bytes offsets) path b answer)
+
+-- When a number fits, by the number that a caller gives: 0 is by value.
+abbrev pub fit_of : ℕ → Fit
+fit_of zero = ByValue
+fit_of (suc n) = Exact
+
+-- The two halves are those of a value that stands for the member.
+abbrev pub IsInt128 : Fit → ℕ → KohibladInt128 → Tree → Type 0
+IsInt128 fit scale v t = IsDecimal fit scale (from_halves v.high v.low) t
+
+-- A truth value as a byte.
+abbrev pub truth_byte : Bool → ℕ
+truth_byte true = 1
+truth_byte false = 0
+
+-- The byte stands for the member, a truth value.
+abbrev pub IsTruth : ℕ → Tree → Type 0
+IsTruth v t = (b : Bool) × ((v ≡ truth_byte b) × (t ≡ trees.boolean b))

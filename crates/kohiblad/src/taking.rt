@@ -1,0 +1,255 @@
+//! The members of rows as values of one type, written to the caller's buffers.
+
+ghost use Rattle.std.specs.Prelude.{◌≡◌, ◌≤◌, ℕ, List, length, map, nat_le, option_map};
+ghost use Rattle.jsonb_value.specs.Meaning.{Meaning};
+ghost use Rattle.jsonb_typed.specs.Words.{HoldsNoScalar, member_cell};
+ghost use Rattle.kohiblad.specs.RowCells.{row_cell};
+ghost use Rattle.kohiblad.specs.Taking.{AreRowsPut, AreTaken, IsPathTaken, IsTakenCell};
+ghost use Rattle.kohiblad.specs.Taking.{IsTakenRow, bytes_state, first_unfit, fit_of, not_taken};
+ghost use Rattle.kohiblad.specs.Taking.{taken_answer, tree_state, unfit_count};
+ghost use Rattle.kohiblad.specs.Words.{document_tree, meaning_within, node_tree};
+
+use crate::answer::{NO_ROOM, OK, OTHER_KIND, code};
+use crate::rows::Rows;
+use jsonb::{Document, Error, Node, SortKey};
+use jsonb_functions::{Step, read_path};
+use jsonb_typed::{ColumnType, Fit, member_of, opened};
+use std::alloc::Global;
+
+/// The state of a row without the member.
+pub const ABSENT: u8 = 0;
+
+/// The state of a row with a value.
+pub const VALUE: u8 = 1;
+
+/// The state of a row whose member is null.
+const NULL: u8 = 2;
+
+/// The state of a row whose member is no value of the type, and not null.
+const UNFIT: u8 = 3;
+
+/// The state of a row that is not a document.
+pub const NO_DOCUMENT: u8 = 4;
+
+/// How many rows have a member that is neither null nor a value of the type, or are not a document;
+/// and the number of the first of them, or that of all rows if there is none. Both are 0 if the
+/// status is not `OK`.
+#[repr(C)]
+#[derive(Clone, Copy)]
+pub struct KohibladTaken {
+    pub status: u32,
+    pub unfit: u64,
+    pub first_unfit: u64,
+}
+
+/// Takes the members of rows at the end of a path as values of a type, and writes them and the
+/// states of the rows to the buffers.
+pub fn take<T: ColumnType>(
+    alloc: Global,
+    bytes: &[u8],
+    offsets: &[usize],
+    path: &[u8],
+    depth: usize,
+    column_type: &T,
+    blank: T::Value,
+    values: &mut [T::Value],
+    states: &mut [u8],
+) -> KohibladTaken
+    ensures { AreTaken (T.stands column_type.now) blank depth bytes.now offsets.now
+        (meaning_within depth path.now)
+        (record {
+          values = values.old;
+          values_after = values.new;
+          states = states.old;
+          states_after = states.new;
+        }) result }
+{
+    let Ok(rows) = Rows::new(bytes, offsets) else {
+        return not_taken(code(Error::InvalidEOF));
+    };
+    match SortKey::within(path, depth) {
+        SortKey::Document(path) => {
+            take_at(alloc, rows, path, depth, column_type, blank, values, states)
+        }
+        SortKey::Other(_) => not_taken(code(Error::InvalidJsonb)),
+    }
+}
+
+// Takes the members at the end of the path that a document gives.
+fn take_at<T: ColumnType>(
+    alloc: Global,
+    rows: Rows<'_>,
+    path: Document<'_>,
+    depth: usize,
+    column_type: &T,
+    blank: T::Value,
+    values: &mut [T::Value],
+    states: &mut [u8],
+) -> KohibladTaken
+    ensures { IsPathTaken (T.stands column_type.now) blank depth rows.entry
+        (Meaning.document (document_tree path.entry))
+        (record {
+          values = values.old;
+          values_after = values.new;
+          states = states.old;
+          states_after = states.new;
+        }) result }
+{
+    if values.len() < rows.len() || states.len() < rows.len() {
+        return not_taken(NO_ROOM);
+    }
+    match read_path(alloc, path) {
+        Ok(Some(steps)) => take_rows(rows, &steps, depth, column_type, blank, values, states),
+        Ok(None) => not_taken(OTHER_KIND),
+        Err(error) => not_taken(code(error)),
+    }
+}
+
+// Takes the members of the rows.
+fn take_rows<T: ColumnType>(
+    rows: Rows<'_>,
+    path: &[Step<'_>],
+    depth: usize,
+    column_type: &T,
+    blank: T::Value,
+    values: &mut [T::Value],
+    states: &mut [u8],
+) -> KohibladTaken
+    requires values { length rows ≤ length values.old }
+    requires states { length rows ≤ length states.old }
+    ensures { (taken : List (T.Value × ℕ))
+        × (AreRowsPut (IsTakenRow (T.stands column_type.now) blank depth path.now) rows.entry
+        (record {
+          values = values.old;
+          values_after = values.new;
+          states = states.old;
+          states_after = states.new;
+        }) taken
+        × (result ≡ taken_answer (map (λ row. row.1) taken))) }
+{
+    let mut left = rows;
+    let mut number = 0;
+    while let Some(row) = left.next() {
+        let (value, state) = take_row(row, path, depth, column_type, blank);
+        values[number] = value;
+        states[number] = state;
+        number += 1;
+    }
+    taken_answer(&states[..number])
+}
+
+// What is written for a row: its value, or the blank one, and its state.
+fn take_row<T: ColumnType>(
+    row: &[u8],
+    path: &[Step<'_>],
+    depth: usize,
+    column_type: &T,
+    blank: T::Value,
+) -> (T::Value, u8)
+    ensures { IsTakenRow (T.stands column_type.now) blank depth path.now row.now result }
+{
+    match SortKey::within(row, depth) {
+        SortKey::Document(document) => take_member(member_of(document, path), column_type, blank),
+        SortKey::Other(bytes) => (blank, state_of_bytes(bytes)),
+    }
+}
+
+// What is written for a row with this member.
+fn take_member<T: ColumnType>(
+    member: Option<Node<'_>>,
+    column_type: &T,
+    blank: T::Value,
+) -> (T::Value, u8)
+    ensures { IsTakenCell (T.stands column_type.now) blank
+        (member_cell (option_map node_tree member.entry)) result }
+{
+    let Some(member) = member else {
+        return (blank, ABSENT);
+    };
+    let member = opened(member);
+    match column_type.value_of(member) {
+        Some(value) => (value, VALUE),
+        None => (blank, state_of(member)),
+    }
+}
+
+/// The state of a row whose member has no value.
+pub fn state_of(member: Node<'_>) -> u8
+    requires { HoldsNoScalar member }
+    ensures { result ≡ tree_state (node_tree member.entry) }
+{
+    match member {
+        Node::Null => NULL,
+        _ => UNFIT,
+    }
+}
+
+/// The state of a row that is not a document.
+pub fn state_of_bytes(row: &[u8]) -> u8
+    ensures { result ≡ bytes_state row.now }
+{
+    if row.is_empty() { ABSENT } else { NO_DOCUMENT }
+}
+
+/// The rows that have these states, counted.
+pub fn taken_answer(states: &[u8]) -> KohibladTaken
+    ensures { result ≡ taken_answer states.now }
+{
+    KohibladTaken {
+        status: OK,
+        unfit: unfit_count(states) as u64,
+        first_unfit: first_unfit(states) as u64,
+    }
+}
+
+// Whether a row of this state has a member other than null and no value, or is not a document.
+fn is_unfit(state: u8) -> bool
+    ensures { result ≡ nat_le 3 state }
+{
+    UNFIT <= state
+}
+
+// How many rows are unfit.
+fn unfit_count(states: &[u8]) -> usize
+    ensures { result ≡ unfit_count states.now }
+{
+    let mut count = 0;
+    for state in states {
+        if is_unfit(*state) {
+            count += 1;
+        }
+    }
+    count
+}
+
+// The first row that is unfit; the number of rows if there is none.
+fn first_unfit(states: &[u8]) -> usize
+    ensures { result ≡ first_unfit states.now }
+{
+    let mut number = 0;
+    for state in states {
+        if is_unfit(*state) {
+            return number;
+        }
+        number += 1;
+    }
+    number
+}
+
+/// A result with this status, and with 0 in all fields.
+pub fn not_taken(status: u32) -> KohibladTaken
+    ensures { result ≡ not_taken status }
+{
+    KohibladTaken {
+        status,
+        unfit: 0,
+        first_unfit: 0,
+    }
+}
+
+/// When a number fits, by the number that a caller gives.
+pub fn fit_of(fit: u32) -> Fit
+    ensures { result ≡ fit_of fit }
+{
+    if fit == 0 { Fit::ByValue } else { Fit::Exact }
+}
