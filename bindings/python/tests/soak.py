@@ -148,6 +148,18 @@ class Calls:
         there = [rows[it] for it in order if rows[it] is not None]
         expect(there == sorted(there, key=Document.key), rows)
 
+    def call_typed(self):
+        count = self.random.randrange(5000)
+        values = [self.random.choice([number, f"t{number}", None]) for number in range(count)]
+        column = Column.of(map(Document.of, values))
+        numbers, texts = column.extract([[], []], ["int64", "text"])
+        expect(numbers.to_list() == [it if isinstance(it, int) else None for it in values], values)
+        expect(texts.to_list() == [it if isinstance(it, str) else None for it in values], values)
+        expect([row for row, _ in numbers.rest]
+               == [row for row, it in enumerate(values) if isinstance(it, str)], values)
+        expect(column.survey([]).nulls == values.count(None), values)
+        numbers.__arrow_c_array__(), texts.__arrow_c_stream__()
+
     def call_json(self):
         text, value = self.text()
         expect(json.loads(str(Document.parse(text)), parse_float=Decimal) == value, text)

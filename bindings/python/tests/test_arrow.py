@@ -14,7 +14,7 @@ import sys
 import threading
 import unittest
 
-from kohiblad import Document, InvalidDocumentError, arrow
+from kohiblad import Document, InvalidDocumentError, _capsules, arrow
 from kohiblad.arrow import Column
 
 SCHEMA = struct.Struct("=QQQqqQQQQ")
@@ -39,7 +39,8 @@ class Consumer:
     def __init__(self, source):
         schema, given = source.__arrow_c_array__()
         form, _, metadata, self.flags, *_ = words(pointer_of(schema, b"arrow_schema"), SCHEMA)
-        self.format, self.pairs = ctypes.string_at(form), self.texts(metadata)
+        self.format = ctypes.string_at(form)
+        self.pairs = self.texts(metadata) if metadata else {}
         address = pointer_of(given, b"arrow_array")
         self.taken = ctypes.create_string_buffer(ctypes.string_at(address, ARRAY.size))
         # What is moved is marked as released where it was.
@@ -125,27 +126,27 @@ class ArrowTest(unittest.TestCase):
         self.assertEqual(again.buffers, read.buffers)
         for it in (read, again):
             it.release()
-        arrow._release_unused()
-        self.assertEqual(arrow._exported, {})
+        _capsules.release_unused()
+        self.assertEqual(_capsules._exported, {})
 
     def test_memory_is_kept_as_long_as_a_consumer_uses_it(self):
         column = Column.of(ROWS * 1000)
         read = Consumer(column)
         del column
-        arrow._release_unused()
+        _capsules.release_unused()
         self.assertEqual(sum(map(len, read.rows())), 1000 * sum(len(bytes(it)) for it in ROWS))
-        self.assertEqual(len(arrow._exported), 1)
+        self.assertEqual(len(_capsules._exported), 1)
         read.release()
-        arrow._release_unused()
-        self.assertEqual((arrow._exported, arrow._handed_out), ({}, []))
+        _capsules.release_unused()
+        self.assertEqual((_capsules._exported, _capsules._handed_out), ({}, []))
 
     def test_capsules_that_nobody_takes_are_released(self):
         column = Column.of(ROWS)
         for _ in range(100):
             column.__arrow_c_array__()
             column.__arrow_c_schema__()
-        arrow._release_unused()
-        self.assertEqual((arrow._exported, arrow._handed_out), ({}, []))
+        _capsules.release_unused()
+        self.assertEqual((_capsules._exported, _capsules._handed_out), ({}, []))
 
     def test_rows_that_are_missing(self):
         rng = random.Random(1)
@@ -318,8 +319,8 @@ class ArrowTest(unittest.TestCase):
             with self.assertRaisesRegex(KeyError, "kept"):
                 # The capsule is on the stack of the frame, which is cleared by the exception.
                 [capsule(), Failing() + 1]
-        arrow._release_unused()
-        self.assertEqual((arrow._exported, arrow._handed_out), ({}, []))
+        _capsules.release_unused()
+        self.assertEqual((_capsules._exported, _capsules._handed_out), ({}, []))
 
     def test_another_thread_releases(self):
         read = [Consumer(Column.of(ROWS)) for _ in range(8)]
@@ -328,8 +329,8 @@ class ArrowTest(unittest.TestCase):
             it.start()
         for it in threads:
             it.join()
-        arrow._release_unused()
-        self.assertEqual(arrow._exported, {})
+        _capsules.release_unused()
+        self.assertEqual(_capsules._exported, {})
         self.assertEqual([it.taken.raw[RELEASE_AT:RELEASE_AT + 8] for it in read], [bytes(8)] * 8)
 
     def test_few_capsules_that_nobody_has_are_kept(self):
@@ -338,7 +339,7 @@ class ArrowTest(unittest.TestCase):
             capsules = Column.of(ROWS).__arrow_c_array__()
             if number < 100:
                 kept.append(capsules)
-        self.assertLess(len(arrow._handed_out), 1000)
+        self.assertLess(len(_capsules._handed_out), 1000)
         self.assertEqual([list(Column.from_arrow(Given(it))) for it in kept], [ROWS] * 100)
 
     def test_a_program_that_ends_with_capsules(self):

@@ -4,10 +4,12 @@ import subprocess
 import sys
 import tempfile
 import unittest
+from importlib.util import find_spec
 
 import kohiblad
 from kohiblad import Document
 
+HAS_NUMPY = find_spec("numpy") is not None
 LINES = ['{"id":3,"town":"Oslo","at":1.50}', '{"id":1,"town":"Bergen"}', '[2]', '{"id":3.0}']
 NDJSON = "".join(line + "\n" for line in LINES).encode()
 
@@ -174,6 +176,110 @@ class CommandTest(unittest.TestCase):
         self.assertRegex(message, r"^\r[\d,]+ lines, \d+%, \d+ s left")
         self.assertEqual(message.split("\r")[-1].split(), ["300,000", "lines,", "100%"])
 
+    ROWS = ('{"price":1.50,"sku":"k7"}', '{"price":2,"ok":true}', '{"price":"n/a","ok":false}',
+            '{"price":null,"sku":"a\\"b","at":[7]}', '{"sku":""}')
+
+    def test_survey(self):
+        for path, *lines in (
+                ("$.price", "type mixed", "rows 5", "absent 1", "null 1", "uint64 1", "decimal64 1",
+                 "text 1", "length 3", "digits 3", "scales 0 2"),
+                ("$.sku", "type text", "rows 5", "absent 2", "text 3", "length 3"),
+                ("$.at[0]", "type int64", "rows 5", "absent 4", "uint64 1", "digits 1",
+                 "scales 0 0"),
+                ("$", "type mixed", "rows 5", "object 5"),
+                ('$."no such"', "type nothing", "rows 5", "absent 5")):
+            expected = "".join(it + "\n" for it in lines).encode()
+            self.assertEqual(run("survey", path, given=stored(*self.ROWS)), (0, expected, ""), path)
+        self.assertEqual(run("survey", "$.a"), (0, b"type nothing\nrows 0\n", ""))
+        whole = stored('{"a":2.0}')
+        self.assertIn(b"type int64\n", run("survey", "$.a", given=whole)[1])
+        self.assertIn(b"type decimal 1\n", run("survey", "--exact", "$.a", given=whole)[1])
+
+    def test_extract(self):
+        source = self.path("rows", stored(*self.ROWS))
+        for words, lines, unfit in (
+                (["$.price", "decimal 2"], ['row,"$.price"', "0,1.50", "1,2.00", "2,", "3,", "4,"],
+                 1),
+                (["$.price", "decimal 2", "--exact"],
+                 ['row,"$.price"', "0,1.50", "1,", "2,", "3,", "4,"], 2),
+                (["$.sku", "text"], ['row,"$.sku"', '0,"k7"', "1,", "2,", '3,"a""b"', '4,""'], 0),
+                (["$.ok", "least"], ['row,"$.ok"', "0,", "1,true", "2,false", "3,", "4,"], 0),
+                (["$.price", "least"], ['row,"$.price"', "0,", "1,", "2,", "3,", "4,"], 3)):
+            status, output, message = run("extract", *words[:2], source, *words[2:])
+            self.assertEqual((status, output.decode().splitlines()), (0, lines), words)
+            self.assertEqual(message.count("no value of the type"), unfit > 0)
+            self.assertEqual(f"in {unfit} of 5 rows" in message, unfit > 0)
+        many = run("extract", "$.at[#-1]", "int64", source, "--and", "$.sku", "text", "--and",
+                   '$."price"', "decimal 37")
+        self.assertEqual(many[1].decode().splitlines(), [
+            'row,"$.at[#-1]","$.sku","$.""price"""', '0,,"k7",1.5' + 36 * "0",
+            "1,,,2." + 37 * "0", "2,,,", '3,7,"a""b",', '4,,"",'])
+        small = stored('{"a":0.' + 37 * "0" + '1}')
+        self.assertEqual(run("extract", "$.a", "least", given=small)[1],
+                         b'row,"$.a"\n0,0.' + 37 * b"0" + b"1\n")
+        self.assertEqual(run("extract", "$.a", "int64")[1], b'row,"$.a"\n')
+
+    def test_extract_refuses(self):
+        source = self.path("rows", stored(*self.ROWS))
+        status, output, message = run("extract", "$.price", "int64", source, "--unfit", "error")
+        self.assertEqual((status, output), (1, b""))
+        self.assertEqual(message, 'kohiblad: row 0: OtherKind: no int64 at ["price"]: 1.50\n')
+        for words in (["price", "int64"], ["$.a[*]", "int64"], ["$.a", "int"],
+                      ["$.a", "decimal 256"]):
+            self.assertEqual(run("extract", *words)[:2], (2, b""), words)
+        self.assertEqual(run("survey", "a.b")[:2], (2, b""))
+        for words in (["a", "int64"], ["$.a", "date"], ["$.price", "text"]):
+            status, output, _ = run("extract", "$.price", "int64", source, "--and", *words)
+            self.assertEqual((status, output), (1, b""), words)
+        status, _, message = run("extract", "$.a", "int64", given=stored("1")[:-1])
+        self.assertEqual(status, 1)
+        self.assertIn("document 1: InvalidEOF", message)
+        self.assertEqual(run("extract", "$.price", "int64", source, "-o", source)[0], 1)
+
+    def test_extract_counts_the_documents(self):
+        given = stored("[7]") * 300_000
+        status, output, message = run("extract", "$[0]", "int64", "--progress", given=given)
+        self.assertEqual((status, output.count(b"\n")), (0, 300_001))
+        self.assertTrue(message.endswith("300,000 documents\n"), message[-50:])
+
+    @unittest.skipUnless(HAS_NUMPY, "arrays in files: needs the Debian package python3-numpy")
+    def test_extract_to_arrays(self):
+        import numpy
+        source = self.path("rows", stored(*self.ROWS, '{"price":18446744073709551616}'))
+        target = self.path("out.npz")
+        self.assertEqual(run("extract", "$.price", "decimal 2", source, "--and", "$.sku", "text",
+                             "--and", "$.ok", "boolean", "-o", target)[:2], (1, b""))
+        source = self.path("rows", stored(*self.ROWS))
+        status, _, message = run("extract", "$.price", "decimal 2", source, "--and", "$.sku",
+                                 "text", "--and", "$.ok", "boolean", "-o", target)
+        self.assertEqual((status, message.count("\n")), (0, 1))
+        with numpy.load(target) as found:
+            self.assertEqual({name: it.tolist() for name, it in found.items()}, {
+                "$.price": [150, 200, 0, 0, 0], "$.price states": [1, 1, 3, 2, 0],
+                "$.price scale": 2, "$.sku": ["k7", "", "", 'a"b', ""],
+                "$.sku states": [1, 0, 0, 1, 1], "$.ok": [False, True, False, False, False],
+                "$.ok states": [0, 1, 1, 0, 0]})
+        one = self.path("out.npy")
+        status, _, message = run("extract", "$.price", "decimal 2", source, "-o", one)
+        self.assertEqual((status, os.path.exists(one)), (1, False))
+        self.assertIn("3 rows have no value: write .npz", message)
+        numbers = self.path("numbers", stored("[5,true]", "[-1,true]"))
+        self.assertEqual(run("extract", "$[0]", "int64", numbers, "-o", one), (0, b"", ""))
+        self.assertEqual((numpy.load(one).tolist(), numpy.load(one).dtype.name),
+                         ([5, -1], "int64"))
+        status, _, message = run("extract", "$[0]", "int64", numbers, "--and", "$[1]", "boolean",
+                                 "-o", one)
+        self.assertEqual(status, 1)
+        self.assertIn("one array for 2 members", message)
+        zero = self.path("zero", stored(r'["a\u0000"]'))
+        self.assertEqual(run("extract", "$[0]", "text", zero, "-o", one)[0], 1)
+
+    @unittest.skipIf(HAS_NUMPY, "numpy is installed")
+    def test_arrays_without_numpy(self):
+        status, _, message = run("extract", "$.a", "int64", "-o", self.path("out.npy"))
+        self.assertEqual(status, 1)
+        self.assertIn("needs numpy", message)
+
     def test_a_reader_that_ends_early(self):
         source = self.path("in", b"[1,2,3]\n" * 100_000)
         program = subprocess.Popen([sys.executable, "-m", "kohiblad", "encode", source],
@@ -187,7 +293,8 @@ class CommandTest(unittest.TestCase):
     def test_help_and_version(self):
         status, output, _ = run("--help")
         self.assertEqual(status, 0)
-        for command in (b"encode", b"decode", b"sort", b"get", b"show"):
+        for command in (b"encode", b"decode", b"sort", b"get", b"survey", b"extract",
+                        b"show"):
             self.assertIn(command, output)
         self.assertEqual(run("--version")[1].decode().strip(), f"kohiblad {kohiblad.__version__}")
         self.assertEqual(run()[0], 2)

@@ -13,6 +13,7 @@ SOURCE = os.path.join(TOP, "src")
 CALLER = """\
 from typing import Iterator, List, Mapping, Sequence
 from kohiblad import ArrayDocument, Document, DocumentPath, ObjectDocument, dumps, loads
+from kohiblad.arrow import Column, Typed
 
 document = Document.parse(b"{}", depth=3)
 if isinstance(document, ObjectDocument):
@@ -34,6 +35,9 @@ child: object = other.get_path("tags", 0, default="none")
 chosen: List[object] = [*other.select("$.tags[*]"), *other.select(b"$")]
 keys: List[int] = other.index_keys() + other.top_keys()
 ordered = sorted([document, Document.of(None)])
+column: Column = Column.of([document, None])
+members: List[Typed] = column.extract(["a", ["b", -1]], ["decimal 2", None], unfit="null")
+count: int = column.survey(0).numbers + members[0].unfit + len(column.least_type("a", exact=True))
 Document.parse(5)
 """
 

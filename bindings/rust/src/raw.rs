@@ -153,7 +153,8 @@ impl<'a> RawJsonb<'a> {
     /// The text is `$` and then its steps: `.name` or `."any name"` for a key, `[0]` for an item,
     /// `[#-1]` for the last one, `[*]` for all items, `[0 to #-2]` for those from one to another,
     /// and `.*` for all values of an object. `?(@.price < 3)` keeps a value if what is at the path
-    /// after `@` compares so with a literal.
+    /// after `@` compares so with a literal; `&&` and `||` join comparisons, in groups in
+    /// parentheses, and `!` turns a group.
     ///
     /// ```
     /// use kohiblad::{Node, OwnedJsonb};

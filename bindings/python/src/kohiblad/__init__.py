@@ -15,7 +15,7 @@ from ._document import (ArrayDocument, Document, ObjectDocument, ScalarDocument,
 from ._encode import DEPTH
 from ._errors import (ExtensionError, FloatError, InvalidDocumentError, InvalidTextError,
                       KohibladError, NumberError, OutOfMemoryError, PathError, TooDeepError,
-                      TooManyStepsError)
+                      TooManyStepsError, UnfitError)
 from ._files import read, read_lines, write
 from ._library import IS_NATIVE
 from ._scalars import Date, Interval, Opaque, Scalar, Timestamp, TimestampTz
@@ -24,4 +24,5 @@ __all__ = ["ArrayDocument", "DEPTH", "Date", "Document", "DocumentPath", "Extens
            "FloatError", "IS_NATIVE", "Interval", "InvalidDocumentError", "InvalidTextError",
            "KohibladError", "NumberError", "ObjectDocument", "Opaque", "OutOfMemoryError",
            "PathError", "Scalar", "ScalarDocument", "Timestamp", "TimestampTz", "TooDeepError",
-           "TooManyStepsError", "Value", "dumps", "loads", "read", "read_lines", "write"]
+           "TooManyStepsError", "UnfitError", "Value", "dumps", "loads", "read", "read_lines",
+           "write"]

@@ -15,13 +15,16 @@ from . import Document, KohibladError, __version__
 from ._fault import fault_of
 from ._files import documents_of_lines, rest_of, stored, stored_documents, target_of
 from ._key_lines import add_key_options, add_range_options, key_line, key_row, range_lines
+from ._member_lines import (MemberError, add_extract_options, add_survey_options, csv_lines,
+                            extracted, is_numpy, survey_lines, unfit_lines, write_numpy)
 from ._show import lines_of, page_of
+from .arrow import Column
 
 _DESCRIPTION = """\
 Converts files of JSON lines (NDJSON) to files of binary documents and back, sorts and merges
-documents, prints one member of each or the key of some, and shows the bytes of one. A file of
-documents has each document after its length: eight bytes, the most significant first. Two such
-files joined are a file of both."""
+documents, prints one member of each or the key of some, takes members as columns of one type, and
+shows the bytes of one. A file of documents has each document after its length: eight bytes, the
+most significant first. Two such files joined are a file of both."""
 
 _SHOW = """\
 Prints one document as a tree beside its bytes. Each line has an entry word, the bytes that belong
@@ -168,6 +171,10 @@ def _parser() -> argparse.ArgumentParser:
              "get": "documents to the JSON lines of a member, empty where there is none",
              "keys": "documents to lines of hexadecimal: keys that sort as the documents do, or as "
                      "some of their members",
+             "survey": "documents to what a member of them is: the least type that holds all, and "
+                       "counts of each kind",
+             "extract": "documents to a line of CSV for each, with members of one type, or to "
+                        "arrays of numpy if the output ends with .npy or .npz",
              "merge": "sorted documents of several files to one, with one of each file in memory"}
     for name, text in helps.items():
         command = commands.add_parser(name, help=text, description=text)
@@ -181,6 +188,10 @@ def _parser() -> argparse.ArgumentParser:
             command.add_argument("name", metavar="NAME", help="the member's key")
         if name == "keys":
             add_key_options(command)
+        if name == "survey":
+            add_survey_options(command)
+        if name == "extract":
+            add_extract_options(command)
         if name == "sort":
             command.add_argument("--memory", metavar="SIZE", type=_size, default=_size("1G"),
                                  help="about how many bytes the documents may take in memory, as "
@@ -378,6 +389,28 @@ def _convert(options: argparse.Namespace) -> None:
         _run(options, sources, target, refusals)
 
 
+def _write_members(options: argparse.Namespace) -> None:
+    """Surveys a member of the documents, or writes columns of members."""
+    _expect_two_files(options.input, options.output)
+    with _opened(options.input) as source:
+        is_shown = options.progress or sys.stderr.isatty()
+        progress = Progress(is_shown, "document", [source])
+        column = Column.of(progress.count(stored_documents(source, _input_name(options.input))))
+    if options.command == "survey":
+        lines = survey_lines(column, options)
+    else:
+        columns = extracted(column, options)
+        for line in unfit_lines(columns):
+            print(f"kohiblad: {line}", file=sys.stderr)
+        lines = csv_lines(columns)
+    with _written(options.output) as target:
+        if options.command == "extract" and is_numpy(options.output):
+            write_numpy(columns, options.output, target)
+        else:
+            target.writelines(lines)
+        target.flush()
+
+
 def main(arguments: Optional[List[str]] = None) -> int:
     options = _parser().parse_args(arguments)
     if options.command == "range":
@@ -388,13 +421,15 @@ def main(arguments: Optional[List[str]] = None) -> int:
     try:
         if options.command == "show":
             _show(options)
+        elif options.command in ("survey", "extract"):
+            _write_members(options)
         else:
             _convert(options)
     except BrokenPipeError:
         # Nobody reads on, as after `| head`. Python would fail once more at its end.
         os.dup2(os.open(os.devnull, os.O_WRONLY), sys.stdout.fileno())
         return 1
-    except (InputError, KohibladError, OSError) as error:
+    except (InputError, MemberError, KohibladError, OSError) as error:
         print(f"kohiblad: {error}", file=sys.stderr)
         return 1
     except KeyboardInterrupt:

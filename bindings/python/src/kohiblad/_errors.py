@@ -7,10 +7,12 @@ class KohibladError(ValueError):
 
     ``status`` is the number of the header's ``enum kohiblad_status``, and ``name`` the library's
     name for it, as ``InvalidJson``. For a document or a line of a file ``place`` names it, as
-    ``rows.ndjson: line 3``, and ``line`` is the number of the line.
+    ``rows.ndjson: line 3``, and ``line`` is the number of the line. For a row of a column ``row``
+    is its number from 0.
     """
     place = ""
     line: Optional[int] = None
+    row: Optional[int] = None
     # In a text, where there is one.
     offset: Optional[int] = None
 
@@ -61,6 +63,10 @@ class TooDeepError(KohibladError):
 
 class TooManyStepsError(KohibladError):
     """The answer takes more steps than were allowed, so it is not known."""
+
+
+class UnfitError(KohibladError):
+    """The member of a row is no value of the type that was asked for. ``row`` is the first such."""
 
 
 class OutOfMemoryError(KohibladError, MemoryError):

@@ -47,6 +47,17 @@ CREATE = 3
 NAMED = 0
 OTHERS = 1
 
+# When a number fits a column of numbers.
+BY_VALUE = 0
+EXACT = 1
+
+# What a row has in a column of one type.
+ROW_ABSENT = 0
+ROW_VALUE = 1
+ROW_NULL = 2
+ROW_UNFIT = 3
+ROW_NO_DOCUMENT = 4
+
 # Of steps.
 NO_LIMIT = 2**64 - 1
 
@@ -117,6 +128,21 @@ class Cursor(ctypes.Structure):
 
 class Number(ctypes.Structure):
     _fields_ = [("status", c_uint32), ("scale", c_uint32), ("high", c_int64), ("low", c_uint64)]
+
+
+class Taken(ctypes.Structure):
+    """How many rows of a column have no value of its type but null, and the first of them."""
+    _fields_ = [("status", c_uint32), ("unfit", c_uint64), ("first_unfit", c_uint64)]
+
+
+class SurveyCounts(ctypes.Structure):
+    """In how many rows a member is what a count is named after."""
+    COUNTS = ("rows", "not_documents", "absent", "nulls", "booleans", "int64s", "uint64s",
+              "decimal64s", "decimal128s", "texts", "binaries", "dates", "timestamps",
+              "zoned_timestamps", "intervals", "opaques", "arrays", "objects")
+    _fields_ = [("status", c_uint32), ("least_scale", c_uint32), ("greatest_scale", c_uint32),
+                ("most_digits", c_uint64), ("longest_text", c_uint64),
+                *((it, c_uint64) for it in COUNTS)]
 
 
 class ExtensionValue(ctypes.Structure):
@@ -221,6 +247,17 @@ path_in = _export("path_in", c_uint32, *_BYTES, *_BYTES, c_size_t, *_OUT)
 select = _export("select", c_uint32, *_BYTES, *_BYTES, c_size_t, *_OUT)
 index_keys = _export("index_keys", c_uint32, *_BYTES, c_size_t, *_OUT)
 top_keys = _export("top_keys", c_uint32, *_BYTES, c_size_t, *_OUT)
+path_of_given_text = _export("path_of_text", c_uint32, *_BYTES, *_OUT)
+get_path = _export("get_path", Place, *_BYTES, *_BYTES, c_size_t)
+# Of rows by their address, at the end of a path and within a depth.
+_MEMBERS = (c_void_p, c_size_t, c_void_p, c_size_t, *_BYTES, c_size_t)
+_COLUMN = (c_void_p, c_size_t, c_void_p, c_size_t)
+survey = _export("survey", SurveyCounts, *_MEMBERS)
+take_int64 = _export("take_int64", Taken, *_MEMBERS, c_uint32, *_COLUMN)
+take_uint64 = _export("take_uint64", Taken, *_MEMBERS, c_uint32, *_COLUMN)
+take_decimal = _export("take_decimal", Taken, *_MEMBERS, c_uint32, c_uint32, *_COLUMN)
+take_boolean = _export("take_boolean", Taken, *_MEMBERS, *_COLUMN)
+take_text = _export("take_text", Taken, *_MEMBERS, *_OUT, *_COLUMN)
 _begin = _export("begin", c_uint32, *_BYTES, c_void_p)
 _next = _export("next", c_uint32, *_BYTES, c_void_p, c_void_p, c_void_p)
 # The same of a document inside another, by its address.

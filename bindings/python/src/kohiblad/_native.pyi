@@ -12,8 +12,8 @@ VERSION: str
 def bind(exports: Dict[str, int], objects: Dict[str, Any]) -> None:
     """Takes the addresses of the library's exports, and what the package has for the module."""
 
-def releases(exported: Dict[int, Any]) -> Tuple[int, int]:
-    """The addresses of functions that release a schema and an array of Arrow.
+def releases(exported: Dict[int, Any]) -> Tuple[int, int, int]:
+    """The addresses of functions that release a schema, an array and a stream of Arrow.
 
     Each takes the number that is the struct's private data out of the dict, in any thread, and
     keeps an exception that is raised.

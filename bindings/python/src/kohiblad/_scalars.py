@@ -1,7 +1,7 @@
 """Scalars: numbers, and the extension values with their Python types."""
 from datetime import date, datetime, timedelta, timezone
 from decimal import Context, Decimal
-from typing import NamedTuple, Union, cast
+from typing import Iterable, NamedTuple, Union, cast
 
 from . import _library as library
 from ._errors import NumberError
@@ -69,9 +69,19 @@ def _number_of(document: bytes) -> Union[int, Decimal]:
     number = library.number(document, len(document))
     if number.status:
         raise library.error_of(number.status)
-    digits = number.high << 64 | number.low
-    scale = number.scale
+    return decimal_of(number.high << 64 | number.low, number.scale)
+
+
+def decimal_of(digits: int, scale: int) -> Union[int, Decimal]:
+    """The number with these digits, so many of them after the point."""
     return Decimal(digits).scaleb(-scale, _EXACT) if scale else digits
+
+
+def decimals_of(numbers: Iterable[int], scale: int) -> Iterable[Union[int, Decimal]]:
+    """The numbers with these digits, so many of them after the point."""
+    if not scale:
+        return numbers
+    return (Decimal(it).scaleb(-scale, _EXACT) for it in numbers)
 
 
 def _extension_of(document: bytes) -> Scalar:

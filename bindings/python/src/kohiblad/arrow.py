@@ -8,10 +8,13 @@
     >>> again = Column.from_arrow(column)
     >>> again[2]
     <ObjectDocument {"id":1}>
+    >>> column.survey("id").uint64s, column.extract(["id"])[0].to_list()
+    (2, [2, None, 1])
 
 ``pyarrow.array``, and each other library that knows ``__arrow_c_array__``, takes a ``Column``: as
 LargeBinary, of the extension type ``kohiblad``. ``Column.from_arrow`` takes what such a library has
-of the types Binary and LargeBinary, also a slice.
+of the types Binary and LargeBinary, also a slice. A column of the members of all rows, which
+``Column.extract`` takes, is handed out in the same way, as integers, decimals, booleans or texts.
 """
 import array
 import ctypes
@@ -19,44 +22,24 @@ import itertools
 import operator
 import sys
 import weakref
-from ctypes import POINTER, byref, c_char_p, c_int32, c_int64, c_size_t, c_void_p
-from typing import (Any, Dict, Iterable, Iterator, List, Optional, Protocol, Sequence, Tuple, Type,
-                    Union, overload)
+from ctypes import byref, c_int32, c_int64, c_size_t, c_void_p
+from typing import (Any, Iterable, Iterator, List, Optional, Protocol, Sequence, Tuple, Union,
+                    overload)
 
+from . import _capsules as capsules
 from . import _library as library
+from . import _typed as typed
+from ._changes import DocumentPath, steps_of
 from ._document import Document
 from ._encode import DEPTH
+from ._typed import Survey, Typed
 
-if library.IS_NATIVE:
-    from . import _native as native
-
-__all__ = ["Column"]
+__all__ = ["Column", "Survey", "Typed"]
 
 EXTENSION_NAME = b"kohiblad"
 _LARGE_BINARY, _BINARY = b"Z", b"z"
-_NULLABLE = 2
 # The offsets of so many rows, and one more, have addresses.
 _MOST_ROWS = sys.maxsize // 16
-_SCHEMA_NAME, _ARRAY_NAME = b"arrow_schema", b"arrow_array"
-
-
-class _Schema(ctypes.Structure):
-    pass
-
-
-class _Array(ctypes.Structure):
-    pass
-
-
-_Release = ctypes.CFUNCTYPE(None, c_void_p)
-_Schema._fields_ = [("format", c_char_p), ("name", c_char_p), ("metadata", c_void_p),
-                    ("flags", c_int64), ("n_children", c_int64), ("children", c_void_p),
-                    ("dictionary", c_void_p), ("release", _Release), ("private_data", c_void_p)]
-_Array._fields_ = [("length", c_int64), ("null_count", c_int64), ("offset", c_int64),
-                   ("n_buffers", c_int64), ("n_children", c_int64), ("buffers", POINTER(c_void_p)),
-                   ("children", c_void_p), ("dictionary", c_void_p), ("release", _Release),
-                   ("private_data", c_void_p)]
-_Struct = Union[Type[_Schema], Type[_Array]]
 
 
 class HasArrow(Protocol):
@@ -65,76 +48,9 @@ class HasArrow(Protocol):
     def __arrow_c_array__(self, requested_schema: Any = None) -> Tuple[Any, Any]: ...
 
 
-# What others still use, by the numbers that they have as private data.
-_exported: Dict[int, Tuple[Any, ...]] = {}
-_numbers = itertools.count(1)
-
-
-def _releaser(struct: _Struct) -> Any:
-    """A C function that ends the use of a struct, and marks it."""
-    def release(address: int) -> None:
-        it = struct.from_address(address)
-        _exported.pop(it.private_data or 0, None)
-        it.release = _Release(0)
-    return _kept(_Release(release))
-
-
-def _kept(function: Any) -> Any:
-    """The same function, which is never freed: others may call it at the end of the program."""
-    ctypes.pythonapi.Py_IncRef(ctypes.py_object(function))
-    return function
-
-
-if library.IS_NATIVE:
-    _release_schema, _release_array = map(_Release, native.releases(_exported))
-else:
-    _release_schema, _release_array = _releaser(_Schema), _releaser(_Array)
-
-_new_capsule = ctypes.PYFUNCTYPE(ctypes.py_object, c_void_p, c_char_p, c_void_p)(
-    ("PyCapsule_New", ctypes.pythonapi))
-_pointer_of = ctypes.PYFUNCTYPE(c_void_p, ctypes.py_object, c_char_p)(
-    ("PyCapsule_GetPointer", ctypes.pythonapi))
-
-# Capsules that were handed out, with their structs. They have no destructor: one by ctypes would
-# run Python code while an exception is raised that ends the use of the capsule, and lose it.
-_handed_out: List[Tuple[Any, Any]] = []
-# They are looked through each time that a column is made or handed out while they are so few, and
-# else when they are twice as many as were in use.
-_FEW = 64
-_bound = _FEW
-
-
-def _release_unused() -> None:
-    """Releases the structs of capsules that nobody has any more, unless a consumer took them."""
-    global _bound
-    for entry in list(_handed_out):
-        # One reference is that of the entry, and one that of the call.
-        if sys.getrefcount(entry[0]) > 2:
-            continue
-        try:
-            _handed_out.remove(entry)
-        except ValueError:
-            continue  # Another thread released it.
-        if entry[1].release:
-            entry[1].release(ctypes.addressof(entry[1]))
-    _bound = max(_FEW, 2 * len(_handed_out))
-
-
-def _release_some() -> None:
-    if len(_handed_out) < _FEW or len(_handed_out) > _bound:
-        _release_unused()
-
-
 # The order of the rows, by addresses.
 _sort = library._export("sort", ctypes.c_uint32, c_void_p, c_size_t, c_void_p, c_size_t,
                         c_size_t, c_void_p, c_size_t)
-
-
-def _capsule(it: Any, name: bytes) -> Any:
-    _release_some()
-    capsule = _new_capsule(ctypes.addressof(it), name, None)
-    _handed_out.append((capsule, it))
-    return capsule
 
 
 def _metadata() -> bytes:
@@ -163,7 +79,7 @@ class Column(Sequence[Optional[Document]]):
     @classmethod
     def of(cls, documents: Iterable[Optional[Document]]) -> "Column":
         """The column of documents; None is a row that is missing."""
-        _release_some()
+        capsules.release_some()
         data, offsets, validity = bytearray(), array.array("q", [0]), bytearray()
         for row, document in enumerate(documents):
             if row % 8 == 0:
@@ -201,10 +117,12 @@ class Column(Sequence[Optional[Document]]):
         interface does not say how long buffers are, so that they are as long as the array says is
         the source's word.
         """
-        _release_some()
+        capsules.release_some()
         schema_capsule, array_capsule = source.__arrow_c_array__()
-        schema = _Schema.from_address(_pointer_of(schema_capsule, _SCHEMA_NAME))
-        given = _Array.from_address(_pointer_of(array_capsule, _ARRAY_NAME))
+        schema = capsules.Schema.from_address(
+            capsules.pointer_of(schema_capsule, capsules.SCHEMA_NAME))
+        given = capsules.Array.from_address(
+            capsules.pointer_of(array_capsule, capsules.ARRAY_NAME))
         if not schema.release or not given.release:
             raise ValueError("the array was released, or taken by another")
         if schema.format not in (_LARGE_BINARY, _BINARY):
@@ -212,13 +130,13 @@ class Column(Sequence[Optional[Document]]):
         _check_parts(schema, given)
         offsets, kept = _offsets_of(given, schema.format == _BINARY)
         validity, _, data = given.buffers[:3]
-        taken = _Array()
+        taken = capsules.Array()
         # An empty array needs no memory, and without data no row has a byte.
         column = cls._new(given.length, offsets, data or offsets,
                           validity if given.null_count else None,
                           given.offset if given.length else 0, (taken, kept))
-        ctypes.memmove(byref(taken), byref(given), ctypes.sizeof(_Array))
-        given.release = _Release(0)
+        ctypes.memmove(byref(taken), byref(given), ctypes.sizeof(capsules.Array))
+        given.release = capsules.Release(0)
         weakref.finalize(column, _end, taken)
         return column
 
@@ -243,8 +161,7 @@ class Column(Sequence[Optional[Document]]):
     def _row(self, row: int) -> Optional[Document]:
         if self._is_missing(row):
             return None
-        start, end = self._offsets[self._first + row:self._first + row + 2]
-        return Document(ctypes.string_at(self._data + start, end - start))
+        return Document(self._bytes_at(row))
 
     def _is_missing(self, row: int) -> bool:
         if self._validity is None:
@@ -271,26 +188,113 @@ class Column(Sequence[Optional[Document]]):
             return rows
         return sorted(rows, key=self._is_missing)
 
+    def survey(self, path: DocumentPath) -> Survey:
+        """Counts what the members of the rows at the end of a path are.
+
+        >>> texts = ['{"price": 5}', '{"price": 1.5}', '{"price": null}', '{"sku": "k7"}']
+        >>> column = Column.of(map(Document.parse, texts))
+        >>> counts = column.survey("price")
+        >>> counts.rows, counts.absent, counts.nulls, counts.numbers, counts.greatest_scale
+        (4, 1, 1, 2, 1)
+
+        The path is one as for ``Document.set``. Rows need not be documents: those that are none
+        have a count of their own.
+        """
+        return typed.survey_of(self._batches(), steps_of(path))
+
+    def least_type(self, path: DocumentPath, *, exact: bool = False) -> str:
+        """The first type that holds the members of all rows at the end of a path.
+
+        >>> Column.of([Document.of({"price": 5})]).least_type("price")
+        'int64'
+
+        It is nothing, boolean, int64, uint64, decimal with the greatest scale, as decimal 2, text,
+        date, timestamp, timestamp_tz, interval or mixed, which are tried in this order. Null is
+        held by each, and rows that are no documents do not count.
+        """
+        return typed.least_type(self, steps_of(path), exact)
+
+    def extract(self, paths: Iterable[DocumentPath],
+                types: Optional[Iterable[Optional[str]]] = None, *, unfit: str = "rest",
+                exact: bool = False) -> List[Typed]:
+        """The members of the rows at the end of each path, as columns of values of one type.
+
+        >>> texts = ['{"price": 5}', '{"price": "1.5"}', '{"sku": "k7"}', '{"price": 1.50}']
+        >>> column = Column.of(map(Document.parse, texts))
+        >>> prices, skus = column.extract(["price", "sku"], ["decimal 2", None])
+        >>> prices.to_list(), prices.rest
+        ([Decimal('5.00'), None, None, Decimal('1.50')], [(1, <ScalarDocument "1.5">)])
+        >>> skus.type, skus.to_list()
+        ('text', [None, None, 'k7', None])
+
+        A path is one as for ``Document.set``, so a str is a key. A type is boolean, int64, uint64,
+        text, decimal with a scale, as decimal 2, or nothing or mixed, which have no values. Where
+        none is named it is the ``least_type``, and mixed in place of dates, timestamps and
+        intervals, of which there are no columns. A number fits if it equals a value of the type,
+        or, if it is ``exact``, if the value gives its kind and digits back.
+
+        What ``unfit`` says is done with members that do not fit, but for null, and with rows that
+        are no documents: the ``rest`` keeps them, they count as null, or the first is an error.
+        UnfitError: such a member. InvalidDocumentError: such a row. ValueError: there is no such
+        type, or there are not as many types as paths. TypeError: the paths are one str.
+        """
+        if isinstance(paths, str):
+            raise TypeError(f"the paths are a list: for one path give [{paths!r}]")
+        if unfit not in ("rest", "null", "error"):
+            raise ValueError(f"what does not fit is rest, null or error, not {unfit!r}")
+        steps = list(map(steps_of, paths))
+        names = typed.names_of([None] * len(steps) if types is None else types)
+        if len(names) != len(steps):
+            raise ValueError(f"there are {len(steps)} paths and {len(names)} types")
+        return [typed.extract(self, it, name, unfit, exact) for it, name in zip(steps, names)]
+
+    def _batches(self) -> Iterator[typed.Batch]:
+        for first in range(0, self._length, typed.BATCH):
+            yield self._batch(first, min(typed.BATCH, self._length - first))
+
+    def _batch(self, first: int, count: int) -> typed.Batch:
+        """Some rows where they are, or a copy where a missing row has bytes."""
+        at = self._first + first
+        if any(self._offsets[at + row] < self._offsets[at + row + 1]
+               for row in self._missing(first, count)):
+            missing = set(self._missing(first, count))
+            rows = [b"" if row in missing else self._bytes_at(first + row) for row in range(count)]
+            data = ctypes.create_string_buffer(b"".join(rows))
+            ends = array.array("q", [0, *itertools.accumulate(map(len, rows))])
+            return typed.Batch(first, count, ctypes.addressof(data), 0, ends[-1],
+                               ends.buffer_info()[0], (data, ends))
+        return typed.Batch(first, count, self._data, self._offsets[at], self._offsets[at + count],
+                           ctypes.addressof(self._offsets) + 8 * at, self)
+
+    def _missing(self, first: int, count: int) -> Iterator[int]:
+        """The numbers of the missing rows among some, counted from the first of these."""
+        if self._validity is None:
+            return
+        byte, bit = divmod(self._first + first, 8)
+        flags = ctypes.string_at(self._validity + byte, (bit + count + 7) // 8)
+        missing = ~(int.from_bytes(flags, "little") >> bit) & (1 << count) - 1
+        while missing:
+            row = missing.bit_length() - 1
+            yield row
+            missing ^= 1 << row
+
+    def _bytes_at(self, row: int) -> bytes:
+        start, end = self._offsets[self._first + row:self._first + row + 2]
+        return ctypes.string_at(self._data + start, end - start)
+
     def __arrow_c_schema__(self) -> Any:
         """A capsule of the type: LargeBinary, of the extension type ``kohiblad``."""
-        number, metadata = next(_numbers), ctypes.create_string_buffer(_metadata())
-        schema = _Schema(_LARGE_BINARY, b"", ctypes.addressof(metadata), _NULLABLE, 0, None, None,
-                         _release_schema, number)
-        _exported[number] = (metadata,)
-        return _capsule(schema, _SCHEMA_NAME)
+        return capsules.schema_capsule(_LARGE_BINARY, _metadata())
 
     def __arrow_c_array__(self, requested_schema: Any = None) -> Tuple[Any, Any]:
         """Capsules of the type and of the array, which has this column's memory.
 
         A schema that is requested is not looked at, as the interface allows.
         """
-        number = next(_numbers)
-        buffers = (c_void_p * 3)(self._validity, ctypes.addressof(self._offsets), self._data)
         nulls = sum(map(self._is_missing, range(self._length))) if self._validity else 0
-        it = _Array(self._length, nulls, self._first, 3, 0, buffers, None, None, _release_array,
-                    number)
-        _exported[number] = (self, buffers)
-        return self.__arrow_c_schema__(), _capsule(it, _ARRAY_NAME)
+        addresses = self._validity, ctypes.addressof(self._offsets), self._data
+        return self.__arrow_c_schema__(), capsules.array_capsule(self._length, nulls, self._first,
+                                                                 addresses, self)
 
 
 def _check_parts(schema: Any, given: Any) -> None:

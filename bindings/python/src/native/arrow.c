@@ -18,6 +18,14 @@ struct arrow_array {
     void *private_data;
 };
 
+struct arrow_array_stream {
+    int (*get_schema)(struct arrow_array_stream *, struct arrow_schema *);
+    int (*get_next)(struct arrow_array_stream *, struct arrow_array *);
+    const char *(*get_last_error)(struct arrow_array_stream *);
+    void (*release)(struct arrow_array_stream *);
+    void *private_data;
+};
+
 /* The dict of the package in which what others use is kept, by numbers. */
 static PyObject *exported;
 
@@ -47,7 +55,13 @@ static void release_array(struct arrow_array *it)
     let_go(it->private_data);
 }
 
-/* releases(exported): the addresses of both functions, which take keys out of that dict. */
+static void release_stream(struct arrow_array_stream *it)
+{
+    it->release = NULL;
+    let_go(it->private_data);
+}
+
+/* releases(exported): the addresses of these functions, which take keys out of that dict. */
 PyObject *native_releases(PyObject *module, PyObject *given)
 {
     (void)module;
@@ -57,10 +71,7 @@ PyObject *native_releases(PyObject *module, PyObject *given)
     }
     Py_XDECREF(exported);
     exported = Py_NewRef(given);
-    PyObject *schema = PyLong_FromVoidPtr((void *)(uintptr_t)release_schema);
-    PyObject *array = PyLong_FromVoidPtr((void *)(uintptr_t)release_array);
-    PyObject *both = schema && array ? PyTuple_Pack(2, schema, array) : NULL;
-    Py_XDECREF(schema);
-    Py_XDECREF(array);
-    return both;
+    return Py_BuildValue("(NNN)", PyLong_FromVoidPtr((void *)(uintptr_t)release_schema),
+                         PyLong_FromVoidPtr((void *)(uintptr_t)release_array),
+                         PyLong_FromVoidPtr((void *)(uintptr_t)release_stream));
 }

@@ -1,0 +1,508 @@
+"""The members of all rows at the end of a path, as a column of values of one type.
+
+docs/TYPED.md says which members fit which type. The rows come in batches, so that an interrupt from
+the keyboard ends a long call between two of them.
+"""
+import array
+import ctypes
+from importlib import import_module
+from itertools import islice
+from typing import (Any, Callable, Iterable, Iterator, List, NamedTuple, NoReturn, Optional,
+                    Protocol, Sequence, Tuple, Union, overload)
+
+from . import _capsules as capsules
+from . import _library as library
+from ._changes import Step, document_of_path
+from ._document import Document
+from ._encode import DEPTH
+from ._errors import KohibladError, UnfitError
+from ._scalars import decimal_of, decimals_of
+
+BATCH = 2048
+
+_MOST_SCALE = 255
+_MOST_SHOWN = 70
+# Of a decimal of Arrow with 128 bits.
+_MOST_DIGITS = 38
+_FORMATS = {"int64": b"l", "uint64": b"L", "boolean": b"b", "text": b"U", "nothing": b"n",
+            "mixed": b"n"}
+_NO_VALUES = ("nothing", "mixed")
+_WITHOUT_SCALE = ("boolean", "int64", "uint64", "text", *_NO_VALUES)
+# The library takes no values of these.
+_WITHOUT_CALLS = ("date", "timestamp", "timestamp_tz", "interval")
+# The states of rows of a type that has no values, where those of another type have some.
+_WITHOUT_VALUES = bytes([library.ROW_ABSENT, library.ROW_UNFIT, library.ROW_NULL,
+                         library.ROW_UNFIT, library.ROW_NO_DOCUMENT, *range(5, 256)])
+# And where what does not fit counts as null.
+_UNFIT_AS_NULL = bytes([library.ROW_ABSENT, library.ROW_VALUE, library.ROW_NULL, library.ROW_NULL,
+                        library.ROW_NULL, *range(5, 256)])
+_IS_ONE = bytes([48, 49, *254 * [48]])
+_UNFIT, _NO_DOCUMENT = bytes([library.ROW_UNFIT]), bytes([library.ROW_NO_DOCUMENT])
+
+# A member that does not fit; bytes that are no document are kept as they are.
+Unfit = Tuple[int, Union[Document, bytes]]
+
+
+class Batch(NamedTuple):
+    """Some rows, by addresses, as the library takes them."""
+    first: int
+    length: int
+    data: int
+    # Where the rows begin and end in the data.
+    begin: int
+    end: int
+    offsets: int
+    # What has the memory.
+    owner: Any
+
+
+class Rows(Protocol):
+    """What a column of documents has for the calls here."""
+
+    def __len__(self) -> int: ...
+    def _batches(self) -> Iterator[Batch]: ...
+    def _bytes_at(self, row: int) -> bytes: ...
+
+
+class Survey(NamedTuple):
+    """What the members of rows are: in how many rows they are what a count is named after.
+
+    Numbers are counted by the kind in which they are stored; whole numbers that are not negative
+    are mostly ``uint64s``. ``absent`` are the rows that have no such member, or are missing.
+    """
+    rows: int
+    not_documents: int
+    absent: int
+    nulls: int
+    booleans: int
+    int64s: int
+    uint64s: int
+    decimal64s: int
+    decimal128s: int
+    texts: int
+    binaries: int
+    dates: int
+    timestamps: int
+    zoned_timestamps: int
+    intervals: int
+    opaques: int
+    arrays: int
+    objects: int
+    # The least and the greatest number of digits after the point; 0 if there is no number.
+    least_scale: int
+    greatest_scale: int
+    # Of a number without its point.
+    most_digits: int
+    # In bytes.
+    longest_text: int
+
+    @property
+    def numbers(self) -> int:
+        """How many members are numbers, of any kind."""
+        return self.int64s + self.uint64s + self.decimal64s + self.decimal128s
+
+
+def survey_of(batches: Iterable[Batch], steps: Tuple[Step, ...]) -> Survey:
+    path = document_of_path(steps)
+    totals = [0] * len(library.SurveyCounts.COUNTS)
+    least_scale, greatest_scale, most_digits, longest_text, has_numbers = 0, 0, 0, 0, False
+    for batch in batches:
+        it = library.survey(batch.data, batch.end, batch.offsets, batch.length + 1, path, len(path),
+                            DEPTH)
+        if it.status != library.OK:
+            raise library.error_of(it.status)
+        totals = [total + getattr(it, name)
+                  for total, name in zip(totals, library.SurveyCounts.COUNTS)]
+        if it.int64s or it.uint64s or it.decimal64s or it.decimal128s:
+            least_scale = min(least_scale, it.least_scale) if has_numbers else it.least_scale
+            has_numbers = True
+        greatest_scale = max(greatest_scale, it.greatest_scale)
+        most_digits = max(most_digits, it.most_digits)
+        longest_text = max(longest_text, it.longest_text)
+    return Survey(*[*totals, least_scale, greatest_scale, most_digits, longest_text])
+
+
+def possible_types(survey: Survey) -> List[str]:
+    """The types of which the first that holds all members is the least, or mixed if none does."""
+    members = survey.rows - survey.not_documents - survey.absent - survey.nulls
+    if survey.numbers and survey.numbers == members:
+        return ["int64", "uint64", f"decimal {survey.greatest_scale}", "mixed"]
+    counts = {"nothing": 0, "boolean": survey.booleans, "text": survey.texts, "date": survey.dates,
+              "timestamp": survey.timestamps, "timestamp_tz": survey.zoned_timestamps,
+              "interval": survey.intervals}
+    return [next((name for name, count in counts.items() if count == members), "mixed")]
+
+
+class Typed(Sequence[Any]):
+    """The member of each row as a value of one type, and None where a row has none.
+
+    It is a sequence of Python values: int, Decimal, bool or str. The buffers behind it can be read
+    without a copy, also by numpy: ``states``, a byte for each row, ``values``, where a row without
+    a value has 0, and of texts ``offsets`` and ``texts``.
+
+    The state of a row is 0 if it has no such member, 1 if it has a value, 2 if the member is null,
+    3 if it is another that does not fit, and 4 if the row is not a document.
+    """
+    __slots__ = ("type", "scale", "path", "unfit", "states", "values", "offsets", "texts", "_rows",
+                 "__weakref__")
+    # As docs/TYPED.md names them: boolean, int64, uint64, decimal 2, text, nothing or mixed.
+    type: str
+    # How many digits come after the point.
+    scale: int
+    path: Tuple[Step, ...]
+    # How many rows have the states 3 and 4, or had them before they were taken as null.
+    unfit: int
+    states: memoryview
+    # Of the format q or Q, of booleans B; a decimal has two words of the format Q, the low one
+    # first, as Arrow's decimal128. Texts, nothing and mixed have none.
+    values: memoryview
+    # Of the format q, one more than there are rows: the text of row k goes from offsets[k] to
+    # offsets[k + 1] in the UTF-8 that is `texts`.
+    offsets: memoryview
+    texts: memoryview
+    _rows: Optional[Rows]
+
+    def __init__(self) -> None:
+        raise TypeError("typed members are made by Column.extract")
+
+    def __len__(self) -> int:
+        return len(self.states)
+
+    @overload
+    def __getitem__(self, index: int) -> Any: ...
+    @overload
+    def __getitem__(self, index: slice) -> List[Any]: ...
+
+    def __getitem__(self, index: Union[int, slice]) -> Any:
+        """The value of a row, or a list of those of a slice."""
+        rows = range(len(self.states))[index]
+        return self._at(rows) if isinstance(rows, int) else list(map(self._at, rows))
+
+    def _at(self, row: int) -> Any:
+        if self.states[row] != library.ROW_VALUE:
+            return None
+        if self.type == "text":
+            return str(self.texts[self.offsets[row]:self.offsets[row + 1]], "utf-8")
+        if self.type.startswith("decimal"):
+            return decimal_of(_int128(*self.values[2 * row:2 * row + 2]), self.scale)
+        return bool(self.values[row]) if self.type == "boolean" else self.values[row]
+
+    def __iter__(self) -> Iterator[Any]:
+        return iter(self.to_list())
+
+    def to_list(self) -> List[Any]:
+        """The values of all rows, as Python values."""
+        if self.type in _NO_VALUES:
+            return [None] * len(self)
+        values: Iterable[Any] = self.values
+        if self.type == "text":
+            values = (str(self.texts[start:end], "utf-8")
+                      for start, end in zip(self.offsets, self.offsets[1:]))
+        elif self.type == "boolean":
+            values = map(bool, self.values)
+        elif self.type.startswith("decimal"):
+            values = decimals_of(map(_int128, self.values[::2], self.values[1::2]), self.scale)
+        return [value if state == library.ROW_VALUE else None
+                for value, state in zip(values, self.states)]
+
+    @property
+    def rest(self) -> List[Unfit]:
+        """The rows that do not fit, by their numbers, each with its member as a document.
+
+        Of a row that is not a document it has the bytes. The list is made each time that it is
+        asked for, from the rows. It is empty if what does not fit was taken as null.
+        """
+        rows, path = self._rows, document_of_path(self.path)
+        if rows is None:
+            return []
+        return [(row, _member_of(rows._bytes_at(row), path) if state == library.ROW_UNFIT
+                 else rows._bytes_at(row))
+                for row, state in enumerate(self.states) if state >= library.ROW_UNFIT]
+
+    @property
+    def numpy(self) -> Any:
+        """The values as an array of numpy, where a row without a value has 0.
+
+        It has the memory of ``values``, and cannot be written to. Decimals are whole numbers
+        without their point, of 64 bits where all fit, and else Python's in a copy. Texts are a copy
+        too, with None where a row has none. ImportError: there is no numpy.
+        """
+        np = import_module("numpy")
+        if self.type == "text":
+            texts = np.empty(len(self), dtype=object)
+            texts[:] = self.to_list()
+            return texts
+        if self.type == "boolean":
+            return np.asarray(self.values).view(bool)
+        if not self.type.startswith("decimal"):
+            return np.asarray(self.values)
+        words = np.asarray(self.values).view("int64")
+        low, high = words[::2], words[1::2]
+        if (high == low >> 63).all():
+            return low
+        return np.array(list(map(_int128, self.values[::2], self.values[1::2])), dtype=object)
+
+    @property
+    def masked(self) -> Any:
+        """``numpy`` with a mask of the rows that have no value. ImportError: there is no numpy."""
+        np = import_module("numpy")
+        return np.ma.MaskedArray(self.numpy, np.asarray(self.states) != library.ROW_VALUE)
+
+    def __arrow_c_schema__(self) -> Any:
+        """A capsule of the type: integers of 64 bits, Decimal128, Boolean, LargeUtf8 or Null."""
+        if self.type.startswith("decimal"):
+            return capsules.schema_capsule(f"d:{_MOST_DIGITS},{self.scale}".encode())
+        return capsules.schema_capsule(_FORMATS[self.type])
+
+    def __arrow_c_array__(self, requested_schema: Any = None) -> Tuple[Any, Any]:
+        """Capsules of the type and of the array, which has the memory of ``values`` or ``texts``.
+
+        A row without a value is null. Of booleans a copy with a bit for each row is handed out. A
+        schema that is requested is not looked at, as the interface allows. ValueError: a decimal
+        has more than the 38 digits that Arrow's have.
+        """
+        nulls = len(self) - bytes(self.states).count(library.ROW_VALUE)
+        buffers: List[Any] = [_bits_of(self.states) if nulls else None]
+        if self.type in _NO_VALUES:
+            buffers = []
+        elif self.type == "text":
+            buffers += [self.offsets.obj, self.texts.obj]
+        elif self.type == "boolean":
+            buffers.append(_bits_of(self.values))
+        else:
+            if self.type.startswith("decimal"):
+                self._expect_few_digits()
+            buffers.append(self.values.obj)
+        addresses = list(map(_address_of, buffers))
+        return self.__arrow_c_schema__(), capsules.array_capsule(len(self), nulls, 0, addresses,
+                                                                 (self, buffers))
+
+    def __arrow_c_stream__(self, requested_schema: Any = None) -> Any:
+        """A capsule of a stream that has the array of ``__arrow_c_array__`` alone."""
+        return capsules.stream_capsule(self)
+
+    def _expect_few_digits(self) -> None:
+        limit = 10**_MOST_DIGITS
+        high = self.values[1::2]
+        # Most numbers are far below the limit.
+        if all(it < limit >> 64 or it >= (1 << 64) - (limit >> 64) for it in high):
+            return
+        for row, number in enumerate(map(_int128, self.values[::2], high)):
+            if not -limit < number < limit:
+                raise ValueError(f"row {row}: Arrow's decimals have {_MOST_DIGITS} digits at most, "
+                                 f"not those of {number}")
+
+    def __repr__(self) -> str:
+        return f"<Typed {self.type}, {len(self):,} rows>"
+
+
+def _bits_of(flags: memoryview) -> bytearray:
+    """A bit for each byte, which is 1 where the byte is; the first is the lowest of its byte."""
+    digits = bytes(flags).translate(_IS_ONE)
+    return bytearray(int(b"0" + digits[::-1], 2).to_bytes(max(len(digits) + 7, 8) // 8, "little"))
+
+
+def _address_of(buffer: Any) -> Optional[int]:
+    """Where an array or bytearray is, as long as it is kept and keeps its size."""
+    if buffer is None:
+        return None
+    if isinstance(buffer, array.array):
+        return buffer.buffer_info()[0]
+    return ctypes.addressof((ctypes.c_char * len(buffer)).from_buffer(buffer))
+
+
+def _int128(low: int, high: int) -> int:
+    """The number that two words without a sign are."""
+    return (high << 64 | low) - (1 << 128 if high >> 63 else 0)
+
+
+def _member_of(row: bytes, path: bytes) -> Document:
+    """The document of the member that a row has at the end of a path."""
+    place = library.get_path(row, len(row), path, len(path), DEPTH)
+    if place.status != library.OK:
+        raise library.error_of(place.status)
+    payload = library.payload_of(row, place)
+    if place.type == library.TYPE_CONTAINER:
+        return Document(payload)
+    return Document(library.scalar_document(place.type, payload))
+
+
+def type_of(text: str) -> Tuple[str, int]:
+    """A type as it is named, and its scale. ValueError: there is none of this name."""
+    if not isinstance(text, str):
+        raise TypeError(f"a type is a str, not {type(text).__name__}")
+    if text in _WITHOUT_SCALE:
+        return text, 0
+    name, _, digits = text.partition(" ")
+    if name == "decimal" and digits.isdecimal() and digits.isascii() \
+            and int(digits) <= _MOST_SCALE:
+        return f"decimal {int(digits)}", int(digits)
+    raise ValueError(f"{text!r} is no type: there are boolean, int64, uint64, text, nothing, mixed "
+                     f"and decimal with a scale up to {_MOST_SCALE}, as decimal 2")
+
+
+def names_of(types: Iterable[Optional[str]]) -> List[Optional[str]]:
+    """The types, each as it is named in a survey; None stays. ValueError: there is no such type."""
+    if isinstance(types, str):
+        raise TypeError(f"the types are a list: for one type give [{types!r}]")
+    return [None if it is None else type_of(it)[0] for it in types]
+
+
+class _Filled:
+    """The buffers of a column of one type, which are filled batch by batch."""
+
+    def __init__(self, name: str, steps: Tuple[Step, ...], exact: bool, length: int) -> None:
+        self.name, self.scale = type_of(name)
+        self.steps, self._path = steps, document_of_path(steps)
+        self.states = array.array("B", [0]) * length
+        code, self._words, self._call, self._options = self._layout(
+            library.EXACT if exact else library.BY_VALUE)
+        self.values = array.array(code, [0]) * (self._words * length)
+        self.offsets, self.texts = array.array("q", [0]), bytearray()
+        self.unfit = 0
+        # The library writes texts and their offsets of one batch here.
+        self._room = ctypes.create_string_buffer(1)
+        self._ends = array.array("Q", [0]) * (BATCH + 1)
+
+    def _layout(self, fit: int) -> Tuple[str, int, Callable[..., Any], Tuple[int, ...]]:
+        """The format of the values, how many words each has, the call that takes them, and what it
+        takes of its own."""
+        if self.name.startswith("decimal"):
+            return "Q", 2, library.take_decimal, (fit, self.scale)
+        if self.name == "int64":
+            return "q", 1, library.take_int64, (fit,)
+        if self.name == "uint64":
+            return "Q", 1, library.take_uint64, (fit,)
+        if self.name == "text":
+            return "Q", 0, library.take_text, ()
+        return "B", int(self.name == "boolean"), library.take_boolean, ()
+
+    def _members(self, batch: Batch) -> Tuple[Any, ...]:
+        return (batch.data, batch.end, batch.offsets, batch.length + 1, self._path, len(self._path),
+                DEPTH)
+
+    def _states_at(self, batch: Batch) -> Tuple[int, int]:
+        return self.states.buffer_info()[0] + batch.first, batch.length
+
+    def _take(self, batch: Batch) -> Any:
+        """What the library says of a batch, which it took."""
+        if self.name == "text":
+            return self._take_texts(batch)
+        if self.name in _NO_VALUES:
+            return self._take_none(batch)
+        values = self.values.buffer_info()[0] + self.values.itemsize * self._words * batch.first
+        return self._call(*self._members(batch), *self._options, values, batch.length,
+                          *self._states_at(batch))
+
+    def _take_texts(self, batch: Batch) -> Any:
+        # No text is longer than its row.
+        room = batch.end - batch.begin
+        if room > len(self._room):
+            self._room = ctypes.create_string_buffer(room)
+        length = ctypes.c_size_t()
+        taken = self._call(*self._members(batch), self._room, len(self._room),
+                           ctypes.addressof(length), self._ends.buffer_info()[0],
+                           batch.length + 1, *self._states_at(batch))
+        if taken.status == library.OK:
+            ends = memoryview(self._ends)[1:batch.length + 1]
+            self.offsets.extend(map(len(self.texts).__add__, ends))
+            self.texts += memoryview(self._room)[:length.value]
+        return taken
+
+    def _take_none(self, batch: Batch) -> Any:
+        scratch = ctypes.create_string_buffer(batch.length)
+        taken = self._call(*self._members(batch), scratch, batch.length, *self._states_at(batch))
+        states = self._states_of(batch).translate(_WITHOUT_VALUES)
+        self.states[batch.first:batch.first + batch.length] = array.array("B", states)
+        taken.unfit = states.count(_UNFIT) + states.count(_NO_DOCUMENT)
+        return taken
+
+    def _states_of(self, batch: Batch) -> bytes:
+        return self.states[batch.first:batch.first + batch.length].tobytes()
+
+    def fill(self, rows: Rows, *, is_trial: bool, refuses: bool = False) -> bool:
+        """Takes all rows, and returns whether it did: a trial ends at a member that does not fit.
+
+        UnfitError, InvalidDocumentError: what does not fit is refused, and some row does not.
+        """
+        for batch in rows._batches():
+            taken = self._take(batch)
+            if taken.status != library.OK:
+                raise library.error_of(taken.status)
+            if not taken.unfit:
+                continue
+            if is_trial and _UNFIT in self._states_of(batch):
+                return False
+            self.unfit += taken.unfit
+            if refuses:
+                self.refuse_first(rows)
+        return True
+
+    def refuse_first(self, rows: Rows) -> NoReturn:
+        """UnfitError, InvalidDocumentError: the first row that does not fit."""
+        states = self.states.tobytes()
+        raise self._refusal(rows, min(at for at in map(states.find, (_UNFIT, _NO_DOCUMENT))
+                                      if at >= 0))
+
+    def _refusal(self, rows: Rows, row: int) -> KohibladError:
+        """Why a row does not fit."""
+        data = rows._bytes_at(row)
+        if self.states[row] == library.ROW_NO_DOCUMENT:
+            error = library.error_of(library.INVALID_JSONB, "the row is no document")
+        else:
+            wanted = {"mixed": "no one type", "nothing": "not nothing"}.get(self.name)
+            shown = str(_member_of(data, self._path))
+            if len(shown) > _MOST_SHOWN:
+                shown = shown[:_MOST_SHOWN - 3] + "..."
+            error = UnfitError(library.OTHER_KIND, library.status_name(library.OTHER_KIND),
+                               f"{wanted or 'no ' + self.name} at {Document(self._path)}: {shown}")
+        error.row, error.place = row, f"row {row}"
+        return error
+
+    def typed(self, rows: Rows, unfit: str) -> Typed:
+        it = Typed.__new__(Typed)
+        states = self.states
+        if unfit == "null" and self.unfit:
+            states = array.array("B", states.tobytes().translate(_UNFIT_AS_NULL))
+        it.type, it.scale, it.path, it.unfit = self.name, self.scale, self.steps, self.unfit
+        it.states, it.values = memoryview(states).toreadonly(), memoryview(self.values).toreadonly()
+        it.offsets, it.texts = (memoryview(self.offsets).toreadonly(),
+                                memoryview(self.texts).toreadonly())
+        it._rows = rows if unfit == "rest" and self.unfit else None
+        return it
+
+
+def least_type(rows: Rows, steps: Tuple[Step, ...], exact: bool) -> str:
+    """The first type that holds all members."""
+    found = _of_least_type(rows, steps, exact)
+    return found if isinstance(found, str) else found.name
+
+
+def extract(rows: Rows, steps: Tuple[Step, ...], name: Optional[str], unfit: str,
+            exact: bool) -> Typed:
+    """The column of a type, or of the least one if none is named."""
+    found = _of_least_type(rows, steps, exact) if name is None else name
+    if isinstance(found, str):
+        column = _Filled("mixed" if found in _WITHOUT_CALLS else found, steps, exact, len(rows))
+        column.fill(rows, is_trial=False, refuses=unfit == "error")
+    else:
+        column = found
+        if unfit == "error" and column.unfit:
+            column.refuse_first(rows)
+    return column.typed(rows, unfit)
+
+
+def _of_least_type(rows: Rows, steps: Tuple[Step, ...], exact: bool) -> Union[str, _Filled]:
+    """The column of the least type, or its name if no column of it was tried."""
+    # If the first rows have some values of such a type, and it holds all members, it is the least.
+    guess = possible_types(survey_of(islice(rows._batches(), 1), steps))[0]
+    if guess in ("boolean", "int64", "text"):
+        column = _Filled(guess, steps, exact, len(rows))
+        if column.fill(rows, is_trial=True):
+            return column
+    *tried, last = possible_types(survey_of(rows._batches(), steps))
+    for name in tried:
+        column = _Filled(name, steps, exact, len(rows))
+        if name != guess and column.fill(rows, is_trial=True):
+            return column
+    return last
