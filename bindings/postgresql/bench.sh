@@ -90,6 +90,10 @@ measure "\`TYPE_path_query(doc, '\$.tags[*]')\`" \
 measure "\`TYPE_array_elements(doc -> 'tags')\`" \
     "SELECT count(*) FROM in_TYPE, TYPE_array_elements(doc -> 'tags')"
 measure "\`doc @@ '\$.price > 100'\`" "$(in_all "doc @@ '\$.price > 100'")"
+measure "\`doc @? '\$.tags[*] ? (@ == \"t3\")'\`" "$(in_all "doc @? '\$.tags[*] ? (@ == \"t3\")'")"
+measure "\`doc @@ '\$.city starts with \"city 7\" && \$.id > 9'\`" \
+    "$(in_all "doc @@ '\$.city starts with \"city 7\" && \$.id > 9'")"
+measure "\`doc @@ 'strict \$.price > 100'\`" "$(in_all "doc @@ 'strict \$.price > 100'")"
 measure 'GIN index built' 'CREATE INDEX built ON in_TYPE USING gin (doc)' 'DROP INDEX built'
 measure 'GIN index built, `TYPE_path_ops`' \
     'CREATE INDEX built ON in_TYPE USING gin (doc TYPE_path_ops)' 'DROP INDEX built'

@@ -56,3 +56,9 @@ SELECT answer_within(7, 'SELECT pairs @> reversed FROM long_paired');
 SET statement_timeout = '7s';
 SELECT answer_within(9, 'SELECT pairs @> reversed FROM long_paired');
 RESET statement_timeout;
+-- So does a path that compares the items of two arrays.
+SET statement_timeout = '1s';
+SELECT answer_within(5, $$
+    SELECT kohiblad_build_object('a', kohiblad_agg(i), 'b', kohiblad_agg(-i))
+        @@ '$.a[*] < $.b[*]' FROM generate_series(1, 50000) i $$);
+RESET statement_timeout;

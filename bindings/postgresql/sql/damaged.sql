@@ -57,6 +57,9 @@ SELECT bad_ends('to_kohiblad(ROW(d))'), bad_ends('kohiblad_build_array(d, 1)');
 SELECT bad_ends('(SELECT t.a[1] FROM kohiblad_to_record(d) AS t(a text[], b bool, c numeric))',
                 '22023', '22P02');
 SELECT bad_ends($$ (SELECT count(*) FROM kohiblad_path_query(d, '$.a[*]')) $$);
+SELECT bad_ends($$ d @? '$.*[last].k' $$),
+    bad_ends($$ d @@ '$.a[0 to 2] < $.c && !($.b == true)' $$),
+    bad_ends($$ kohiblad_path_query_array(d, '$.* ? (@[*] != null)') $$);
 CREATE TABLE written_to (d kohiblad);
 INSERT INTO written_to VALUES ('{}');
 SELECT count(*) FROM damaged, LATERAL (SELECT left(refusal(

@@ -123,8 +123,8 @@ SELECT rechecked($$ SELECT FROM named WHERE d @@ 'exists($.x)' $$);
 SELECT array_agg(i ORDER BY i) FROM found WHERE d @@ '$.a == "1"' AND i < 0;
 SELECT array_agg(i ORDER BY i) FROM found WHERE d @? '$[0] ? (@ == "1")' AND i < 0;
 RESET enable_seqscan;
--- A document that jsonb cannot hold: a path finds nothing in it, with an index and without, where
--- nothing is said of errors.
+-- A document that jsonb cannot hold: a path that the server's engine follows finds nothing in it,
+-- with an index and without, where nothing is said of errors.
 CREATE TABLE unheld AS SELECT CASE i WHEN 7 THEN '{"a":1,"b":"\\\u0000"}'
     WHEN 8 THEN '{"a":1,"\u0000":2}' ELSE '{"a":1,"b":"\\u0000\u0001"}' END::kohiblad AS d
 FROM generate_series(1, 20) i;
@@ -145,6 +145,20 @@ BEGIN
     EXECUTE 'SELECT count(*) FROM unheld WHERE ' || condition INTO by_scan;
     RETURN by_index || ' ' || by_scan;
 END $$;
+SELECT found_unheld($$ d @? 'strict $.a' $$), found_unheld($$ d @@ 'strict $.a == 1' $$),
+    found_unheld($$ d @? 'strict $.a ? (@ == 1)' $$), found_unheld($$ d @> '{"a":1}' $$);
+SELECT count(*) FILTER (WHERE d @? 'strict $'), count(*) FILTER (WHERE d @? 'strict $' IS NULL),
+    count(*) FILTER (WHERE kohiblad_path_exists(d, 'strict $', silent => true)),
+    count(*) FILTER (WHERE kohiblad_path_exists_tz(d, 'strict $', silent => true)),
+    count(*) FILTER (WHERE kohiblad_path_match(d, 'strict $.a == 1', silent => true)),
+    count(kohiblad_path_query_first(d, 'strict $.a', silent => true)),
+    sum(kohiblad_array_length(kohiblad_path_query_array(d, 'strict $.a', silent => true)))
+FROM unheld;
+SELECT count(*), sum(it::int) FROM unheld, kohiblad_path_query(d, 'strict $.a', silent => true) it;
+SELECT count(*) FROM (SELECT kohiblad_path_query(d, 'strict $.*', silent => true) FROM unheld) s;
+SELECT refusal($$ SELECT count(*) FROM unheld WHERE kohiblad_path_exists(d, 'strict $') $$);
+SELECT refusal($$ SELECT kohiblad_path_exists('[]', 'strict $', '{"x":"\u0000"}', true) $$);
+-- Other paths are followed in the document itself.
 SELECT found_unheld($$ d @? '$.a' $$), found_unheld($$ d @@ '$.a == 1' $$),
     found_unheld($$ d @? '$.a ? (@ == 1)' $$), found_unheld($$ d @> '{"a":1}' $$);
 SELECT count(*) FILTER (WHERE d @? '$'), count(*) FILTER (WHERE d @? '$' IS NULL),
@@ -156,7 +170,6 @@ SELECT count(*) FILTER (WHERE d @? '$'), count(*) FILTER (WHERE d @? '$' IS NULL
 SELECT count(*), sum(it::int) FROM unheld, kohiblad_path_query(d, '$.a', silent => true) it;
 SELECT count(*) FROM (SELECT kohiblad_path_query(d, '$.*', silent => true) FROM unheld) s;
 SELECT refusal($$ SELECT count(*) FROM unheld WHERE kohiblad_path_exists(d, '$') $$);
-SELECT refusal($$ SELECT kohiblad_path_exists('[]', '$', '{"x":"\u0000"}', true) $$);
 -- Paths of more steps than documents have levels.
 SELECT found_unheld(format('d @@ %L', '$' || repeat('.a', steps) || ' == 1')),
     found_unheld(format('d @? %L', '$' || repeat('.a', steps) || ' ? (@ == 1)'))

@@ -142,6 +142,9 @@ static inline size_t room_of_part(Part part) {
 }
 extern Bytes write_part(Part part, uint8_t *out, size_t room);
 
+/* The order of two numbers, or of two extension values. */
+extern int compare_scalars(Part left, Part right);
+
 /* Whether a document is an extension value or holds one. */
 extern bool holds_extension(Bytes document);
 

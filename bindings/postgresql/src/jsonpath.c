@@ -1,6 +1,8 @@
-/* Paths of SQL/JSON, by the server's own functions over a jsonb of the document: what they return
- * is read back as a document. Numbers come back digit for digit; extension values are texts. */
-#include "document.h"
+/* Paths of SQL/JSON. Those that pathplan.c knows are followed in the document, and the others by
+ * the server's own functions over a jsonb of it: what they return is read back as a document.
+ * Numbers come back digit for digit; extension values are texts. */
+#include "pathplan.h"
+#include "rows.h"
 
 #include "funcapi.h"
 #include "miscadmin.h"
@@ -58,44 +60,165 @@ static bool put_jsonb(FunctionCallInfo fcinfo, FunctionCallInfo call) {
     return true;
 }
 
+/* What a call keeps for the next one, which mostly has the same path. */
+typedef struct Kept {
+    FmgrInfo server;       /* of the server's function, which keeps its own state in it */
+    MemoryContext context; /* of the path and its plan */
+    JsonPath *path;
+    const PathPlan *plan; /* NULL if the server's engine follows the path */
+} Kept;
+
+static Kept *kept_of(FunctionCallInfo fcinfo) {
+    FmgrInfo *info = fcinfo->flinfo;
+    if (info->fn_extra) return info->fn_extra;
+    Kept *kept = MemoryContextAllocZero(info->fn_mcxt, sizeof *kept);
+    fmgr_info_copy(&kept->server, info, info->fn_mcxt);
+    kept->context =
+        AllocSetContextCreate(info->fn_mcxt, "kohiblad path", ALLOCSET_SMALL_SIZES);
+    info->fn_extra = kept;
+    return kept;
+}
+
+static void keep_path(Kept *kept, const JsonPath *path) {
+    kept->path = NULL;
+    MemoryContextReset(kept->context);
+    MemoryContext caller = MemoryContextSwitchTo(kept->context);
+    JsonPath *copy = palloc(VARSIZE(path));
+    memcpy(copy, path, VARSIZE(path));
+    kept->plan = plan_of_path(copy);
+    kept->path = copy;
+    MemoryContextSwitchTo(caller);
+}
+
+static const PathPlan *plan_of_argument(FunctionCallInfo fcinfo, Kept *kept) {
+    JsonPath *path = PG_GETARG_JSONPATH_P(1);
+    bool is_kept = kept->path && VARSIZE(kept->path) == VARSIZE(path) &&
+                   memcmp(kept->path, path, VARSIZE(path)) == 0;
+    if (!is_kept) keep_path(kept, path);
+    PG_FREE_IF_COPY(path, 1);
+    return kept->plan;
+}
+
+/* The plan of a call without variables, NULL if the server's engine is needed. */
+static const PathPlan *plan_of_call(FunctionCallInfo fcinfo, Kept *kept) {
+    if (PG_NARGS() > 2) {
+        struct kohiblad_value_kind variables = kind_of(bytes_of(PG_GETARG_VARLENA_PP(2)));
+        if (variables.kind != KOHIBLAD_OBJECT || variables.count) return NULL;
+    }
+    return plan_of_argument(fcinfo, kept);
+}
+
 /* Calls a function of the server with the same arguments, but with documents as jsonb. A set takes
  * them in its first call alone. */
 static Datum call_with_jsonb(FunctionCallInfo fcinfo, PGFunction function) {
+    FmgrInfo *server = &kept_of(fcinfo)->server;
     LOCAL_FCINFO(call, 4);
-    InitFunctionCallInfoData(*call, fcinfo->flinfo, PG_NARGS(), PG_GET_COLLATION(),
-                             fcinfo->context, fcinfo->resultinfo);
+    InitFunctionCallInfoData(*call, server, PG_NARGS(), PG_GET_COLLATION(), fcinfo->context,
+                             fcinfo->resultinfo);
     for (int i = 0; i < PG_NARGS(); i++) call->args[i] = fcinfo->args[i];
-    bool is_first = !fcinfo->flinfo->fn_retset || SRF_IS_FIRSTCALL();
+    bool is_first = !server->fn_retset || !server->fn_extra;
     if (is_first && !put_jsonb(fcinfo, call)) return nothing(fcinfo, function);
     Datum result = function(call);
     fcinfo->isnull = call->isnull;
     return result;
 }
 
+static Datum document_of_jsonb(Datum jsonb) {
+    char *json = DatumGetCString(DirectFunctionCall1(jsonb_out, jsonb));
+    return PointerGetDatum(document_of_json(utf8_of_server(json, strlen(json))));
+}
+
 static Datum call_for_document(FunctionCallInfo fcinfo, PGFunction function) {
     Datum result = call_with_jsonb(fcinfo, function);
     ReturnSetInfo *set = (ReturnSetInfo *)fcinfo->resultinfo;
     bool is_done = fcinfo->flinfo->fn_retset && set->isDone == ExprEndResult;
-    if (is_done || fcinfo->isnull) return result;
-    char *json = DatumGetCString(DirectFunctionCall1(jsonb_out, result));
-    return PointerGetDatum(document_of_json(utf8_of_server(json, strlen(json))));
+    return is_done || fcinfo->isnull ? result : document_of_jsonb(result);
 }
 
-#define BY_JSONB(name, call, function)              \
+static Datum answer_exists(FunctionCallInfo fcinfo, PGFunction function) {
+    const PathPlan *plan = plan_of_call(fcinfo, kept_of(fcinfo));
+    if (!plan) return call_with_jsonb(fcinfo, function);
+    struct varlena *document = PG_GETARG_VARLENA_PP(0);
+    bool answer;
+    bool is_found = find_any(plan, bytes_of(document), &answer);
+    PG_FREE_IF_COPY(document, 0);
+    if (!is_found) return call_with_jsonb(fcinfo, function);
+    PG_RETURN_BOOL(answer);
+}
+
+static Datum answer_match(FunctionCallInfo fcinfo, PGFunction function) {
+    const PathPlan *plan = plan_of_call(fcinfo, kept_of(fcinfo));
+    if (!plan) return call_with_jsonb(fcinfo, function);
+    struct varlena *document = PG_GETARG_VARLENA_PP(0);
+    uint32_t type;
+    bool is_found = find_truth(plan, bytes_of(document), &type);
+    PG_FREE_IF_COPY(document, 0);
+    if (!is_found) return call_with_jsonb(fcinfo, function);
+    if (type == KOHIBLAD_TYPE_NULL) PG_RETURN_NULL();
+    PG_RETURN_BOOL(type == KOHIBLAD_TYPE_TRUE);
+}
+
+static bool values_of_call(FunctionCallInfo fcinfo, Parts *values) {
+    const PathPlan *plan = plan_of_call(fcinfo, kept_of(fcinfo));
+    return plan && find_values(plan, bytes_of(PG_GETARG_VARLENA_PP(0)), values);
+}
+
+static Datum answer_first(FunctionCallInfo fcinfo, PGFunction function) {
+    Parts values;
+    if (!values_of_call(fcinfo, &values)) return call_for_document(fcinfo, function);
+    if (values.count == 0) PG_RETURN_NULL();
+    PG_RETURN_POINTER(document_of_part(values.at[0]));
+}
+
+static Datum answer_array(FunctionCallInfo fcinfo, PGFunction function) {
+    Parts values;
+    if (!values_of_call(fcinfo, &values)) return call_for_document(fcinfo, function);
+    Rows *rows = new_rows();
+    for (size_t i = 0; i < values.count; i++) {
+        CHECK_FOR_INTERRUPTS();
+        add_part(rows, values.at[i]);
+    }
+    PG_RETURN_POINTER(array_of_rows(rows));
+}
+
+/* Whether the caller takes a set as a whole, and the server's function has not begun one. */
+static bool may_put_rows(FunctionCallInfo fcinfo) {
+    ReturnSetInfo *set = (ReturnSetInfo *)fcinfo->resultinfo;
+    return set && IsA(set, ReturnSetInfo) && (set->allowedModes & SFRM_Materialize) &&
+           !kept_of(fcinfo)->server.fn_extra;
+}
+
+static Datum answer_rows(FunctionCallInfo fcinfo, PGFunction function) {
+    Parts values;
+    if (!may_put_rows(fcinfo) || !values_of_call(fcinfo, &values))
+        return call_for_document(fcinfo, function);
+    InitMaterializedSRF(fcinfo, MAT_SRF_USE_EXPECTED_DESC | MAT_SRF_BLESS);
+    ReturnSetInfo *set = (ReturnSetInfo *)fcinfo->resultinfo;
+    for (size_t i = 0; i < values.count; i++) {
+        CHECK_FOR_INTERRUPTS();
+        bool is_null = false;
+        Datum value = PointerGetDatum(document_of_part(values.at[i]));
+        tuplestore_putvalues(set->setResult, set->setDesc, &value, &is_null);
+        pfree(DatumGetPointer(value));
+    }
+    return (Datum)0;
+}
+
+#define PATH_FUNCTION(name, answer, function)       \
     PG_FUNCTION_INFO_V1(name);                      \
     Datum name(PG_FUNCTION_ARGS) {                  \
-        return call(fcinfo, function);              \
+        return answer(fcinfo, function);            \
     }
 
-BY_JSONB(pg_kohiblad_path_exists, call_with_jsonb, jsonb_path_exists)
-BY_JSONB(pg_kohiblad_path_exists_tz, call_with_jsonb, jsonb_path_exists_tz)
-BY_JSONB(pg_kohiblad_path_exists_opr, call_with_jsonb, jsonb_path_exists_opr)
-BY_JSONB(pg_kohiblad_path_match, call_with_jsonb, jsonb_path_match)
-BY_JSONB(pg_kohiblad_path_match_tz, call_with_jsonb, jsonb_path_match_tz)
-BY_JSONB(pg_kohiblad_path_match_opr, call_with_jsonb, jsonb_path_match_opr)
-BY_JSONB(pg_kohiblad_path_query, call_for_document, jsonb_path_query)
-BY_JSONB(pg_kohiblad_path_query_tz, call_for_document, jsonb_path_query_tz)
-BY_JSONB(pg_kohiblad_path_query_array, call_for_document, jsonb_path_query_array)
-BY_JSONB(pg_kohiblad_path_query_array_tz, call_for_document, jsonb_path_query_array_tz)
-BY_JSONB(pg_kohiblad_path_query_first, call_for_document, jsonb_path_query_first)
-BY_JSONB(pg_kohiblad_path_query_first_tz, call_for_document, jsonb_path_query_first_tz)
+PATH_FUNCTION(pg_kohiblad_path_exists, answer_exists, jsonb_path_exists)
+PATH_FUNCTION(pg_kohiblad_path_exists_tz, answer_exists, jsonb_path_exists_tz)
+PATH_FUNCTION(pg_kohiblad_path_exists_opr, answer_exists, jsonb_path_exists_opr)
+PATH_FUNCTION(pg_kohiblad_path_match, answer_match, jsonb_path_match)
+PATH_FUNCTION(pg_kohiblad_path_match_tz, answer_match, jsonb_path_match_tz)
+PATH_FUNCTION(pg_kohiblad_path_match_opr, answer_match, jsonb_path_match_opr)
+PATH_FUNCTION(pg_kohiblad_path_query, answer_rows, jsonb_path_query)
+PATH_FUNCTION(pg_kohiblad_path_query_tz, answer_rows, jsonb_path_query_tz)
+PATH_FUNCTION(pg_kohiblad_path_query_array, answer_array, jsonb_path_query_array)
+PATH_FUNCTION(pg_kohiblad_path_query_array_tz, answer_array, jsonb_path_query_array_tz)
+PATH_FUNCTION(pg_kohiblad_path_query_first, answer_first, jsonb_path_query_first)
+PATH_FUNCTION(pg_kohiblad_path_query_first_tz, answer_first, jsonb_path_query_first_tz)

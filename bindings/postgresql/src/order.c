@@ -52,7 +52,7 @@ static Bytes scalar_document(Part part, uint8_t *small) {
     return write_part(part, out, room);
 }
 
-static int compare_scalars(Part left, Part right) {
+int compare_scalars(Part left, Part right) {
     uint8_t small_left[SMALL_SCALAR], small_right[SMALL_SCALAR];
     if (are_same_bytes(left.payload, right.payload)) return 0;
     Bytes l = scalar_document(left, small_left), r = scalar_document(right, small_right);

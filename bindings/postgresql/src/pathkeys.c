@@ -3,11 +3,9 @@
  * a document has the keys of {"a":{"b":1}} if $.a.b == 1 is true of it. What says less is passed
  * over: the server follows the path in each document that is found. */
 #include "gin.h"
+#include "pathplan.h"
 
 #include "miscadmin.h"
-#include "utils/builtins.h"
-#include "utils/fmgrprotos.h"
-#include "utils/numeric.h"
 
 /* The keys on the way to a value, from the last one to the first; NULL at the top. */
 typedef struct Way {
@@ -17,20 +15,11 @@ typedef struct Way {
 
 static void append_of_predicate(Keys *keys, JsonPathItem *item, const Way *current);
 
-static Bytes string_of(JsonPathItem *item) {
-    int32 size;
-    const char *shown = jspGetString(item, &size);
-    return utf8_of_server(shown, size);
-}
-
 /* Adds the document of a scalar, unless it is past the format's limits; then no document has it. */
-static bool add_number(Rows *rows, Numeric number) {
-    const char *digits = DatumGetCString(DirectFunctionCall1(numeric_out, NumericGetDatum(number)));
+static bool add_number(Rows *rows, JsonPathItem *item) {
     uint8_t document[NUMBER_ROOM];
     size_t size;
-    if (kohiblad_parse((const uint8_t *)digits, strlen(digits), 0, KOHIBLAD_EXPONENTS_ALLOWED,
-                       document, sizeof document, &size) != KOHIBLAD_OK)
-        return false;
+    if (!write_number(item, document, &size)) return false;
     add_row(rows, (Bytes){document, size});
     return true;
 }
@@ -45,8 +34,8 @@ static bool add_scalar(Rows *rows, JsonPathItem *item) {
     switch (item->type) {
         case jpiNull: add_null(rows); return true;
         case jpiBool: add_boolean(rows, jspGetBool(item)); return true;
-        case jpiNumeric: return add_number(rows, jspGetNumeric(item));
-        default: return add_string(rows, string_of(item));
+        case jpiNumeric: return add_number(rows, item);
+        default: return add_string(rows, string_of_item(item));
     }
 }
 
@@ -93,7 +82,7 @@ static bool follow(Keys *keys, JsonPathItem *first, const Way *current, const Wa
         CHECK_FOR_INTERRUPTS();
         item = next;
         switch (item.type) {
-            case jpiKey: *way = below(*way, string_of(&item)); break;
+            case jpiKey: *way = below(*way, string_of_item(&item)); break;
             case jpiAnyArray:
             case jpiIndexArray: break;
             case jpiFilter:

@@ -31,7 +31,7 @@ time_of "CREATE TABLE found AS
     SELECT i, random_text(3)::kohiblad AS d FROM generate_series(1, $rows) i"
 note "the index of all operators"
 time_of "CREATE INDEX found_all ON found USING gin (d)"
-note "the index of @> alone"
+note "the index of @>, @@ and @? alone"
 time_of "CREATE INDEX found_path ON found USING gin (d kohiblad_path_ops)"
 query "ANALYZE found"
 query "SELECT relname, pg_size_pretty(pg_relation_size(oid)) FROM pg_class
@@ -43,6 +43,16 @@ query "CREATE TABLE conditions AS
     UNION ALL SELECT format('d @> %L', kohiblad_build_object(key, value))
               FROM found, kohiblad_each(d) WHERE i BETWEEN 200 AND 215 AND key IS NOT NULL
     UNION ALL SELECT format('d ? %L', one_of('{a,b,0,é,x,\"\"}')) FROM generate_series(1, 5)
+    UNION ALL SELECT format('d @@ %L', replace(replace(test, 'KEY', one_of('{a,b,c,d}')),
+                                               'VALUE', one_of('{0,1,2,1.5,true,null}')))
+              FROM unnest('{\$.KEY == VALUE && \$.b != null,\$.KEY[*] == VALUE && \$.d > 0,
+                            \$.KEY.a == VALUE && !(\$.b < 2),\$.c == 1 && \$.KEY == VALUE,
+                            \$.KEY == VALUE || \$.d == 1}'::text[]) test, generate_series(1, 4)
+    UNION ALL SELECT format('d @? %L', replace(replace(path, 'KEY', one_of('{a,b,c,d}')),
+                                               'VALUE', one_of('{0,1,2,1.5,true,null}')))
+              FROM unnest('{\$.a ? (@.KEY == VALUE && @.b != null),\$[*] ? (@.KEY[*] == VALUE),
+                            \$.KEY ? (@ == VALUE && \$.d >= 1)}'::text[]) path,
+                   generate_series(1, 4)
     UNION ALL SELECT format('d ?| %L', random_path()) FROM generate_series(1, 5)
     UNION ALL SELECT format('d ?& %L', random_path()) FROM generate_series(1, 10)"
 
@@ -61,16 +71,16 @@ note "the conditions by the index"
 answer_all by_index off on
 expected=$(query "SELECT count(*) FROM conditions")
 query "DROP INDEX found_all"
-note "those of @> by the other index"
-query "DELETE FROM conditions WHERE condition NOT LIKE 'd @>%'"
+note "those of @>, @@ and @? by the other index"
+query "DELETE FROM conditions WHERE condition NOT LIKE 'd @%'"
 answer_all by_path off on
 note "by a scan of the table"
-query "INSERT INTO conditions SELECT condition FROM by_index WHERE condition NOT LIKE 'd @>%'"
+query "INSERT INTO conditions SELECT condition FROM by_index WHERE condition NOT LIKE 'd @%'"
 answer_all by_scan on off
 differ=$(query "SELECT count(*) FROM by_scan s
     WHERE NOT EXISTS (SELECT FROM by_index i WHERE (i.condition, i.rows, coalesce(i.answer, ''))
                                                  = (s.condition, s.rows, coalesce(s.answer, '')))
-       OR s.condition LIKE 'd @>%' AND NOT EXISTS
+       OR s.condition LIKE 'd @%' AND NOT EXISTS
               (SELECT FROM by_path i WHERE (i.condition, i.rows, coalesce(i.answer, ''))
                                          = (s.condition, s.rows, coalesce(s.answer, '')))")
 found=$(query "SELECT sum(rows) FROM by_scan")

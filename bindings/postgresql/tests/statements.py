@@ -3,11 +3,12 @@
 
     bindings/postgresql/tests/statements.sh [FOLDER]
 
-The statements are those of src/test/regress/sql/jsonb.sql in Debian's source package of the server,
-which tests/peers/run.py downloads into FOLDER, or into a scratch folder; without it they are passed
-over. Each is run in a session that has jsonb, and in three others: with `kohiblad` in place of
-`jsonb`; with `kohiblad` in place of the type `jsonb` alone, where kohiblad_compat is loaded; and as
-it is, where that is loaded. The server is the one that PGHOST and PGUSER name, and PSQL its client.
+The statements are those of src/test/regress/sql, jsonb.sql and jsonb_jsonpath.sql, in Debian's
+source package of the server, which tests/peers/run.py downloads into FOLDER, or into a scratch
+folder; without it they are passed over. Each is run in a session that has jsonb, and in three
+others: with `kohiblad` in place of `jsonb`; with `kohiblad` in place of the type `jsonb` alone,
+where kohiblad_compat is loaded; and as it is, where that is loaded. The server is the one that
+PGHOST and PGUSER name, and PSQL its client.
 
 Two answers are the same if both are errors with one SQLSTATE, or have the same rows in any order.
 Values are compared as JSON where both are JSON, also inside of arrays and records. Statements whose
@@ -33,9 +34,11 @@ import run as peers  # noqa: E402
 
 # What a statement that is left out has in it, and why it is.
 LEFT_OUT = {
-    r"'1(\.3)?e100'|'12345\.0{45}5'": "a number past the format's 128 bits",
+    r"'1(\.3)?e1000?'|'12345\.0{45}5'": "a number past the format's 128 bits",
 }
 REGRESS = "src/test/regress"
+SCRIPTS = ["jsonb", "jsonb_jsonpath"]
+DATA = "data/jsonb.data"
 MARK = "-- statement"
 FIELD_ENDS = {"(": ")", "{": "}"}
 
@@ -169,16 +172,17 @@ def reason_of(statement):
 
 
 def files_of(folder):
-    """The script and its data, or `None` if the package cannot be had."""
+    """The scripts and their data by name, or `None` if the package cannot be had."""
+    names = [f"sql/{script}.sql" for script in SCRIPTS] + [DATA]
     for archive in peers.download("postgresql-15", folder):
         with tarfile.open(archive) as tar:
             wanted = {}
             for member in tar:
-                for name in ("sql/jsonb.sql", "data/jsonb.data"):
+                for name in names:
                     if member.name.endswith(f"{REGRESS}/{name}"):
                         wanted[name] = tar.extractfile(member).read().decode()
-                if len(wanted) == 2:
-                    return wanted["sql/jsonb.sql"], wanted["data/jsonb.data"]
+                if len(wanted) == len(names):
+                    return wanted
     return None
 
 
@@ -189,7 +193,7 @@ def answer_in_words(answer, database):
     return Answer(answer.state, answer.output.replace("jsonb", "kohiblad"))
 
 
-def compare(database, statements, data, wanted, lists):
+def compare(script, database, statements, data, wanted, lists):
     """Prints which answers of a session differ from those that jsonb has, and the counts."""
     changed = [SESSIONS[database](it) for it in statements]
     counts = collections.Counter()
@@ -200,20 +204,21 @@ def compare(database, statements, data, wanted, lists):
         counts[kind] += 1
         if lists and kind == "differ":
             print(f"-- {statement}\n   jsonb:    {jsonb}\n   kohiblad: {given}")
-    print(f"{database}: {len(statements)} statements, "
+    print(f"{script}, {database}: {len(statements)} statements, "
           + ", ".join(f"{counts[kind]} {kind}" for kind in sorted(counts, reverse=True)))
 
 
 def compare_sessions(folder, lists):
-    """Compares each session."""
+    """Compares each session of each script."""
     files = files_of(folder)
     if not files:
         print("passed over: Debian's source package postgresql-15 cannot be had")
         return 77
-    statements = statements_of(files[0])
-    wanted = ask(statements, files[1], "of_jsonb")
-    for database in SESSIONS:
-        compare(database, statements, files[1], wanted, lists)
+    for script in SCRIPTS:
+        statements = statements_of(files[f"sql/{script}.sql"])
+        wanted = ask(statements, files[DATA], "of_jsonb")
+        for database in SESSIONS:
+            compare(script, database, statements, files[DATA], wanted, lists)
     return 0
 
 

@@ -1,0 +1,112 @@
+\set ECHO none \a \t
+-- Paths of SQL/JSON, which are followed in documents or in a jsonb of them: 200 random ones find in
+-- 2,000 random documents what they find in their jsonb.
+SELECT setseed(0.67) IS NOT NULL;
+CREATE FUNCTION random_filter(depth int) RETURNS text LANGUAGE sql VOLATILE AS $$ SELECT '' $$;
+-- Steps after $ or @; few of them are of kinds that are not followed in documents.
+CREATE FUNCTION random_steps(depth int) RETURNS text LANGUAGE plpgsql VOLATILE AS $$
+DECLARE
+    steps text := '';
+BEGIN
+    FOR i IN 1 .. floor(random() * 4)::int LOOP
+        steps := steps || CASE WHEN random() < 0.2 AND depth > 0 THEN random_filter(depth - 1)
+            WHEN random() < 0.02 THEN one_of('{.**,.size(),.type(),[last / 2],.keyvalue().key}')
+            ELSE one_of(string_to_array('.a;.b;.c;.d;."0";."1";[0,1];.é;.*;.*;[*];[*];[0];[1];'
+                || '[-1];[last];[last - 1];[0 to 1];[last - 1 to last];[1,last,0 to 1];[5 to last]',
+                ';'))
+            END;
+    END LOOP;
+    RETURN steps;
+END $$;
+-- A value at a place of a document, `$` or `@`, or a literal.
+CREATE FUNCTION random_operand(depth int, here text) RETURNS text LANGUAGE sql VOLATILE AS $$
+    SELECT CASE WHEN random() < 0.65
+        THEN CASE WHEN random() < 0.2 THEN '$' ELSE here END || random_steps(depth)
+        ELSE one_of(string_to_array(
+            'null;true;false;0;1;1.0;1.50;-3;12345678901234567891;1e3;"a";"b";"";"0";"é"', ';')) END
+$$;
+CREATE FUNCTION random_test(depth int, here text) RETURNS text LANGUAGE plpgsql VOLATILE AS $$
+BEGIN
+    RETURN CASE WHEN depth > 0 AND random() < 0.5 THEN
+        CASE floor(random() * 5)::int
+            WHEN 0 THEN '!(' || random_test(depth - 1, here) || ')'
+            WHEN 1 THEN '(' || random_test(depth - 1, here) || ') is unknown'
+            ELSE '(' || random_test(depth - 1, here) || ')' || one_of('{&&,||}')
+                || '(' || random_test(depth - 1, here) || ')' END
+        WHEN random() < 0.25 THEN 'exists(' || random_operand(depth, here) || ')'
+        WHEN random() < 0.1 THEN random_operand(depth, here) || one_of(string_to_array(
+            ' starts with "a"; starts with ""; like_regex "^[ab]"', ';'))
+        ELSE random_operand(depth, here) || one_of('{==,==,!=,<>,<,<=,>,>=}')
+            || random_operand(depth, here) END;
+END $$;
+CREATE OR REPLACE FUNCTION random_filter(depth int) RETURNS text LANGUAGE sql VOLATILE AS $$
+    SELECT ' ? (' || random_test(depth, '@') || ')'
+$$;
+CREATE TABLE paths AS SELECT i, (CASE WHEN random() < 0.05 THEN 'strict ' ELSE '' END
+        || CASE WHEN random() < 0.5 THEN '$' || random_steps(2) ELSE random_test(2, '$') END)
+        ::jsonpath AS path
+    FROM generate_series(1, 200) i;
+CREATE TABLE walked AS SELECT i, shown::kohiblad AS d, shown::jsonb AS j
+    FROM (SELECT i, random_text(3) AS shown FROM generate_series(1, 2000) i) s;
+-- In a document that jsonb cannot hold, those that are followed in documents have an answer.
+SELECT count(*), count(kohiblad_path_exists('["\u0000"]', path, silent => true)) > 150 FROM paths;
+SELECT count(*), count(*) FILTER (WHERE d @? path IS NOT DISTINCT FROM j @? path) AS finds,
+    count(*) FILTER (WHERE d @@ path IS NOT DISTINCT FROM j @@ path) AS says,
+    count(*) FILTER (WHERE (p.i + w.i) % 4 = 0
+        AND kohiblad_path_query_array(d, path, silent => true)::jsonb::text
+            IS NOT DISTINCT FROM jsonb_path_query_array(j, path, silent => true)::text) AS gathers,
+    count(*) FILTER (WHERE j @? path) > 100000 AND count(*) FILTER (WHERE j @@ path) > 20000
+        AND count(*) FILTER (WHERE NOT j @@ path) > 20000 AS has_all
+FROM paths p, walked w;
+-- Their rows, their first values and their errors, with another path in each row.
+SELECT count(*), count(*) FILTER (WHERE array_to_string(ARRAY(
+        SELECT kohiblad_path_query(d, path, silent => true)::jsonb::text), ' ', 'NULL') =
+        array_to_string(ARRAY(SELECT jsonb_path_query(j, path, silent => true)), ' ', 'NULL')),
+    count(*) FILTER (WHERE kohiblad_path_query_first(d, path, silent => true)::jsonb::text
+        IS NOT DISTINCT FROM jsonb_path_query_first(j, path, silent => true)::text)
+FROM walked w JOIN paths p ON p.i = 1 + w.i % 200;
+CREATE TABLE calls (number int, call text);
+INSERT INTO calls VALUES (1, 'TYPE_path_exists'), (2, 'TYPE_path_match'),
+    (3, 'TYPE_path_query_array'), (4, 'TYPE_path_exists_tz'), (5, 'TYPE_path_match_tz'),
+    (6, 'TYPE_path_query_array_tz'), (7, 'TYPE_path_query_first_tz');
+CREATE FUNCTION called(call text, d text, path jsonpath, type text) RETURNS text LANGUAGE sql AS $$
+    SELECT answer_of(replace(format('SELECT %s(%L::TYPE, %L)::text::TYPE::text', call, d, path),
+                             'TYPE', type))
+$$;
+SELECT number, count(*), count(*) FILTER (WHERE of_jsonb IS NOT DISTINCT FROM of_kohiblad
+        OR same_json(of_jsonb, of_kohiblad))
+FROM (SELECT number, called(call, j::text, path, 'jsonb') AS of_jsonb,
+             called(call, j::text, path, 'kohiblad') AS of_kohiblad
+      FROM calls, walked w JOIN paths p ON p.i = 1 + w.i % 200 WHERE w.i <= 400) s
+GROUP BY number ORDER BY number;
+-- The rules of lax paths: items of an array in its place, one level deep.
+SELECT path, d @? path AS finds, d @@ path AS says,
+    kohiblad_path_query_array(d, path, silent => true) AS found
+FROM (SELECT '{"a":[{"b":1},{"b":[2,[3]]},[{"b":4}]],"c":null,"bb":"x","d":{}}'::kohiblad AS d) s,
+    unnest(string_to_array('$.a.b;$.a[*].b;$.a.b == 2;$.a.b == 3;$.a[last].b;$.a[0 to 9].b[0];'
+        || '$.c[0][last];$.d[1];$.*;$.a[-1];$.a[2,last - 2].b;$.c == 1;$.c != 1;$.d != null;'
+        || '$.d == $.d;$.bb < 1;!($.bb < 1);($.bb < 1) is unknown;$.e > 1;$.a ? (@.b == 1);'
+        || '$.a[*] ? (exists (@[0].b)).b;$.bb starts with "";$.a.b.size();strict $.a.b', ';')
+    ::jsonpath[]) path;
+-- A path with variables, and one that is not a constant, go by what is given in each row.
+SELECT path, kohiblad_path_query_array('[1,2,3]', path::jsonpath, vars::kohiblad)
+FROM (VALUES ('$[*] ? (@ > $x)', '{"x":2}'), ('$[*] ? (@ > 2)', '{"x":2}'), ('$[1]', '{}'),
+             ('$[*] ? (@ > 1)', '{}'), ('$[1]', '{"x":2}')) v(path, vars);
+SELECT refusal($$ SELECT kohiblad_path_exists('[1]', '$[0]', '[]') $$),
+    refusal($$ SELECT kohiblad_path_match('[1,2]', '$[*]') $$),
+    refusal($$ SELECT kohiblad_path_match('[1]', '$[0]') $$);
+-- A date is its string, which the server's engine compares and finds.
+SELECT d @@ '$.d == "1"', d @? '$.d ? (@ == "1")', kohiblad_path_query_first(d, '$.d'),
+    kohiblad_path_query_array(d, '$.*'), d @? '$.d', d @@ '$.n == 5'
+FROM (SELECT kohiblad_set('{"n":5}', '{d}', '\x20000000600000051000000001') AS d) s;
+-- Rows of a set are taken in parts too, beside others, and from a table.
+SELECT kohiblad_path_query('[1,[2],3]', '$[*]') AS it, generate_series(1, 2) AS i;
+SELECT it FROM (SELECT kohiblad_path_query('[1,2,3]', '$[*]') AS it LIMIT 2) s;
+SELECT w.i, it FROM (SELECT * FROM unnest('{"[1,2]","{\"a\":3}","[]"}'::kohiblad[])
+    WITH ORDINALITY AS u(d, i)) w, kohiblad_path_query(d, '$[*]') it;
+SELECT it FROM kohiblad_path_query('[1,2,3]', '$[*].abs()') it LIMIT 2;
+-- Many items, and a walk through them that is cancelled.
+SELECT kohiblad_array_length(kohiblad_path_query_array(d, '$[*] ? (@ >= 500000)')),
+    d @@ '$[*] == 1000000', d @? '$[999999]', d @? '$[1000000]'
+FROM (SELECT ('[' || string_agg(i::text, ',') || ']')::kohiblad AS d
+      FROM generate_series(1, 1000000) i) s;
