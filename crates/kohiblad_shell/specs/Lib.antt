@@ -2,6 +2,11 @@ pub mod Lines
 pub mod Faults
 pub mod Outcomes
 pub mod Runs
+pub mod Halts
+pub mod Keys
+pub mod KeyProofs
+pub mod Sorts
+pub mod Decodes
 pub mod Rows
 pub mod Operations
 pub mod Words

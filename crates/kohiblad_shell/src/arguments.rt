@@ -1,6 +1,8 @@
 //! The commands of the program, and their arguments.
 
+use crate::decode::TextLayout;
 use crate::operation::Style;
+use crate::sort::Arrangement;
 use clap::{Arg, ArgAction, ArgMatches, Command};
 use std::alloc::{AllocError, Global};
 
@@ -10,7 +12,17 @@ struct CommandRow {
     about: &'static str,
     operand: Option<Operand>,
     value: Option<Operand>,
-    takes_style: bool,
+    options: &'static [CommandOption],
+}
+
+/// An option of some commands.
+#[derive(Clone, Copy, Debug, PartialEq, Eq)]
+enum CommandOption {
+    Raw,
+    Pretty,
+    By,
+    Reverse,
+    Unique,
 }
 
 /// The operand of a command.
@@ -44,90 +56,122 @@ const NAMES: Operand = Operand {
     help: "Names with commas between them, such as id,who",
 };
 
-const COMMANDS: [CommandRow; 12] = [
+const COMMANDS: [CommandRow; 16] = [
     CommandRow {
         name: "check",
         about: "Report the lines that are not JSON",
         operand: None,
         value: None,
-        takes_style: false,
+        options: &[],
     },
     CommandRow {
         name: "canonical",
         about: "Write each value as compact JSON, with its keys in order",
         operand: None,
         value: None,
-        takes_style: false,
+        options: &[],
     },
     CommandRow {
         name: "get",
         about: "Write the first value to which a path leads, of each line",
         operand: Some(PATH),
         value: None,
-        takes_style: true,
+        options: &[CommandOption::Raw],
     },
     CommandRow {
         name: "select",
         about: "Write all values to which a path leads, of each line",
         operand: Some(PATH),
         value: None,
-        takes_style: true,
+        options: &[CommandOption::Raw],
     },
     CommandRow {
         name: "filter",
         about: "Write the lines in which a path leads to some value",
         operand: Some(CONDITION),
         value: None,
-        takes_style: false,
+        options: &[],
     },
     CommandRow {
         name: "count",
         about: "Count the lines in which a path leads to some value",
         operand: Some(CONDITION),
         value: None,
-        takes_style: false,
+        options: &[],
     },
     CommandRow {
         name: "contains",
         about: "Write the lines whose value contains another",
         operand: Some(VALUE),
         value: None,
-        takes_style: false,
+        options: &[],
     },
     CommandRow {
         name: "set",
         about: "Put a value at the end of a path, of each line",
         operand: Some(STEPS),
         value: Some(VALUE),
-        takes_style: false,
+        options: &[],
     },
     CommandRow {
         name: "remove",
         about: "Remove what is at the end of a path, of each line",
         operand: Some(STEPS),
         value: None,
-        takes_style: false,
+        options: &[],
     },
     CommandRow {
         name: "merge",
         about: "Apply a JSON Merge Patch to each line",
         operand: Some(VALUE),
         value: None,
-        takes_style: false,
+        options: &[],
     },
     CommandRow {
         name: "pick",
         about: "Keep the members of these names, of each line",
         operand: Some(NAMES),
         value: None,
-        takes_style: false,
+        options: &[],
     },
     CommandRow {
         name: "strip-nulls",
         about: "Remove members that are null, of each line",
         operand: None,
         value: None,
-        takes_style: false,
+        options: &[],
+    },
+    CommandRow {
+        name: "sort",
+        about: "Write the lines in the order of their values",
+        operand: None,
+        value: None,
+        options: &[
+            CommandOption::By,
+            CommandOption::Reverse,
+            CommandOption::Unique,
+        ],
+    },
+    CommandRow {
+        name: "keys",
+        about: "Write the comparable key of each line in hexadecimal",
+        operand: None,
+        value: None,
+        options: &[CommandOption::By],
+    },
+    CommandRow {
+        name: "encode",
+        about: "Write the document of each line as a column stores it",
+        operand: None,
+        value: None,
+        options: &[],
+    },
+    CommandRow {
+        name: "decode",
+        about: "Write the text of each document of a stored column",
+        operand: None,
+        value: None,
+        options: &[CommandOption::Pretty],
     },
 ];
 
@@ -157,13 +201,8 @@ fn command_of<'a>(alloc: Global, row: &CommandRow) -> Result<Command<'a>, AllocE
     if let Some(value) = &row.value {
         command = command.arg(operand_of(alloc, "value", value))?;
     }
-    if row.takes_style {
-        let raw = Arg::new(alloc, "raw")
-            .short('r')
-            .long("raw")
-            .help("Write strings without quotes and escapes")
-            .action(ArgAction::SetTrue);
-        command = command.arg(raw)?;
+    for option in row.options {
+        command = command.arg(option_of(alloc, *option))?;
     }
     command.arg(on_error(alloc))?.arg(files(alloc))
 }
@@ -174,6 +213,34 @@ fn operand_of<'a>(alloc: Global, id: &'a str, operand: &Operand) -> Arg<'a> {
         .value_name(operand.name)
         .help(operand.help)
         .required(true)
+}
+
+// An option of a command.
+fn option_of<'a>(alloc: Global, option: CommandOption) -> Arg<'a> {
+    match option {
+        CommandOption::Raw => Arg::new(alloc, "raw")
+            .short('r')
+            .long("raw")
+            .help("Write strings without quotes and escapes")
+            .action(ArgAction::SetTrue),
+        CommandOption::Pretty => Arg::new(alloc, "pretty")
+            .long("pretty")
+            .help("Write each item and member on a line of its own")
+            .action(ArgAction::SetTrue),
+        CommandOption::By => Arg::new(alloc, "by")
+            .long("by")
+            .value_name("PATH")
+            .help("A path to the value that decides; with several the first one decides first")
+            .action(ArgAction::Append),
+        CommandOption::Reverse => Arg::new(alloc, "reverse")
+            .long("reverse")
+            .help("Write the last one first")
+            .action(ArgAction::SetTrue),
+        CommandOption::Unique => Arg::new(alloc, "unique")
+            .long("unique")
+            .help("Write only the first of several lines that are equal")
+            .action(ArgAction::SetTrue),
+    }
 }
 
 // What happens at a line that is wrong.
@@ -216,6 +283,23 @@ pub fn style_in(arguments: &ArgMatches<'_>) -> Style {
         Style::Raw
     } else {
         Style::Json
+    }
+}
+
+/// How documents are to be laid out.
+pub fn layout_in(arguments: &ArgMatches<'_>) -> TextLayout {
+    if arguments.get_flag("pretty") {
+        TextLayout::Pretty
+    } else {
+        TextLayout::Compact
+    }
+}
+
+/// How sorted rows are to be arranged.
+pub fn arrangement_in(arguments: &ArgMatches<'_>) -> Arrangement {
+    Arrangement {
+        is_reversed: arguments.get_flag("reverse"),
+        is_unique: arguments.get_flag("unique"),
     }
 }
 

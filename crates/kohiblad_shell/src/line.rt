@@ -3,12 +3,12 @@
 ghost use Rattle.std.specs.Prelude.{◌≡◌, IfOk};
 ghost use Rattle.kohiblad_shell.specs.Words.{ReadsLine, strip_last};
 
-use answer_lines::RunError;
+use crate::halt::Halt;
 use std::io::{self, BufRead};
 
 /// Reads the next line, without its line feed, in place of what `line` held. `false` if nothing is
 /// left. A line ends at a line feed; what follows the last line feed is a line unless it is empty.
-pub fn read_line<R: BufRead>(reader: &mut R, line: &mut Vec<u8>) -> Result<bool, RunError>
+pub fn read_line<R: BufRead>(reader: &mut R, line: &mut Vec<u8>) -> Result<bool, Halt>
     ensures ok { IfOk result (λ is_line.
         ReadsLine (R.remaining reader.old) (R.remaining reader.new) line.new.items is_line) }
 {
@@ -19,8 +19,8 @@ pub fn read_line<R: BufRead>(reader: &mut R, line: &mut Vec<u8>) -> Result<bool,
             drop_line_feed(line);
             Ok(true)
         }
-        Err(error) if error.kind() == io::ErrorKind::OutOfMemory => Err(RunError::Memory),
-        Err(_) => Err(RunError::Read),
+        Err(error) if error.kind() == io::ErrorKind::OutOfMemory => Err(Halt::Memory),
+        Err(_) => Err(Halt::Read),
     }
 }
 

@@ -1,39 +1,38 @@
 //! A program for people at the shell: files of JSON lines, row by row.
 #![tactic(auto)]
 
-ghost use Rattle.std.specs.Prelude.{IfOk};
-ghost use Rattle.kohiblad_shell.specs.Words.{IsDocument, owned_bytes};
+ghost use Rattle.std.specs.Prelude.{◌≡◌, IfOk};
+ghost use Rattle.kohiblad_shell.specs.Words.{IsDocument, halt_status, owned_bytes, run_status};
 
 mod arguments;
+mod decode;
+mod halt;
+mod key;
 mod line;
 mod operation;
 mod outcome;
 mod row;
 mod run;
+mod sort;
+mod status;
+mod write;
 
-use answer_lines::RunError;
-use arguments::{commands, operand_in, stops_in, style_in, value_in};
+use arguments::{arrangement_in, commands, layout_in, operand_in, stops_in, style_in, value_in};
 use clap::ArgMatches;
+use decode::{Decoded, Ending, decode};
+use halt::{Halt, halt_of_write};
 use jsonb::{Document, OwnedJsonb};
 use jsonb_functions::{Selector, read_path_text, steps_of_path};
 use operation::{Change, Operation};
 use outcome::Unanswered;
 use row::parse_line;
 use run::{Plan, Summary};
+use sort::{Arrangement, sort_rows};
+use status::{Aim, FAILURE, FOUND, MISUSE, NOT_FOUND, halt_status, run_status};
 use std::env;
 use std::fs::File;
 use std::io::{self, BufReader, BufWriter, Read, Write};
 use std::process::ExitCode;
-
-// The statuses of the program: a line gave a row; none did, or a line is wrong; wrong use; a device
-// or memory failed.
-const FOUND: u8 = 0;
-
-const NOT_FOUND: u8 = 1;
-
-const MISUSE: u8 = 2;
-
-const FAILURE: u8 = 3;
 
 // How many bytes are read, and written, at a time.
 const BUFFER_LEN: usize = 1 << 16;
@@ -49,7 +48,7 @@ fn shell(rt: &HostRuntime) -> u8 {
         return misuse(rt, "an argument is not UTF-8");
     };
     let Ok(program) = commands(alloc) else {
-        return failure(rt, RunError::Memory);
+        return failure(rt, Halt::Memory);
     };
     match program.try_get_matches_from(words.as_slice()) {
         Ok(matches) => match matches.subcommand() {
@@ -58,10 +57,11 @@ fn shell(rt: &HostRuntime) -> u8 {
         },
         Err(error) => {
             let is_mistake = error.use_stderr();
-            if error.print(rt).is_err() {
-                return FAILURE;
+            match error.print(rt) {
+                Ok(()) if is_mistake => MISUSE,
+                Ok(()) => FOUND,
+                Err(error) => halt_status(halt_of_write(&error)),
             }
-            if is_mistake { MISUSE } else { FOUND }
         }
     }
 }
@@ -72,10 +72,14 @@ fn misuse(rt: &HostRuntime, what: &str) -> u8 {
     MISUSE
 }
 
-// Reports that a device or memory failed.
-fn failure(rt: &HostRuntime, error: RunError) -> u8 {
-    let _ = eprintln!(rt; "kohiblad: {}", error.reason());
-    FAILURE
+// Reports why a run ended early, unless nobody reads its output.
+fn failure(rt: &HostRuntime, halt: Halt) -> u8
+    ensures { result ≡ halt_status halt }
+{
+    if halt != Halt::Closed {
+        let _ = eprintln!(rt; "kohiblad: {}", halt.reason());
+    }
+    halt_status(halt)
 }
 
 // Runs a command.
@@ -90,6 +94,12 @@ fn run_command(rt: &HostRuntime, name: &str, arguments: &ArgMatches<'_>) -> u8 {
         with_value(rt, name, arguments)
     } else if name == "pick" {
         with_names(rt, arguments)
+    } else if name == "encode" {
+        write_rows(rt, Operation::Encode, arguments)
+    } else if name == "decode" {
+        write_texts(rt, arguments)
+    } else if name == "sort" || name == "keys" {
+        with_paths(rt, name, arguments)
     } else {
         with_path(rt, name, arguments)
     }
@@ -109,7 +119,7 @@ fn document_of(rt: &HostRuntime, text: &str) -> Result<OwnedJsonb, u8>
             );
             Err(MISUSE)
         }
-        Err(Unanswered::OutOfMemory) => Err(failure(rt, RunError::Memory)),
+        Err(Unanswered::OutOfMemory) => Err(failure(rt, Halt::Memory)),
     }
 }
 
@@ -133,8 +143,110 @@ fn with_names(rt: &HostRuntime, arguments: &ArgMatches<'_>) -> u8 {
     let names = operand_in(arguments).split(',');
     match names.collect::<Vec<&str>>(rt.alloc()) {
         Ok(names) => write_rows(rt, Operation::Change(Change::Pick(&names)), arguments),
-        Err(_) => failure(rt, RunError::Memory),
+        Err(_) => failure(rt, Halt::Memory),
     }
+}
+
+// Runs a command of keys by several paths.
+fn with_paths(rt: &HostRuntime, name: &str, arguments: &ArgMatches<'_>) -> u8 {
+    let mut paths = Vec::new(rt.alloc());
+    if let Some(texts) = arguments.get_strs("by") {
+        for text in texts {
+            let path = match read_path_text(rt.alloc(), *text) {
+                Ok(Some(path)) => path,
+                Ok(None) => return misuse(rt, "a path after --by is none, such as '$.price'"),
+                Err(_) => return failure(rt, Halt::Memory),
+            };
+            if paths.push(path).is_err() {
+                return failure(rt, Halt::Memory);
+            }
+        }
+    }
+    if name == "sort" {
+        write_in_order(rt, &paths, arguments)
+    } else {
+        write_rows(rt, Operation::Key(&paths), arguments)
+    }
+}
+
+// Sorts the lines by these paths, in memory.
+fn write_in_order(rt: &HostRuntime, paths: &[Vec<Selector<'_>>], arguments: &ArgMatches<'_>) -> u8 {
+    let stops = stops_in(arguments, true);
+    let mut kept = Vec::new(rt.alloc());
+    let outcome = run_files(rt, Operation::Sort(paths), arguments, stops, &mut kept);
+    match outcome {
+        Ok(summary) if stops && summary.faults > 0 => NOT_FOUND,
+        Ok(summary) => match write_sorted(rt, &kept, arrangement_in(arguments)) {
+            Ok(()) => run_status(Aim::Rows, stops, Ok(summary)),
+            Err(halt) => failure(rt, halt),
+        },
+        Err(halt) => failure(rt, halt),
+    }
+}
+
+// Writes the lines that a run kept, sorted.
+fn write_sorted(rt: &HostRuntime, kept: &[u8], arrangement: Arrangement) -> Result<(), Halt> {
+    let alloc = rt.alloc();
+    let rows = sort_rows(alloc, kept, arrangement)?;
+    let Ok(mut writer) = BufWriter::with_capacity(alloc, BUFFER_LEN, io::writer(rt)) else {
+        return Err(Halt::Memory);
+    };
+    sort::write_rows(&mut writer, &rows)
+}
+
+// Writes the texts of the documents of each file, which is read whole.
+fn write_texts(rt: &HostRuntime, arguments: &ArgMatches<'_>) -> u8 {
+    let outcome = decode_files(rt, arguments);
+    ended(rt, Aim::Rows, true, outcome)
+}
+
+// Writes the texts of the documents of each file, or of standard input if none is named.
+fn decode_files(rt: &HostRuntime, arguments: &ArgMatches<'_>) -> Result<Summary, Halt> {
+    let alloc = rt.alloc();
+    let layout = layout_in(arguments);
+    let Ok(mut writer) = BufWriter::with_capacity(alloc, BUFFER_LEN, io::writer(rt)) else {
+        return Err(Halt::Memory);
+    };
+    let mut total = Summary { rows: 0, faults: 0 };
+    let Some(names) = arguments.get_strs("file") else {
+        let bytes = read_whole(rt, &mut rt.reader())?;
+        return Ok(report_end(rt, "-", decode(alloc, &bytes, layout, &mut writer)?));
+    };
+    for name in names {
+        let Ok(mut file) = File::open(rt, *name) else {
+            let _ = eprintln!(rt; "kohiblad: cannot open {name}");
+            return Err(Halt::Read);
+        };
+        let bytes = read_whole(rt, &mut file)?;
+        let summary = report_end(rt, name, decode(alloc, &bytes, layout, &mut writer)?);
+        total = total.with(summary);
+        if summary.faults > 0 {
+            break;
+        }
+    }
+    Ok(total)
+}
+
+// All bytes of a reader.
+fn read_whole<R: Read>(rt: &HostRuntime, reader: &mut R) -> Result<Vec<u8>, Halt> {
+    let mut bytes = Vec::new(rt.alloc());
+    match reader.read_to_end(&mut bytes) {
+        Ok(_) => Ok(bytes),
+        Err(_) => Err(Halt::Read),
+    }
+}
+
+// Reports the row after the last one that was read, if there is one.
+fn report_end(rt: &HostRuntime, name: &str, decoded: Decoded) -> Summary {
+    let rows = decoded.rows;
+    let reason = match decoded.ending {
+        Ending::Whole => return Summary { rows, faults: 0 },
+        Ending::Cut => "InvalidEOF",
+        Ending::BadRow => "InvalidJsonb",
+    };
+    let number = u128::from(rows) + 1;
+    let _ = eprintln!(rt; "{name}:{number}: {reason}");
+    Summary { rows, faults: 1 }
 }
 
 // Runs a command whose operand is a path.
@@ -142,7 +254,7 @@ fn with_path(rt: &HostRuntime, name: &str, arguments: &ArgMatches<'_>) -> u8 {
     let path = match read_path_text(rt.alloc(), operand_in(arguments)) {
         Ok(Some(path)) => path,
         Ok(None) => return misuse(rt, "the operand is not a path, such as '$.price'"),
-        Err(_) => return failure(rt, RunError::Memory),
+        Err(_) => return failure(rt, Halt::Memory),
     };
     let style = style_in(arguments);
     if name == "get" {
@@ -168,7 +280,7 @@ fn with_steps(
     let steps = match steps_of_path(rt.alloc(), path) {
         Ok(Some(steps)) => steps,
         Ok(None) => return misuse(rt, "the path may have no wildcards, ranges and filters"),
-        Err(_) => return failure(rt, RunError::Memory),
+        Err(_) => return failure(rt, Halt::Memory),
     };
     if name == "remove" {
         return write_rows(rt, Operation::Change(Change::Remove(&steps)), arguments);
@@ -185,23 +297,18 @@ fn with_steps(
 // Reports all lines that are wrong.
 fn check(rt: &HostRuntime, arguments: &ArgMatches<'_>) -> u8 {
     let stops = stops_in(arguments, false);
-    match run_files(rt, Operation::Check, arguments, stops, &mut io::sink()) {
-        Ok(summary) if summary.faults == 0 => FOUND,
-        Ok(_) => NOT_FOUND,
-        Err(error) => failure(rt, error),
-    }
+    let outcome = run_files(rt, Operation::Check, arguments, stops, &mut io::sink());
+    ended(rt, Aim::Faults, stops, outcome)
 }
 
 // Writes the rows of an operation.
 fn write_rows(rt: &HostRuntime, operation: Operation<'_>, arguments: &ArgMatches<'_>) -> u8 {
     let stops = stops_in(arguments, true);
     let Ok(mut writer) = BufWriter::with_capacity(rt.alloc(), BUFFER_LEN, io::writer(rt)) else {
-        return failure(rt, RunError::Memory);
+        return failure(rt, Halt::Memory);
     };
-    match run_files(rt, operation, arguments, stops, &mut writer) {
-        Ok(summary) => status_of(summary, stops),
-        Err(error) => failure(rt, error),
-    }
+    let outcome = run_files(rt, operation, arguments, stops, &mut writer);
+    ended(rt, Aim::Rows, stops, outcome)
 }
 
 // Counts the lines in which a path leads to some value. After a wrong line at which the run stops
@@ -217,20 +324,21 @@ fn count(rt: &HostRuntime, path: &[Selector<'_>], arguments: &ArgMatches<'_>) ->
     ) {
         Ok(summary) if stops && summary.faults > 0 => NOT_FOUND,
         Ok(summary) => match println!(rt; "{}", summary.rows) {
-            Ok(()) => status_of(summary, stops),
-            Err(_) => failure(rt, RunError::Write),
+            Ok(()) => run_status(Aim::Rows, stops, Ok(summary)),
+            Err(error) => failure(rt, halt_of_write(&error)),
         },
-        Err(error) => failure(rt, error),
+        Err(halt) => failure(rt, halt),
     }
 }
 
-// The status after a run.
-fn status_of(summary: Summary, stops: bool) -> u8 {
-    if summary.rows == 0 || (stops && summary.faults > 0) {
-        NOT_FOUND
-    } else {
-        FOUND
+// The status after a run, whose early end is reported.
+fn ended(rt: &HostRuntime, aim: Aim, stops: bool, outcome: Result<Summary, Halt>) -> u8
+    ensures { result ≡ run_status aim stops outcome }
+{
+    if let Err(halt) = outcome {
+        let _ = failure(rt, halt);
     }
+    run_status(aim, stops, outcome)
 }
 
 // Runs an operation on the lines of each file, or of standard input if none is named.
@@ -240,7 +348,7 @@ fn run_files<W: Write>(
     arguments: &ArgMatches<'_>,
     stops: bool,
     writer: &mut W,
-) -> Result<Summary, RunError> {
+) -> Result<Summary, Halt> {
     let mut total = Summary { rows: 0, faults: 0 };
     let Some(names) = arguments.get_strs("file") else {
         return run_reader(rt, operation, "-", stops, rt.reader(), writer);
@@ -248,13 +356,10 @@ fn run_files<W: Write>(
     for name in names {
         let Ok(file) = File::open(rt, *name) else {
             let _ = eprintln!(rt; "kohiblad: cannot open {name}");
-            return Err(RunError::Read);
+            return Err(Halt::Read);
         };
         let summary = run_reader(rt, operation, name, stops, file, writer)?;
-        total = Summary {
-            rows: total.rows.saturating_add(summary.rows),
-            faults: total.faults.saturating_add(summary.faults),
-        };
+        total = total.with(summary);
         if stops && summary.faults > 0 {
             break;
         }
@@ -270,14 +375,14 @@ fn run_reader<R: Read + Drop, W: Write>(
     stops_at_faults: bool,
     reader: R,
     writer: &mut W,
-) -> Result<Summary, RunError> {
+) -> Result<Summary, Halt> {
     let alloc = rt.alloc();
     let plan = Plan {
         name,
         stops_at_faults,
     };
     let Ok(mut reader) = BufReader::with_capacity(alloc, BUFFER_LEN, reader) else {
-        return Err(RunError::Memory);
+        return Err(Halt::Memory);
     };
     run::run(
         alloc,

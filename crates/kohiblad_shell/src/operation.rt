@@ -4,13 +4,17 @@ ghost use Rattle.std.specs.Prelude.{◌≡◌, ◌++◌, ◌∷◌, [], IfOk, If
 ghost use Rattle.std.specs.Prelude.{option_map, option_to_list};
 ghost use Rattle.kohiblad_shell.specs.Words.{Fits, HoldsNoScalar, IsMade, IsResultOf, IsRowAnswer};
 ghost use Rattle.kohiblad_shell.specs.Words.{MadeWithMemory, raw_text};
-ghost use Rattle.kohiblad_shell.specs.Words.{canon, changed, document_tree, kept_line, node_tree};
-ghost use Rattle.kohiblad_shell.specs.Words.{owned_bytes};
+ghost use Rattle.kohiblad_shell.specs.Words.{canon, changed, document_bytes, document_tree};
+ghost use Rattle.kohiblad_shell.specs.Words.{kept_line, node_tree};
+ghost use Rattle.kohiblad_shell.specs.Words.{encode_lower, key_and_line, owned_bytes, row_bytes};
+ghost use Rattle.kohiblad_shell.specs.Words.{row_key};
 ghost use Rattle.kohiblad_shell.specs.Words.{row_rule, text_of, value_line, value_lines};
 
+use crate::key::row_key;
 use crate::outcome::{LineWorker, Unanswered};
 use crate::row::parse_line;
 use jsonb::{Document, Error, Node, OwnedJsonb};
+use jsonb_column::append_row;
 use jsonb_functions::{
     Edit, Kept, Selector, Step, contains, edit_document, exists_path, merge_patch, pick, select,
     select_first, strip_nulls,
@@ -43,6 +47,12 @@ pub enum Operation<'a> {
     Contains(Document<'a>),
     /// Writes the changed value as a compact text.
     Change(Change<'a>),
+    /// Writes the document of the row, after its length, as a column stores it.
+    Encode,
+    /// Writes the key of the row by these paths in hexadecimal.
+    Key(&'a [Vec<Selector<'a>>]),
+    /// Keeps the key of the row by these paths and the line, each after its length.
+    Sort(&'a [Vec<Selector<'a>>]),
 }
 
 /// How a value is changed.
@@ -82,7 +92,7 @@ fn row_lines(
     document: Document<'_>,
 ) -> Result<Vec<u8>, Error>
     ensures { IsResultOf
-        (IsRowAnswer operation.entry line.now (document_tree document.entry)) result }
+        (IsRowAnswer operation.entry line.now (document_bytes document.entry)) result }
 {
     match operation {
         Operation::Check => Ok(Vec::new(alloc)),
@@ -92,6 +102,9 @@ fn row_lines(
         Operation::Filter(path) => kept_line(alloc, line, exists_path(document, path)),
         Operation::Contains(part) => kept_line(alloc, line, contains(alloc, document, part)?),
         Operation::Change(change) => changed_line(alloc, change, document),
+        Operation::Encode => stored_row(alloc, document.as_bytes()),
+        Operation::Key(paths) => key_line(alloc, document, paths),
+        Operation::Sort(paths) => keyed_line(alloc, document, paths, line),
     }
 }
 
@@ -117,6 +130,49 @@ fn changed(alloc: Global, change: Change<'_>, document: Document<'_>) -> Result<
         Change::Pick(names) => pick(alloc, document, names, Kept::Named),
         Change::StripNulls => strip_nulls(alloc, document),
     }
+}
+
+// The bytes after their length.
+fn stored_row(alloc: Global, bytes: &[u8]) -> Result<Vec<u8>, Error>
+    ensures ok { IfOk result (λ row. row.items ≡ row_bytes bytes.now) }
+    ensures memory { IfErr result (λ e. e ≡ Error.OutOfMemory) }
+{
+    let mut row = Vec::new(alloc);
+    append_row(&mut row, bytes)?;
+    Ok(row)
+}
+
+// The key of a row by these paths in hexadecimal, with a line feed.
+fn key_line(
+    alloc: Global,
+    document: Document<'_>,
+    paths: &[Vec<Selector<'_>>],
+) -> Result<Vec<u8>, Error>
+    ensures ok { IfOk result (λ line. line.items
+        ≡ encode_lower (row_key paths.now (document_tree document.entry)) ++ 10 ∷ []) }
+    ensures memory { IfErr result (λ e. e ≡ Error.OutOfMemory) }
+{
+    let key = row_key(alloc, document, paths)?;
+    text_line(hex::encode(alloc, key.as_slice())?)
+}
+
+// The key of a row by these paths and its line, each after its length.
+fn keyed_line(
+    alloc: Global,
+    document: Document<'_>,
+    paths: &[Vec<Selector<'_>>],
+    line: &[u8],
+) -> Result<Vec<u8>, Error>
+    ensures ok { IfOk result (λ row. row.items ≡ key_and_line
+        (row_key paths.now (document_tree document.entry)) (line.now ++ 10 ∷ [])) }
+    ensures memory { IfErr result (λ e. e ≡ Error.OutOfMemory) }
+{
+    let key = row_key(alloc, document, paths)?;
+    let kept = kept_line(alloc, line, true)?;
+    let mut row = Vec::new(alloc);
+    append_row(&mut row, &key)?;
+    append_row(&mut row, &kept)?;
+    Ok(row)
 }
 
 // A text with its line feed.

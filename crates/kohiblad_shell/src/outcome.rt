@@ -4,7 +4,7 @@ ghost use Rattle.std.specs.Prelude.{◌≡◌, IfOk, IfErr, string_bytes};
 ghost use Rattle.kohiblad_shell.specs.Words.{IsAnswer, LineRule, OutOfMemory, fault_line};
 ghost use Rattle.kohiblad_shell.specs.Words.{reason_name};
 
-use answer_lines::RunError;
+use crate::halt::Halt;
 use std::alloc::{AllocError, Global};
 
 /// Why a line is wrong.
@@ -75,14 +75,9 @@ pub trait LineWorker {
 
 /// The line that reports a fault: the name of the input, the number of the line, that of the byte,
 /// both counted from 1, and the reason.
-pub fn fault_text(
-    alloc: Global,
-    name: &str,
-    number: u64,
-    fault: LineFault,
-) -> Result<String, RunError>
+pub fn fault_text(alloc: Global, name: &str, number: u64, fault: LineFault) -> Result<String, Halt>
     ensures ok { IfOk result (λ text. string_bytes text ≡ fault_line name.now number fault) }
-    ensures memory { IfErr result (λ e. e ≡ RunError.Memory) }
+    ensures memory { IfErr result (λ e. e ≡ Halt.Memory) }
 {
     let byte = fault.offset as u128 + 1;
     let reason = fault.reason.name();

@@ -2,11 +2,12 @@
 
 ghost use Rattle.std.specs.Prelude.{◌≡◌, ◌≤◌, ◌∷◌, [], Ok, IfOk, OnOk, OnErr, IfSome};
 ghost use Rattle.kohiblad_shell.specs.Words.{Appends, AppendsPrefix, BeginsRun, IsRun, Keeps};
-ghost use Rattle.kohiblad_shell.specs.Words.{fault_line, row_count};
+ghost use Rattle.kohiblad_shell.specs.Words.{both, fault_line, row_count};
 
+use crate::halt::Halt;
 use crate::line::read_line;
 use crate::outcome::{LineFault, LineWorker, Unanswered, fault_text};
-use answer_lines::{RunError, write_bytes};
+use crate::write::{flush, write_bytes};
 use std::alloc::Global;
 use std::io::{BufRead, Write};
 
@@ -24,14 +25,26 @@ pub struct Summary {
     pub faults: u64,
 }
 
+impl Summary {
+    /// The counts of both, up to the greatest.
+    pub fn with(self, other: Summary) -> Summary
+        ensures { result ≡ both self other }
+    {
+        Summary {
+            rows: self.rows.saturating_add(other.rows),
+            faults: self.faults.saturating_add(other.faults),
+        }
+    }
+}
+
 /// Answers the lines of the reader, in order: their rows go to `writer`, and a report of each that
 /// is wrong to `errors`. A run whose plan stops at faults ends at the first line that is wrong;
 /// every other run reads to the end. A line ends at a line feed; what follows the last line feed is
 /// a line unless it is empty.
 ///
 /// After an error a prefix of the rows was written, and one of the reports. `Read`: the reader
-/// failed, or never reached its end. `Write`: a writer failed, or accepted no byte. `Memory`: an
-/// allocation failed.
+/// failed, or never reached its end. `Write`: a writer failed, or accepted no byte.
+/// `Closed`: nobody reads what a writer writes. `Memory`: an allocation failed.
 pub fn run<L: LineWorker, R: BufRead, W: Write, E: Write>(
     alloc: Global,
     worker: &L,
@@ -39,7 +52,7 @@ pub fn run<L: LineWorker, R: BufRead, W: Write, E: Write>(
     reader: &mut R,
     writer: &mut W,
     errors: &mut E,
-) -> Result<Summary, RunError>
+) -> Result<Summary, Halt>
     ensures done { IfOk result (λ summary. IfSome (R.remaining reader.old) (λ input.
         IsRun (L.rule worker.now) plan.now input (W.contents writer.old) (W.contents writer.new)
         (E.contents errors.old) (E.contents errors.new) summary)) }
@@ -48,9 +61,9 @@ pub fn run<L: LineWorker, R: BufRead, W: Write, E: Write>(
         (W.contents writer.new) (E.contents errors.old) (E.contents errors.new))) }
 {
     let outcome = take_lines(alloc, worker, plan, reader, writer, errors);
-    match writer.flush() {
+    match flush(writer) {
         Ok(()) => outcome,
-        Err(_) => Err(RunError::Write),
+        Err(halt) => Err(halt),
     }
 }
 
@@ -62,7 +75,7 @@ fn take_lines<L: LineWorker, R: BufRead, W: Write, E: Write>(
     reader: &mut R,
     writer: &mut W,
     errors: &mut E,
-) -> Result<Summary, RunError>
+) -> Result<Summary, Halt>
     ensures done { IfOk result (λ summary. IfSome (R.remaining reader.old) (λ input.
         IsRun (L.rule worker.now) plan.now input (W.contents writer.old) (W.contents writer.new)
         (E.contents errors.old) (E.contents errors.new) summary)) }
@@ -89,10 +102,10 @@ fn take_lines<L: LineWorker, R: BufRead, W: Write, E: Write>(
                     return Ok(Summary { rows, faults });
                 }
             }
-            Err(Unanswered::OutOfMemory) => return Err(RunError::Memory),
+            Err(Unanswered::OutOfMemory) => return Err(Halt::Memory),
         }
     }
-    Err(RunError::Read)
+    Err(Halt::Read)
 }
 
 // Reports a fault, after the rows that the writer still holds: both may go to one place.
@@ -103,16 +116,14 @@ fn report_fault<W: Write, E: Write>(
     fault: LineFault,
     writer: &mut W,
     errors: &mut E,
-) -> Result<(), RunError>
+) -> Result<(), Halt>
     ensures rows { Keeps (W.contents writer.old) (W.contents writer.new) }
     ensures ok { OnOk result (Appends (E.contents errors.old) (E.contents errors.new)
         (fault_line name.now number fault)) }
     ensures err { OnErr result (AppendsPrefix (E.contents errors.old) (E.contents errors.new)
         (fault_line name.now number fault)) }
 {
-    if writer.flush().is_err() {
-        return Err(RunError::Write);
-    }
+    flush(writer)?;
     let report = fault_text(alloc, name, number, fault)?;
     write_bytes(errors, report.as_bytes())
 }

@@ -1,0 +1,51 @@
+-- Why a run ended early, and the status of the program.
+use Rattle.std.specs.Prelude.{◌≡◌, ◌⊎◌, ◌==◌, ◌||◌, ◌&&◌, ℕ, Bool, not, List, codes, Result, Ok}
+use Rattle.std.specs.Prelude.{◌+◌, ◌-◌, ◌^◌, Err, if◌then◌else◌, min}
+use Rattle.std.specs.declared.io.ErrorKind.{ErrorKind}
+use Rattle.std.specs.declared.io.ErrorKind.TheVariants.{BrokenPipe}
+use Rattle.kohiblad_shell.specs.declared.halt.Halt.{Halt}
+use Rattle.kohiblad_shell.specs.declared.halt.Halt.TheVariants.{Read, Write, Closed, Memory}
+use Rattle.kohiblad_shell.specs.declared.run.Summary.{Summary}
+use Rattle.kohiblad_shell.specs.declared.status.Aim.{Aim}
+use Rattle.kohiblad_shell.specs.declared.status.Aim.TheVariants.{Rows, Faults}
+
+-- What failed.
+abbrev pub halt_reason : Halt → List ℕ
+halt_reason Read = codes "read failed"
+halt_reason Write = codes "write failed"
+halt_reason Closed = codes "output closed"
+halt_reason Memory = codes "out of memory"
+
+-- The halt after an error of a writer of this kind.
+abbrev pub halt_of_write : ErrorKind → Halt
+halt_of_write BrokenPipe = Closed
+halt_of_write kind = Write
+
+-- The halt is one of a writer.
+abbrev pub IsWriteHalt : Halt → Type 0
+IsWriteHalt halt = (halt ≡ Write) ⊎ (halt ≡ Closed)
+
+-- The status after a halt: 3, or, where nobody reads the output, 141, which is what a shell says of
+-- a program that the signal of a closed pipe ended.
+abbrev pub halt_status : Halt → ℕ
+halt_status Closed = 141
+halt_status halt = 3
+
+-- The counts of two runs, up to the greatest.
+abbrev pub both : Summary → Summary → Summary
+both first second = record {
+  rows = min (first.rows + second.rows) (2 ^ 64 - 1);
+  faults = min (first.faults + second.faults) (2 ^ 64 - 1);
+}
+
+-- The status of a run that searched for rows, and of one that searched for faults; whether it stops
+-- at faults.
+abbrev pub summary_status : Aim → Bool → Summary → ℕ
+summary_status Rows stops summary =
+    if summary.rows == 0 || stops && not (summary.faults == 0) then 1 else 0
+summary_status Faults stops summary = if summary.faults == 0 then 0 else 1
+
+-- The status of the program after a run.
+abbrev pub run_status : Aim → Bool → Result Summary Halt → ℕ
+run_status aim stops (Ok summary) = summary_status aim stops summary
+run_status aim stops (Err halt) = halt_status halt

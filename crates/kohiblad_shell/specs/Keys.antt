@@ -1,0 +1,29 @@
+-- The keys of rows.
+use Rattle.std.specs.Prelude.{◌≡◌, ℕ, List, [], ◌∷◌, ◌++◌, Option, Some, None, true}
+use Rattle.std.specs.declared.alloc.Global.{Global}
+use Rattle.std.specs.declared.vec.Vec.{Vec}
+use Rattle.jsonb_value.specs.Tree.{Tree}
+use Rattle.jsonb_comparable.specs.TreeKey.{tree_key}
+use Rattle.jsonb_functions.specs.Selected.{selected, first_tree}
+use Rattle.jsonb_functions.specs.declared.selection.Selector.{Selector}
+use Rattle.kohiblad_shell.specs.declared.key.GrowingKey.{GrowingKey}
+
+-- The key of what a path leads to; the byte 0, which is below all others, if it leads nowhere.
+abbrev pub path_key : Option Tree → List ℕ
+path_key None = 0 ∷ []
+path_key (Some t) = tree_key t
+
+-- The keys of the first values to which the paths lead, one after another.
+abbrev pub path_keys : List (Vec Selector Global) → Tree → List ℕ
+path_keys [] t = []
+path_keys (path ∷ paths) t = path_key (first_tree (selected path.items t)) ++ path_keys paths t
+
+-- The key of a row: those of its values at the paths, or its own if there are no paths.
+abbrev pub row_key : List (Vec Selector Global) → Tree → List ℕ
+row_key [] t = tree_key t
+row_key (path ∷ paths) t = path_keys (path ∷ paths) t
+
+-- A key is whole only if it was whole before, and has more bytes.
+abbrev pub AppendsKey : GrowingKey → GrowingKey → List ℕ → Type 0
+AppendsKey old new bytes = new.is_whole ≡ true
+    → (old.is_whole ≡ true) × (new.bytes.items ≡ old.bytes.items ++ bytes)

@@ -1,0 +1,52 @@
+//! Why a run ended early.
+
+ghost use Rattle.std.specs.Prelude.{◌≡◌};
+ghost use Rattle.kohiblad_shell.specs.Words.{Memory, error_kind, halt_of_write, halt_reason};
+
+use std::alloc::AllocError;
+use std::io;
+
+/// Why a run ended early.
+#[derive(Clone, Copy, Debug, PartialEq, Eq)]
+pub enum Halt {
+    /// The reader failed, or never reached the end of its input.
+    Read,
+    /// A writer failed, or accepted no byte.
+    Write,
+    /// The reader of what a writer writes is gone, as after `head`.
+    Closed,
+    /// An allocation failed.
+    Memory,
+}
+
+impl Halt {
+    /// What failed, in words.
+    pub fn reason(self) -> &'static str
+        ensures { result.now ≡ halt_reason self }
+    {
+        match self {
+            Halt::Read => "read failed",
+            Halt::Write => "write failed",
+            Halt::Closed => "output closed",
+            Halt::Memory => "out of memory",
+        }
+    }
+}
+
+impl From<AllocError> for Halt {
+    ghost from_gives = { λ _ halt. halt ≡ Memory };
+
+    fn from(_error: AllocError) -> Halt {
+        Halt::Memory
+    }
+}
+
+/// Why a run ends after this error of a writer.
+pub fn halt_of_write(error: &io::Error) -> Halt
+    ensures { result ≡ halt_of_write (error_kind error.now) }
+{
+    match error.kind() {
+        io::ErrorKind::BrokenPipe => Halt::Closed,
+        _ => Halt::Write,
+    }
+}

@@ -1,0 +1,63 @@
+//! The status of the program.
+
+ghost use Rattle.std.specs.Prelude.{◌≡◌};
+ghost use Rattle.kohiblad_shell.specs.Words.{halt_status, run_status, summary_status};
+
+use crate::halt::Halt;
+use crate::run::Summary;
+
+/// The status if a line gave a row, or no line is wrong where faults are searched for.
+pub const FOUND: u8 = 0;
+
+/// The status if no line gave a row, or a line is wrong.
+pub const NOT_FOUND: u8 = 1;
+
+/// The status after wrong use.
+pub const MISUSE: u8 = 2;
+
+/// The status if a device or memory failed.
+pub const FAILURE: u8 = 3;
+
+/// The status if nobody reads the output: what a shell says of a program that the signal of a
+/// closed pipe ended.
+pub const CLOSED: u8 = 141;
+
+/// What a run searches for.
+#[derive(Clone, Copy, Debug, PartialEq, Eq)]
+pub enum Aim {
+    /// Rows.
+    Rows,
+    /// Lines that are wrong.
+    Faults,
+}
+
+/// The status of the program after a run, which stops at faults or does not.
+pub fn run_status(aim: Aim, stops: bool, outcome: Result<Summary, Halt>) -> u8
+    ensures { result ≡ run_status aim stops outcome }
+{
+    match outcome {
+        Ok(summary) => summary_status(aim, stops, summary),
+        Err(halt) => halt_status(halt),
+    }
+}
+
+// The status after a run that ended by itself.
+fn summary_status(aim: Aim, stops: bool, summary: Summary) -> u8
+    ensures { result ≡ summary_status aim stops summary }
+{
+    let is_missed = match aim {
+        Aim::Rows => summary.rows == 0 || stops && summary.faults != 0,
+        Aim::Faults => summary.faults != 0,
+    };
+    if is_missed { NOT_FOUND } else { FOUND }
+}
+
+/// The status after a run that ended early.
+pub fn halt_status(halt: Halt) -> u8
+    ensures { result ≡ halt_status halt }
+{
+    match halt {
+        Halt::Closed => CLOSED,
+        _ => FAILURE,
+    }
+}
