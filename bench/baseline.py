@@ -17,6 +17,7 @@ Nothing of OUT belongs in this repository.
 """
 import pathlib
 import re
+import shutil
 import subprocess
 import sys
 
@@ -86,6 +87,17 @@ def registry():
     return next(path for path in files if path.endswith("/registry"))
 
 
+def put_plain_serde_json(out):
+    """Copies serde_json under another name: cargo builds a package with one set of features."""
+    source = next(pathlib.Path(registry()).glob("serde_json-1.*"))
+    shutil.copytree(source, out, dirs_exist_ok=True)
+    manifest = out / "Cargo.toml"
+    text = manifest.read_text().replace('name = "serde_json"', 'name = "plain_serde_json"', 1)
+    # Its own tests and benches are not built, and what they need is not there.
+    manifest.write_text(re.sub(r"\[dev-dependencies.*?(?=^\[(?!dev-dependencies)|\Z)", "", text,
+                               flags=re.S | re.M))
+
+
 def main(reference, out):
     for name, pattern in CHOSEN.items() | dict.fromkeys(WHOLE, "").items():
         text = (reference / f"src--src--{name}.rs.txt").read_text()
@@ -99,6 +111,7 @@ def main(reference, out):
     (out / ".cargo" / "config.toml").write_text(
         '[source.crates-io]\nreplace-with = "packaged"\n\n'
         f'[source.packaged]\ndirectory = "{registry()}"\n')
+    put_plain_serde_json(out / "plain_serde_json")
 
 
 if __name__ == "__main__":

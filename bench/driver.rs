@@ -99,18 +99,29 @@ extern "C" {
     ) -> usize;
 }
 
-// The seconds that a call of either side takes, the least of fifteen. The two take turns, so that
-// what else the machine does meets both.
-fn fastest(mut ours: impl FnMut() -> usize, mut theirs: impl FnMut() -> usize) -> (f64, f64) {
-    let (mut our_least, mut their_least) = (f64::INFINITY, f64::INFINITY);
-    for _ in 0..15 {
-        our_least = our_least.min(seconds(&mut ours));
-        their_least = their_least.min(seconds(&mut theirs));
-    }
-    (our_least, their_least)
+unsafe extern "C" {
+    // 1 if simdjson reads the text.
+    fn simdjson_reads(text: *const u8, length: usize) -> usize;
 }
 
-fn seconds(call: &mut impl FnMut() -> usize) -> f64 {
+// The seconds that a call of each takes, the least of fifteen. They take turns, so that what else
+// the machine does meets all.
+fn least_of<const N: usize>(mut calls: [&mut dyn FnMut() -> usize; N]) -> [f64; N] {
+    let mut least = [f64::INFINITY; N];
+    for _ in 0..15 {
+        for (call, least) in calls.iter_mut().zip(&mut least) {
+            *least = least.min(seconds(call));
+        }
+    }
+    least
+}
+
+fn fastest(mut ours: impl FnMut() -> usize, mut theirs: impl FnMut() -> usize) -> (f64, f64) {
+    let [ours, theirs] = least_of([&mut ours, &mut theirs]);
+    (ours, theirs)
+}
+
+fn seconds(call: &mut (impl FnMut() -> usize + ?Sized)) -> f64 {
     let start = Instant::now();
     black_box(call());
     start.elapsed().as_secs_f64()
@@ -158,9 +169,14 @@ fn scattered(number: usize) -> String {
 }
 
 fn report(name: &str, what: &str, bytes: usize, ours: f64, theirs: f64) {
+    report_beside(name, what, bytes, ours, theirs, "");
+}
+
+// The same, with what the other side is, if it is not the crate.
+fn report_beside(name: &str, what: &str, bytes: usize, ours: f64, theirs: f64, side: &str) {
     let megabytes = bytes as f64 / 1e6;
     println!(
-        "{name:10} {what:8} {:9.1} MB/s, the crate {:9.1} MB/s: {:.2} of its time",
+        "{name:10} {what:8} {:9.1} MB/s, the crate {:9.1} MB/s: {:.2} of its time{side}",
         megabytes / ours,
         megabytes / theirs,
         ours / theirs
@@ -619,12 +635,7 @@ fn texts() {
     let text = records(130_000);
     let value: serde_json::Value = serde_json::from_str(&text).unwrap();
     let length = text.len();
-    let from_str = || serde_json::from_str::<serde_json::Value>(&text).is_ok() as usize;
-    let (ours, theirs) = fastest(
-        || unsafe { measured_parse(text.as_ptr(), length) },
-        from_str,
-    );
-    report("text", "parse", length, ours, theirs);
+    read_text("text", &text);
     let whole = || encoded(&value_of_json(serde_json::from_str(&text).unwrap())).len();
     assert_eq!(whole(), unsafe { measured_parse(text.as_ptr(), length) });
     let (ours, theirs) = fastest(|| unsafe { measured_parse(text.as_ptr(), length) }, whole);
@@ -649,7 +660,7 @@ fn texts() {
     drop(value);
 }
 
-// The texts of the folder that TEXTS names. Short ones are read many times in a row.
+// The texts of the folder that TEXTS names.
 fn kinds_of_text() {
     let folder = std::env::var("TEXTS").expect("TEXTS names the folder of texts.py");
     let mut paths: Vec<_> = std::fs::read_dir(folder)
@@ -659,24 +670,33 @@ fn kinds_of_text() {
     paths.sort();
     for path in paths {
         let text = std::fs::read_to_string(&path).unwrap();
-        let times = 1 + 300_000 / text.len();
-        let ours = || {
-            (0..times)
-                .map(|_| unsafe { measured_parse(black_box(text.as_ptr()), text.len()) })
-                .sum()
-        };
-        let theirs = || {
-            (0..times)
-                .map(|_| serde_json::from_str::<serde_json::Value>(black_box(&text)).is_ok())
-                .filter(|is_read| *is_read)
-                .count()
-        };
         let document = encoded(&value_of_json(serde_json::from_str(&text).unwrap()));
-        assert_eq!(ours(), times * document.len());
-        let (our_time, their_time) = fastest(ours, theirs);
-        let name = path.file_stem().unwrap().to_str().unwrap();
-        report(name, "parse", times * text.len(), our_time, their_time);
+        let length = unsafe { measured_parse(text.as_ptr(), text.len()) };
+        assert_eq!(length, document.len());
+        read_text(path.file_stem().unwrap().to_str().unwrap(), &text);
     }
+}
+
+// A text read beside serde_json, which keeps the digits of numbers as the crate has it, serde_json
+// as it is without that, and simdjson, which reads into a tape of its own. Short texts are read
+// many times in a row.
+fn read_text(name: &str, text: &str) {
+    let times = 1 + 300_000 / text.len();
+    let exact = || serde_json::from_str::<serde_json::Value>(black_box(text)).is_ok() as usize;
+    let plain = || {
+        plain_serde_json::from_str::<plain_serde_json::Value>(black_box(text)).is_ok() as usize
+    };
+    let start = text.as_ptr();
+    let [ours, exact, plain, tape] = least_of([
+        &mut || (0..times).map(|_| unsafe { measured_parse(black_box(start), text.len()) }).sum(),
+        &mut || (0..times).map(|_| exact()).sum(),
+        &mut || (0..times).map(|_| plain()).sum(),
+        &mut || (0..times).map(|_| unsafe { simdjson_reads(black_box(start), text.len()) }).sum(),
+    ]);
+    let bytes = times * text.len();
+    report(name, "parse", bytes, ours, exact);
+    report_beside(name, "parse", bytes, ours, plain, " (without exact numbers)");
+    report_beside(name, "parse", bytes, ours, tape, " (simdjson)");
 }
 
 // What ten times the size costs, up to 100 MB. The encoder's time includes the build.

@@ -60,6 +60,7 @@ SPEEDS = [
 
 # The texts of texts.py, and what they hold.
 KINDS = [
+    ("text", "records of five members"),
     ("any_order", "records of 4 to 20 members, keys in any order"),
     ("services", "messages of a service, strings with some beyond ASCII"),
     ("seats", "small numbers under long keys"),
@@ -72,6 +73,9 @@ KINDS = [
     ("row", "a row of ten members"),
     ("short", "a text of 46 bytes"),
 ]
+
+# Whom the texts are read beside, as the driver's rows end.
+SIDES = ["", " (without exact numbers)", " (simdjson)"]
 
 
 def rows():
@@ -140,7 +144,8 @@ def tables(found):
              ["parse, against `from_str` and the crate's encoder", cell(found["text document"])],
              ["`to_string` of a view, against `to_string`", cell(found["objects print"])],
              ["`to_string` of a `Document`, the same", cell(found["objects text"])]]
-    kinds = [[name, cell(found[f"{row} parse"])] for row, name in KINDS]
+    kinds = [[name] + [cell(found[f"{row} parse{side}"]) for side in SIDES]
+             for row, name in KINDS]
     column = [[call, cell(found[f"column {call}"])]
               for call in ["load", "sort", "search", "select"]]
     return "\n".join([
@@ -153,7 +158,8 @@ def tables(found):
                "of checked ones"], builders),
         table(["containers in one another, levels", "encoder", "canonical form"], nested),
         table(["texts, against serde_json", ""], texts),
-        table(["reading texts, against `from_str`", ""], kinds),
+        table(["reading texts, against", "serde_json, which keeps all digits",
+               "serde_json without that", "simdjson"], kinds),
         table(["a column of 100,000 rows", ""], column),
     ])
 
