@@ -2,31 +2,26 @@
 import re
 
 from drawing import LETTER, Drawing
+from rattle import TOP, Specs, function_in
 
 FILE, CALL, CLAUSE = "crates/jsonb/src/raw.rt", "jsonb_item_type", "document"
-SPECS, DEFINITION = "crates/jsonb/specs/Kind.antt", "kind_of_tree"
+SPECS, DEFINITION = ("jsonb", "Kind"), "kind_of_tree"
 WRONG = "crates/jsonb/wrong/every_kind_is_null.edit"
 LINE, LEFT = 19, 22
 
 
-def the_call(code):
+def the_call():
     """The promise in words, the clause on its lines, and the body of the call."""
-    found = re.search(rf"    pub fn {CALL}\(.*?\n    \{{\n(.*?)\n    \}}\n", code, re.S)
-    said = re.search(rf"        // (.*)\n        (ensures {CLAUSE} \{{.*?\}})\n", found[0], re.S)
-    clause = [it.strip() for it in said[2].split("\n")]
-    return said[1], [clause[0], *(f"    {it}" for it in clause[1:])], found[1].strip()
-
-
-def definition(specs):
-    """The sentence above the definition, and its lines."""
-    found = re.search(rf"^-- ([^\n]*)\nabbrev pub ({DEFINITION} : .*?)\n\n", f"{specs}\n",
-                      re.M | re.S)
-    return found[1], found[2].split("\n")
+    call = function_in(f"{TOP}/{FILE}", CALL)
+    promise, clause = call.promise(CLAUSE)
+    clause = [it.strip() for it in clause]
+    body = "\n".join(call.lines[call.body + 1:call.end]).strip()
+    return promise, [clause[0], *(f"    {it}" for it in clause[1:])], body
 
 
 def draw(read):
-    promise, clause, body = the_call(read(FILE))
-    sentence, lines = definition(read(SPECS))
+    promise, clause, body = the_call()
+    sentence, lines = Specs(*SPECS).definition(DEFINITION)
     wrong = dict(line.split(": ", 1) for line in read(WRONG).strip().split("\n"))
     assert wrong["old"] == body and FILE.endswith(wrong["file"]), wrong
     boxes = Drawing(

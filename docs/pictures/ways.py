@@ -1,7 +1,6 @@
 """What the commands enc, dec, get, cmp and canon call in turn, and in which crate each call is."""
-import re
-
 from drawing import Drawing
+from rattle import file_of, function_in
 
 # Of each command: what goes in, the calls with their files and what each does, and what comes out.
 WAYS = [
@@ -40,12 +39,10 @@ COLORS = {"jsonb": "green", "jsonb_codec": "blue", "jsonb_value": "amber"}
 COLUMN, ROW, WIDTH, HEIGHT, LEFT, TOP = 200, 88, 190, 64, 16, 92
 
 
-def test_call(read, call, file):
-    """Fails unless the file has such a function, and its type if it is a method."""
-    crate, path = file.split("/", 1)
-    code = read(f"crates/{crate}/src/{path}")
-    kind, _, name = call.rpartition("::")
-    if not re.search(rf"\bfn {name}\b", code) or kind and not re.search(rf"\b{kind}\b", code):
+def test_call(call, file):
+    """Fails unless the file has such a function."""
+    crate, *module = file.removesuffix(".rt").split("/")
+    if not function_in(file_of(crate, module), call):
         raise SystemExit(f"docs/pictures/ways.py: {file} has no {call}")
 
 
@@ -63,7 +60,7 @@ def draw(read):
         drawing.text(middle, 62, taken)
         drawing.arrow(f"M{middle:g} 70V{TOP - 2}")
         for row, (call, file, about) in enumerate(calls):
-            test_call(read, call, file)
+            test_call(call, file)
             y = TOP + ROW * row
             drawing.box(left, y, WIDTH, HEIGHT, COLORS[file.split("/")[0]])
             drawing.text(middle, y + 19, call, "mono")
