@@ -21,8 +21,7 @@ impl OpenKinds {
 
     /// No container is open.
     pub fn new(alloc: Global, limit: usize) -> Self
-        ensures none { kinds_held result ≡ [] }
-        ensures limit { result.limit ≡ limit }
+        ensures { (kinds_held result ≡ []) × (result.limit ≡ limit) }
     {
         OpenKinds {
             kinds: Vec::new(alloc),
@@ -61,9 +60,8 @@ impl OpenKinds {
     /// Closes the innermost container.
     #[inline(always)]
     pub fn pop(&mut self)
-        ensures rest { (b : Bool) (bs : List Bool) → kinds_held self.old ≡ b ∷ bs
-            → kinds_held self.new ≡ bs }
-        ensures limit { self.new.limit ≡ self.old.limit }
+        ensures { ((b : Bool) (bs : List Bool) → kinds_held self.old ≡ b ∷ bs
+            → kinds_held self.new ≡ bs) × (self.new.limit ≡ self.old.limit) }
     {
         let _ = self.kinds.pop();
     }

@@ -47,7 +47,7 @@ returns-then-is_object-2-clause-ok g c = λ rule target h.
     after_object rule g.S.Sink.is target _ _ _ _ _ _ _ _ h
     (sym c.innermost-2.ensures ∙ c.in-Some-innermost-2.is ∙ ap Some c.if-is_object-2.true)
     c.skip_blank-rest.ensures c.in-Some.ensures c.if-mark-ne125.false
-    c.in_ok-end_object.ensures.ok c.pop.ensures.rest
+    c.in_ok-end_object.ensures.ok c.pop.ensures.0
 
 pub returns-then-mark-ne93-clause-err : goal.returns-then-mark-ne93-clause-err
 returns-then-mark-ne93-clause-err g c = λ rule target h.
@@ -60,7 +60,7 @@ returns-clause-ok g c = λ rule target h.
     after_array rule g.S.Sink.is target _ _ _ _ _ _ _ _ h
     (sym c.innermost-2.ensures ∙ c.in-Some-innermost-2.is ∙ ap Some c.if-is_object-2.false)
     c.skip_blank-rest.ensures c.in-Some.ensures c.if-mark-ne93.false
-    c.in_ok-end_array.ensures.ok c.pop-2.ensures.rest
+    c.in_ok-end_array.ensures.ok c.pop-2.ensures.0
 
 pub returns-then-is_object-clause-shorter : goal.returns-then-is_object-clause-shorter
 returns-then-is_object-clause-shorter g c =
@@ -109,11 +109,11 @@ returns-else-is_object-clause-deep g c =
 pub returns-then-is_object-2-clause-deep : goal.returns-then-is_object-2-clause-deep
 returns-then-is_object-2-clause-deep g c =
     closes_within _ _ _ _ _ _ _ (sym c.innermost-2.ensures ∙ c.in-Some-innermost-2.is)
-    c.pop.ensures.rest c.pop.ensures.limit c.skip_blank-rest.ensures c.in-Some.ensures
+    c.pop.ensures.0 c.pop.ensures.1 c.skip_blank-rest.ensures c.in-Some.ensures
     (inr c.if-mark-ne125.false)
 
 pub returns-clause-deep : goal.returns-clause-deep
 returns-clause-deep g c =
     closes_within _ _ _ _ _ _ _ (sym c.innermost-2.ensures ∙ c.in-Some-innermost-2.is)
-    c.pop-2.ensures.rest c.pop-2.ensures.limit c.skip_blank-rest.ensures c.in-Some.ensures
+    c.pop-2.ensures.0 c.pop-2.ensures.1 c.skip_blank-rest.ensures c.in-Some.ensures
     (inl c.if-mark-ne93.false)

@@ -9,9 +9,9 @@ use Rattle.jsonb_value.proofs.parser.reader.read_text_within.Goals as goal
 pub steps-init : goal.steps-init
 steps-init g c = record {
   stands = text_begins c.args.exponents g.S.Sink.is _ _ _ _ c.skip_blank.ensures
-      c.new-kinds.ensures.none c.requires;
-  deep = begins_within _ c.args.text.now _ c.args.depth c.utf8.text c.new-kinds.ensures.none
-      c.new-kinds.ensures.limit c.skip_blank.ensures;
+      c.new-kinds.ensures.0 c.requires;
+  deep = begins_within _ c.args.text.now _ c.args.depth c.utf8.text c.new-kinds.ensures.0
+      c.new-kinds.ensures.1 c.skip_blank.ensures;
 }
 
 pub returns-in-End-clause-ok : goal.returns-in-End-clause-ok
