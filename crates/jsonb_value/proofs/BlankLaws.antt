@@ -8,8 +8,8 @@ use Rattle.std.proofs.lemmas.Bool.{cases_Bool, true≢false}
 use Rattle.std.proofs.lemmas.List.{length-map}
 use Rattle.std.proofs.lemmas.List.Sums.{prefix_len-le-length}
 use Rattle.std.proofs.lemmas.Simd.{zip2_splat, zip2_of_maps, mask_l-mod}
-use Rattle.std.proofs.lemmas.Str.{encode_ascii, encodes-chars, chars_past_char, IsUtf8-drop}
-use Rattle.std.proofs.lemmas.Str.{chars-nil, IsCharBoundary-after_ascii, IsCharBoundary-from_drop}
+use Rattle.std.proofs.lemmas.Str.{encode_ascii, encodes-chars, chars-nil}
+use Rattle.std.proofs.lemmas.Str.{IsCharBoundary-from_drop}
 use Rattle.std.specs.List.{prefix_len}
 use Rattle.std.specs.Prelude.{chars, IsUtf8, encode_utf8_all}
 use Rattle.std.specs.Simd.Lanes.{top, mask_l, chunk}
@@ -18,6 +18,7 @@ use lib.Lanes.{zip2}
 use lib.Count.{count_trailing_zeros}
 use Rattle.jsonb_value.specs.Json.Characters.{is_blank, is_not_blank}
 use Rattle.jsonb_value.specs.Reader.Reading.{skip_blank}
+use Rattle.jsonb_value.proofs.AsciiLaws.{past_ascii, chars-ascii}
 use Rattle.jsonb_value.proofs.LaneRuns.{passes_through, stops_within}
 
 abbrev miss : ℕ → ℕ → ℕ
@@ -69,16 +70,6 @@ blanks_stop = stops_within is_not_blank is_blank blank_or_not
 
 small_blank : (b : ℕ) → is_blank b ≡ true → b < 128
 small_blank b e = grind (arith, eqb-true)
-
-past_ascii : (b : ℕ) (bytes : List ℕ) → b < 128 → IsUtf8 (b ∷ bytes) → IsUtf8 bytes
-past_ascii b bytes small utf8 =
-    IsUtf8-drop (b ∷ bytes) 1 utf8
-    (IsCharBoundary-after_ascii (b ∷ bytes) 0 utf8 (omega arith) small)
-
-chars-ascii : (b : ℕ) (bytes : List ℕ) → b < 128 → IsUtf8 (b ∷ bytes)
-    → chars (b ∷ bytes) ≡ b ∷ chars bytes
-chars-ascii b bytes small utf8 =
-    chars_past_char (b ∷ bytes) bytes b utf8 (ap (λ l. l ++ bytes) (sym (encode_ascii b small)))
 
 -- a first character that is blank is the first byte
 first_is : (b : ℕ) (bytes cs : List ℕ) → encode_utf8_all cs ≡ b ∷ bytes → is_blank b ≡ false

@@ -17,6 +17,7 @@ pub mod Decimals
 pub mod Escapes
 pub mod LaneRuns
 pub mod RunLaws
+pub mod AsciiLaws
 pub mod BlankLaws
 pub mod TextVectors
 pub mod BigEndian

@@ -1,6 +1,6 @@
 //! Steps over the characters at the start of a text.
 
-ghost use Rattle.std.specs.Prelude.{◌≡◌, [], ◌∷◌, chars, option_map, MatchOption};
+ghost use Rattle.std.specs.Prelude.{◌≡◌, ℕ, ◌≤◌, List, [], ◌∷◌, chars, option_map, MatchOption};
 ghost use Rattle.jsonb_value.specs.Words.{skip_blank, expect, expect_all};
 
 use crate::runs::blank_len;
@@ -17,12 +17,32 @@ pub fn split_first(text: &str) -> Option<(char, &str)>
     Some((first, characters.as_str()))
 }
 
+/// The first character, if it is ASCII, and the text after it.
+#[inline(always)]
+pub fn split_ascii(text: &str) -> Option<(char, &str)>
+    ensures { MatchOption result
+        ((c : ℕ) (more : List ℕ) → chars text.now ≡ c ∷ more → 128 ≤ c)
+        (λ parts. chars text.now ≡ parts.0 ∷ chars parts.1.now) }
+{
+    match text.as_bytes() {
+        [] => None,
+        [first, ..] if *first < 128 => Some((char::from(*first), text.split_at(1).1)),
+        [_, ..] => None,
+    }
+}
+
 /// The text after `expected`, if it is the first character.
 #[inline(always)]
 pub fn after_char(text: &str, expected: char) -> Option<&str>
     ensures { option_map (λ rest. chars rest.now) result ≡ expect expected (chars text.now) }
 {
-    match split_first(text) {
+    if !expected.is_ascii() {
+        return match split_first(text) {
+            Some((first, rest)) if first == expected => Some(rest),
+            _ => None,
+        };
+    }
+    match split_ascii(text) {
         Some((first, rest)) if first == expected => Some(rest),
         _ => None,
     }

@@ -12,7 +12,7 @@ ghost use Rattle.jsonb_value.specs.Words.{scaled_number};
 mod short;
 
 use crate::number::Number;
-use crate::parser::cursor::{after_char, split_first};
+use crate::parser::cursor::{after_char, split_ascii, split_first};
 use short::read_short_number;
 
 /// Whether numbers may have an exponent.
@@ -45,7 +45,7 @@ pub struct Integer {
 fn read_sign(text: &str) -> (bool, &str)
     ensures { (result.0, chars result.1.now) ≡ read_sign (chars text.now) }
 {
-    match split_first(text) {
+    match split_ascii(text) {
         Some(('-', rest)) => (true, rest),
         _ => (false, text),
     }

@@ -8,7 +8,7 @@ ghost use Rattle.jsonb_value.specs.Words.{signed_number, number_of, read_whole, 
 ghost use Rattle.jsonb_value.specs.Words.{read_exponent, read_number, front_digits, after_digits};
 
 use crate::number::{Decimal64, Number};
-use crate::parser::cursor::{after_char, split_first};
+use crate::parser::cursor::{after_char, split_ascii};
 use crate::parser::number::{is_exponent_mark, read_sign};
 
 // A number below this is still short after one more digit.
@@ -49,7 +49,7 @@ fn read_short_digits(start: u64, text: &str) -> Option<(ShortDigits, &str)>
         value: start,
     };
     let mut rest = text;
-    'digits: while let Some((digit, after)) = split_first(rest) {
+    'digits: while let Some((digit, after)) = split_ascii(rest) {
         if !digit.is_ascii_digit() {
             break;
         }
@@ -70,7 +70,7 @@ fn read_short_whole(text: &str) -> Option<(u64, &str)>
         × (read_whole (chars text.now) ≡ Some (ds, chars found.1.now))
         × (found.0 ≡ digits_value 10 ds) × (found.0 < 10 ^ 18)) }
 {
-    let (first, rest) = split_first(text)?;
+    let (first, rest) = split_ascii(text)?;
     if !first.is_ascii_digit() {
         return None;
     }
@@ -110,7 +110,7 @@ fn begins_exponent(text: &str) -> bool
     ensures { result ≡ false → (rule : Exponents)
         → read_exponent rule (chars text.now) ≡ Some (pos 0, chars text.now) }
 {
-    match split_first(text) {
+    match split_ascii(text) {
         Some((mark, _)) => is_exponent_mark(mark),
         None => false,
     }
