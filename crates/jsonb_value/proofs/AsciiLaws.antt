@@ -48,3 +48,11 @@ pub none_first : (bytes own : List ℕ) → own ≡ bytes → length own ≡ 0 �
     → chars bytes ≡ c ∷ more → 128 ≤ c
 none_first [] own same none c more e = let h : [] ≡ c ∷ more = sym chars-nil ∙ e in cc
 none_first (b ∷ bytes) own same none c more e = absurd (omega (arith, none, ap length same))
+
+-- no bytes spell no characters
+pub no_chars : (bytes : List ℕ) → length bytes ≡ 0 → chars bytes ≡ []
+no_chars [] none = chars-nil
+no_chars (b ∷ bytes) none = absurd (omega (arith, none))
+
+pub no_bytes : (bytes : List ℕ) → IsUtf8 bytes → chars bytes ≡ [] → length bytes ≡ 0
+no_bytes bytes utf8 none = ap length (sym (encodes-chars bytes utf8) ∙ ap encode_utf8_all none)

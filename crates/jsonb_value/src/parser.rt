@@ -1,4 +1,4 @@
-//! The parser of JSON texts: one reader, which is a loop, and sinks for what it reads.
+//! The parser of JSON texts: one reader, which is two loops, and sinks for what it reads.
 
 ghost use Rattle.std.specs.Prelude.{◌≡◌, ◌≤◌, ◌⊎◌, ◌↔◌, IsTrue, Err, chars, IfOk, IfErr};
 ghost use Rattle.jsonb_value.specs.Depth.{depth as tree_depth};

@@ -1,7 +1,7 @@
 -- What each step of the reader does to where it stands.
 use Rattle.std.proofs.Common.{◌≡◌, ℕ, zero, suc, ◌<◌, ◌≤◌, refl, sym, ap, ◌∙◌, List, [], ◌∷◌, ◌++◌}
-use Rattle.std.proofs.Common.{length, arith, Option, Some, None, Bool, true, false}
-use Rattle.std.specs.Prelude.{◌≢◌}
+use Rattle.std.proofs.Common.{length, arith, Option, Some, None, Bool, true, false, Bor}
+use Rattle.std.specs.Prelude.{◌≢◌, ⊤}
 use Rattle.std.specs.Ordering.{nat_cmp}
 use Rattle.std.specs.Cmp.Lexicographic.{slice_cmp}
 use Rattle.std.specs.BTreeMap.{insert_entry}
@@ -24,18 +24,31 @@ use Rattle.jsonb_value.specs.declared.number.Number.{Number}
 use Rattle.jsonb_value.specs.Json.Syntax.{JsonText}
 use Rattle.jsonb_value.proofs.Json.ValueLaws.{document-found, value-found}
 use Rattle.jsonb_value.proofs.Json.Shorter.{expect_shorter}
-use Rattle.jsonb_value.proofs.Json.ValueSteps.{value_ends, opened_shorter, after_shorter, opens}
+use Rattle.jsonb_value.proofs.Json.ValueSteps.{value_past_ascii, opened_shorter, after_shorter, opens}
 use Rattle.jsonb_value.proofs.Json.ValueSteps.{fails_on}
 use Rattle.jsonb_value.specs.declared.error.Error.{Error}
 use Rattle.jsonb_value.specs.Reader.Gives.{Fails}
 use Rattle.jsonb_value.proofs.Json.SpelledLaws.{value_positive}
 use Rattle.jsonb_value.specs.Reader.Resume.{Adds, AddsKey}
+use Rattle.jsonb_value.specs.declared.parser.reader.Step.{Step}
+use Rattle.jsonb_value.specs.declared.parser.reader.Step.TheVariants as step
 use Rattle.jsonb_value.proofs.Json.Shorter.{skip_shorter}
 use Rattle.jsonb_value.proofs.Json.Resume as steps
 use Rattle.jsonb_value.proofs.Json.Tests.{no_error, some_same}
 
 abbrev Relation : Type 0 → Type 1
 Relation S = S → State → Type 0
+
+-- Nothing, or a value, comes next.
+abbrev pub IsNotAfter : Step → Type 0
+IsNotAfter (step.After rest) = ⊥
+IsNotAfter other = ⊤
+
+pub is_end : (s : Step) → IsNotAfter s → ((rest : Bor (List ℕ)) → s ≡ step.Value rest → ⊥)
+    → s ≡ step.End
+is_end (step.Value rest) ended other = absurd (other rest refl)
+is_end (step.After rest) ended other = absurd ended
+is_end step.End ended other = refl
 
 true_false : true ≡ false → ⊥
 true_false e = cc
@@ -279,6 +292,24 @@ after_no_object rule is target sink kinds s rest c more h some e follows no_comm
     after_other rule is target sink kinds s rest c more true h some e follows no_comma
     (λ e. absurd (true_false e)) (λ _. no_close)
 
+-- neither the end of the text nor a mark follows
+pub after_no_ascii : {S : Type 0} (rule : Exponents) (is : Relation S) (target : Option Tree)
+    (sink : S) (kinds : List Bool) (s rest : List ℕ) → IsAfterValue rule is target sink kinds s
+    → rest ≡ skip_blank s → ((c : ℕ) (more : List ℕ) → rest ≡ c ∷ more → 128 ≤ c)
+    → (rest ≡ [] → innermost kinds ≡ None → ⊥) → target ≡ None
+after_no_ascii rule is target sink kinds s rest h e great other = by rest (innermost kinds) refl refl
+  where
+    past : (c : ℕ) (more : List ℕ) → rest ≡ c ∷ more → (k : ℕ) → k < 128 → c ≢ k
+    past c more r k small same = omega (arith, great c more r, small, same)
+
+    by : (r : List ℕ) (o : Option Bool) → rest ≡ r → innermost kinds ≡ o → target ≡ None
+    by [] None r o = absurd (other r o)
+    by [] (Some b) r o = after_cut rule is target sink kinds s rest b h o e r
+    by (c ∷ more) None r o = after_more rule is target sink kinds s rest c more h o e r
+    by (c ∷ more) (Some b) r o = after_other rule is target sink kinds s rest c more b h o e r
+        (past c more r comma (omega arith)) (λ _. past c more r close_bracket (omega arith))
+        (λ _. past c more r close_brace (omega arith))
+
 -- ---- how much is left
 
 pub past_mark : (s rest : List ℕ) (c : ℕ) (more : List ℕ) → rest ≡ skip_blank s → rest ≡ c ∷ more
@@ -319,12 +350,12 @@ past_scalar rule s t after reads =
 
 -- ---- at a value
 
-pub at_nothing : {S : Type 0} (rule : Exponents) (is : Relation S) (target : Option Tree) (sink : S)
-    (kinds : List Bool) (s : List ℕ) → IsAtValue rule is target sink kinds s → s ≡ []
-    → target ≡ None
-at_nothing rule is target sink kinds s h e =
+pub at_no_ascii : {S : Type 0} (rule : Exponents) (is : Relation S) (target : Option Tree)
+    (sink : S) (kinds : List Bool) (s : List ℕ) → IsAtValue rule is target sink kinds s
+    → ((c : ℕ) (more : List ℕ) → s ≡ c ∷ more → 128 ≤ c) → target ≡ None
+at_no_ascii rule is target sink kinds s h great =
     h.same ∙ steps.value_fails rule h.bound h.parts s
-    (value_ends rule (steps_of h.bound h.parts) s e)
+    (value_past_ascii rule (steps_of h.bound h.parts) s great)
 
 -- the bounds on the steps of an array or object that begins
 record Bounds (whole_bound : ℕ) (ps : List Part) (rest : List ℕ) : Type 0 where

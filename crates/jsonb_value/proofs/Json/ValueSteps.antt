@@ -1,5 +1,5 @@
 -- Steps of reading values.
-use Rattle.std.proofs.Common.{◌≡◌, ℕ, zero, suc, ◌<◌, ◌≤◌, sym}
+use Rattle.std.proofs.Common.{◌≡◌, ℕ, zero, suc, ◌<◌, ◌≤◌, refl, sym}
 use Rattle.std.proofs.Common.{ap, ◌∙◌, List, [], ◌∷◌, length, arith, Option, Some}
 use Rattle.std.proofs.Common.{None, Result, Ok, Err, ◌⊎◌}
 use Rattle.std.specs.Prelude.{IsErrAnd}
@@ -9,6 +9,7 @@ use Rattle.jsonb_value.specs.Tree.{Tree}
 use Rattle.jsonb_value.specs.Json.Characters.{quote, colon}
 use Rattle.jsonb_value.specs.Reader.Reading.{skip_blank, expect, read_text}
 use Rattle.jsonb_value.specs.Reader.Reading.{read_value, read_kind, Kind, kind_begun}
+use Rattle.jsonb_value.specs.Reader.Reading.{read_number, number_kind}
 use Rattle.jsonb_value.proofs.Json.Shorter.{skip_shorter, expect_shorter, text_shorter}
 use Rattle.jsonb_value.specs.declared.error.Error.{Error}
 use Rattle.jsonb_value.specs.Reader.Gives.{Gives, Fails, FailsIf}
@@ -60,9 +61,22 @@ pub reads_kind : (rule : Exponents) (s rest : List ℕ) (c : ℕ) (k : Kind) (t 
     → (n : ℕ) → length s < n → read_value rule n s ≡ Some (t, after)
 reads_kind rule s rest c k t after = of_kind rule (λ q. q ≡ Some (t, after)) s rest c k
 
-pub value_ends : (rule : Exponents) (n : ℕ) (s : List ℕ) → s ≡ [] → read_value rule n s ≡ None
+-- no value begins with a character past ASCII
+kind_past_ascii : (c : ℕ) → 128 ≤ c → kind_begun c ≡ number_kind
+kind_past_ascii c great = grind arith
+
+number_past_ascii : (rule : Exponents) (c : ℕ) (s : List ℕ) → 128 ≤ c
+    → read_number rule (c ∷ s) ≡ None
+number_past_ascii rule c s great = grind arith
+
+pub value_past_ascii : (rule : Exponents) (n : ℕ) (s : List ℕ)
+    → ((c : ℕ) (more : List ℕ) → s ≡ c ∷ more → 128 ≤ c) → read_value rule n s ≡ None
 unfolding read_value
-value_ends rule n s e = grind arith
+value_past_ascii rule zero s great = refl
+value_past_ascii rule (suc n) [] great = refl
+value_past_ascii rule (suc n) (c ∷ s) great =
+    let past = great c s refl in
+    rw (kind_past_ascii c past, number_past_ascii rule c s past) refl
 
 pub skipped_shorter : (s inside : List ℕ) → inside ≡ skip_blank s → length inside ≤ length s
 skipped_shorter s inside e = grind (arith, skip_shorter)
@@ -100,3 +114,8 @@ after_shorter opened key after inside later is e found =
 pub err_is : {X : Type 0} (r : Result X Error) (e : Error) (P : Error → Type 0)
     → IsErrAnd r (λ y. y ≡ e) → P e → IfErr r P
 err_is r e P is p = grind arith
+
+pub err_as : {X : Type 0} (r : Result X Error) (P Q : Error → Type 0) → IfErr r P
+    → ((e : Error) → P e → Q e) → IfErr r Q
+err_as (Ok x) P Q h turn = tt
+err_as (Err e) P Q h turn = turn e h

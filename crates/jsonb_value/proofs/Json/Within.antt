@@ -22,6 +22,9 @@ use Rattle.jsonb_value.proofs.Json.Levels.{skip_level}
 use Rattle.jsonb_value.proofs.Json.Tests.{no_error}
 use Rattle.std.proofs.lemmas.List.{length-reverse}
 
+pub both_ways : {A B C : Type 0} → A ↔ B → B ↔ C → A ↔ C
+both_ways ab bc = (λ a. bc.0 (ab.0 a), λ c. ab.1 (bc.1 c))
+
 abbrev open_count : OpenKinds → ℕ
 open_count ks = length (kinds_held ks)
 

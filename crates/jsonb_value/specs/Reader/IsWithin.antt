@@ -14,6 +14,5 @@ pub record IsWithin (ks : OpenKinds) (rest : List ℕ) : Type 0 where
 -- The same of what is left after a step.
 abbrev pub IsStepWithin : OpenKinds → Step → Type 0
 IsStepWithin ks (steps.Value rest) = IsWithin ks (chars rest.now)
-IsStepWithin ks (steps.Key rest) = IsWithin ks (chars rest.now)
 IsStepWithin ks (steps.After rest) = IsWithin ks (chars rest.now)
 IsStepWithin ks steps.End = ⊤

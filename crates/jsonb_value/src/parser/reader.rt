@@ -1,8 +1,9 @@
-//! The reader: a loop over the values, keys and brackets of a text, with a call of a sink for each.
+//! The reader: a loop at a value, and one after a value, with a call of a sink for each value, key
+//! and bracket of a text.
 //! Nested values take no stack: of each open container it keeps whether it is an object.
 
 ghost use Rattle.std.specs.Prelude.{◌≡◌, ◌↔◌, ℕ, ◌<◌, ◌≤◌, List, [], ◌∷◌, length, chars, Option, Some};
-ghost use Rattle.std.specs.Prelude.{IfOk, IfErr, OnOk, OnErr};
+ghost use Rattle.std.specs.Prelude.{Bool, IfOk, IfErr, OnOk, OnErr};
 ghost use Rattle.jsonb_value.specs.declared.parser.number.Exponents.{Exponents};
 ghost use Rattle.jsonb_value.specs.Tree.{Tree, text as text_tree};
 ghost use Rattle.jsonb_value.specs.Reader.Gives.{Fails, FailsIf, FailsString, Gives, GivesString};
@@ -19,7 +20,7 @@ ghost use Rattle.jsonb_value.specs.Json.Syntax.{Entries, JsonText};
 ghost use Rattle.jsonb_value.specs.Json.Characters.{open_bracket, open_brace};
 
 use crate::error::Error;
-use crate::parser::cursor::{after_all, after_char, skip_blank, split_first};
+use crate::parser::cursor::{after_all, after_char, skip_blank, split_ascii};
 use crate::parser::number::{Exponents, read_number};
 use crate::parser::open_kinds::OpenKinds;
 use crate::parser::sink::Sink;
@@ -65,8 +66,6 @@ fn read_word<'a>(text: &'a str, word: &[char]) -> Result<&'a str, Error>
 pub enum Step<'a> {
     /// A value, without white space before it.
     Value(&'a str),
-    /// A key, which may have white space before it.
-    Key(&'a str),
     /// What follows a value.
     After(&'a str),
     /// Nothing: the text ended after its value.
@@ -123,6 +122,7 @@ fn give_key<'a, S: Sink<'a>>(
 fn go_on<'a, S: Sink<'a>>(
     sink: &mut S,
     kinds: &mut OpenKinds,
+    content: &mut String,
     text: &'a str,
 ) -> Result<Step<'a>, Error>
     requires { (rule : Exponents) × ((target : Option Tree)
@@ -138,10 +138,10 @@ fn go_on<'a, S: Sink<'a>>(
     ensures shorter { IfOk result (λ step. left step ≤ length (chars text.now)) }
 {
     let rest = skip_blank(text);
-    let Some((mark, after)) = split_first(rest) else {
+    let Some((mark, after)) = split_ascii(rest) else {
         return match kinds.innermost() {
-            None => Ok(Step::End),
-            Some(_) => Err(Error::InvalidJson),
+            None if rest.is_empty() => Ok(Step::End),
+            _ => Err(Error::InvalidJson),
         };
     };
     let Some(is_object) = kinds.innermost() else {
@@ -149,7 +149,7 @@ fn go_on<'a, S: Sink<'a>>(
     };
     if mark == ',' {
         return if is_object {
-            Ok(Step::Key(after))
+            Ok(Step::Value(read_key(sink, content, after)?))
         } else {
             Ok(Step::Value(skip_blank(after)))
         };
@@ -190,12 +190,12 @@ fn begin<'a, S: Sink<'a>>(
         (λ step. IsWithin kinds.old (chars text.now) ↔ IsStepWithin kinds.new step) }
     ensures shorter { IfOk result (λ step. left step ≤ length (chars text.now)) }
 {
-    let Some((first, rest)) = split_first(text) else {
+    let Some((first, rest)) = split_ascii(text) else {
         return Err(Error::InvalidJson);
     };
     match kind_of(first) {
         Kind::Array => begin_array(sink, kinds, text),
-        Kind::Object => begin_object(sink, kinds, text),
+        Kind::Object => begin_object(sink, kinds, content, text),
         Kind::Null => {
             let after = read_word(rest, &['u', 'l', 'l'])?;
             sink.null()?;
@@ -244,7 +244,7 @@ fn begin_array<'a, S: Sink<'a>>(
         (λ step. IsWithin kinds.old (chars text.now) ↔ IsStepWithin kinds.new step) }
     ensures shorter { IfOk result (λ step. left step ≤ length (chars text.now)) }
 {
-    let Some((_, rest)) = split_first(text) else {
+    let Some((_, rest)) = split_ascii(text) else {
         unreachable!();
     };
     if kinds.is_full() {
@@ -264,6 +264,7 @@ fn begin_array<'a, S: Sink<'a>>(
 fn begin_object<'a, S: Sink<'a>>(
     sink: &mut S,
     kinds: &mut OpenKinds,
+    content: &mut String,
     text: &'a str,
 ) -> Result<Step<'a>, Error>
     requires first { (s : List ℕ) × (chars text.now ≡ open_brace ∷ s) }
@@ -272,13 +273,14 @@ fn begin_object<'a, S: Sink<'a>>(
     ensures ok { IfOk result (λ step. (rule : Exponents) (target : Option Tree)
         → IsAtValue rule S.is target sink.old (kinds_held kinds.old) (chars text.now)
         → IsAtStep rule S.is target sink.new (kinds_held kinds.new) step) }
-    ensures err { IfErr result (λ e. (target : Option Tree)
+    ensures err { IfErr result (λ e. (rule : Exponents) (target : Option Tree)
+        → IsAtValue rule S.is target sink.old (kinds_held kinds.old) (chars text.now)
         → FailsIf (IsWithin kinds.old (chars text.now)) e target) }
     ensures deep { IfOk result
         (λ step. IsWithin kinds.old (chars text.now) ↔ IsStepWithin kinds.new step) }
     ensures shorter { IfOk result (λ step. left step ≤ length (chars text.now)) }
 {
-    let Some((_, rest)) = split_first(text) else {
+    let Some((_, rest)) = split_ascii(text) else {
         unreachable!();
     };
     if kinds.is_full() {
@@ -290,27 +292,26 @@ fn begin_object<'a, S: Sink<'a>>(
         return Ok(Step::After(after));
     }
     kinds.push(true)?;
-    Ok(Step::Key(rest))
+    Ok(Step::Value(read_key(sink, content, rest)?))
 }
 
-// Reads a key and its colon.
+// Reads a key and its colon; returns the text of its value, without white space before it.
+#[inline(always)]
 fn read_key<'a, S: Sink<'a>>(
     sink: &mut S,
-    kinds: &OpenKinds,
     content: &mut String,
     text: &'a str,
-) -> Result<Step<'a>, Error>
-    requires { (rule : Exponents) × ((target : Option Tree)
-        × IsAtKey rule S.is target sink.old (kinds_held kinds.now) (chars text.now)) }
-    ensures ok { IfOk result (λ step. (rule : Exponents) (target : Option Tree)
-        → IsAtKey rule S.is target sink.old (kinds_held kinds.now) (chars text.now)
-        → IsAtStep rule S.is target sink.new (kinds_held kinds.now) step) }
-    ensures err { IfErr result (λ e. (rule : Exponents) (target : Option Tree)
-        → IsAtKey rule S.is target sink.old (kinds_held kinds.now) (chars text.now)
-        → Fails e target) }
-    ensures deep { IfOk result
-        (λ step. IsWithin kinds.now (chars text.now) ↔ IsStepWithin kinds.now step) }
-    ensures shorter { IfOk result (λ step. left step ≤ length (chars text.now)) }
+) -> Result<&'a str, Error>
+    requires { (rule : Exponents) × ((target : Option Tree) × ((kinds : List Bool)
+        × IsAtKey rule S.is target sink.old kinds (chars text.now))) }
+    ensures ok { IfOk result (λ next. (rule : Exponents) (target : Option Tree) (kinds : List Bool)
+        → IsAtKey rule S.is target sink.old kinds (chars text.now)
+        → IsAtValue rule S.is target sink.new kinds (chars next.now)) }
+    ensures err { IfErr result (λ e. (rule : Exponents) (target : Option Tree) (kinds : List Bool)
+        → IsAtKey rule S.is target sink.old kinds (chars text.now) → Fails e target) }
+    ensures deep { IfOk result (λ next. (kinds : OpenKinds)
+        → IsWithin kinds (chars text.now) ↔ IsWithin kinds (chars next.now)) }
+    ensures shorter { IfOk result (λ next. length (chars next.now) < length (chars text.now)) }
 {
     let Some(opened) = after_char(skip_blank(text), '"') else {
         return Err(Error::InvalidJson);
@@ -319,7 +320,7 @@ fn read_key<'a, S: Sink<'a>>(
     let Some(later) = after_char(skip_blank(after), ':') else {
         return Err(Error::InvalidJson);
     };
-    Ok(Step::Value(skip_blank(later)))
+    Ok(skip_blank(later))
 }
 
 /// Reads a whole text, and calls the sink for each part of it. `InvalidJson` if it is not a JSON
@@ -359,12 +360,11 @@ pub fn read_text_within<'a, S: Sink<'a>>(
     let mut kinds = OpenKinds::new(alloc, depth);
     let mut content = String::new(alloc);
     let mut step = Step::Value(skip_blank(text));
-    'steps: loop {
-        step = match step {
-            Step::Value(rest) => begin(sink, &mut kinds, &mut content, rest, exponents)?,
-            Step::Key(rest) => read_key(sink, &kinds, &mut content, rest)?,
-            Step::After(rest) => go_on(sink, &mut kinds, rest)?,
-            Step::End => return Ok(()),
-        };
+    'values: while let Step::Value(rest) = step {
+        step = begin(sink, &mut kinds, &mut content, rest, exponents)?;
+        'after: while let Step::After(rest) = step {
+            step = go_on(sink, &mut kinds, &mut content, rest)?;
+        }
     }
+    Ok(())
 }

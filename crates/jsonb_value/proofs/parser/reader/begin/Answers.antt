@@ -1,11 +1,12 @@
-use Rattle.std.proofs.Common.{rules, sym, true, false, refl}
+use Rattle.std.proofs.Common.{sym, true, false, refl}
 use Rattle.jsonb_value.specs.Tree.{null, boolean}
 use Rattle.jsonb_value.specs.Reader.Gives.{Fails}
 use Rattle.jsonb_value.specs.declared.error.Error.TheVariants.{InvalidJson}
 use Rattle.jsonb_value.specs.Reader.Reading.{null_kind, true_kind, false_kind, string_kind}
 use Rattle.jsonb_value.specs.Reader.Reading.{number_kind}
-use Rattle.jsonb_value.proofs.Json.ValueSteps.{err_is, fails_if, of_kind, reads_kind}
-use Rattle.jsonb_value.proofs.Json.ReaderSteps.{at_nothing, scalar_is_read, scalar_fails}
+use Rattle.jsonb_value.proofs.Json.ValueSteps.{err_as, err_is, fails_if, of_kind}
+use Rattle.jsonb_value.proofs.Json.ValueSteps.{reads_kind}
+use Rattle.jsonb_value.proofs.Json.ReaderSteps.{at_no_ascii, scalar_is_read, scalar_fails}
 use Rattle.jsonb_value.proofs.Json.ReaderSteps.{past_scalar}
 use Rattle.jsonb_value.proofs.Json.ReaderSteps.{number_reads, number_fails, string_reads}
 use Rattle.jsonb_value.proofs.Json.ReaderSteps.{string_fails}
@@ -14,7 +15,7 @@ use Rattle.jsonb_value.proofs.parser.reader.begin.Goals as goal
 
 pub returns-in_default-clause-err : goal.returns-in_default-clause-err
 returns-in_default-clause-err g c = λ target h within.
-    at_nothing c.args.exponents g.S.Sink.is target _ _ _ h (search rules)
+    at_no_ascii c.args.exponents g.S.Sink.is target _ _ _ h c.in_default.ensures
 
 pub returns-in_err-after-in-Null-clause-err : goal.returns-in_err-after-in-Null-clause-err
 returns-in_err-after-in-Null-clause-err g c =
@@ -148,3 +149,7 @@ returns-in_ok-number-in-Number-clause-deep g c =
     scalar_within _ c.args.exponents _ _ _
     (reads_kind c.args.exponents _ _ _ number_kind _ _ c.in-Some.ensures c.in-Number.ensures (λ _ _.
     number_reads c.args.exponents _ _ _ _ _ c.in-Some.ensures (sym c.in-Some-read_number.ensures))) refl
+
+pub returns-in-Object-clause-err : goal.returns-in-Object-clause-err
+returns-in-Object-clause-err g c =
+    err_as c.begin_object.result _ _ c.begin_object.ensures.err (λ e fails. fails c.args.exponents)

@@ -7,25 +7,25 @@ use Rattle.jsonb_value.proofs.Json.Within.{key_within}
 use Rattle.jsonb_value.proofs.parser.reader.read_key.Goals as goal
 
 pub returns-in_default-clause-err : goal.returns-in_default-clause-err
-returns-in_default-clause-err g c = λ rule target h.
-    key_unquoted rule g.S.Sink.is target _ _ _ _ h c.skip_blank.ensures c.in_default.ensures
+returns-in_default-clause-err g c = λ rule target kinds h.
+    key_unquoted rule g.S.Sink.is target _ kinds _ _ h c.skip_blank.ensures c.in_default.ensures
 
 pub returns-in_err-after-clause-err : goal.returns-in_err-after-clause-err
 returns-in_err-after-clause-err g c =
-    err_is _ _ _ c.from_residual.ensures.1 (λ rule target h.
-    key_unread rule g.S.Sink.is target _ _ _ _ _ _ h c.skip_blank.ensures c.in-Some.ensures
+    err_is _ _ _ c.from_residual.ensures.1 (λ rule target kinds h.
+    key_unread rule g.S.Sink.is target _ kinds _ _ _ _ h c.skip_blank.ensures c.in-Some.ensures
     c.in_err-after.ensures.err)
 
 pub returns-in_default-after_char-clause-err : goal.returns-in_default-after_char-clause-err
-returns-in_default-after_char-clause-err g c = λ rule target h.
+returns-in_default-after_char-clause-err g c = λ rule target kinds h.
     let (key, (reads, adds)) = c.in_ok-after.ensures.ok in
-    key_uncoloned rule g.S.Sink.is target _ _ _ _ _ _ _ _ h c.skip_blank.ensures c.in-Some.ensures
-    reads c.skip_blank-2.ensures c.in_default-after_char.ensures
+    key_uncoloned rule g.S.Sink.is target _ kinds _ _ _ _ _ _ h c.skip_blank.ensures
+    c.in-Some.ensures reads c.skip_blank-2.ensures c.in_default-after_char.ensures
 
 pub returns-clause-ok : goal.returns-clause-ok
-returns-clause-ok g c = λ rule target h.
+returns-clause-ok g c = λ rule target kinds h.
     let (key, (reads, adds)) = c.in_ok-after.ensures.ok in
-    key_is_read rule g.S.Sink.is target _ _ _ _ _ _ _ _ _ _ _ h c.skip_blank.ensures
+    key_is_read rule g.S.Sink.is target _ _ kinds _ _ _ _ _ _ _ _ h c.skip_blank.ensures
     c.in-Some.ensures reads c.skip_blank-2.ensures c.in-Some-after_char.ensures
     c.skip_blank-3.ensures adds
 
@@ -38,11 +38,11 @@ returns-clause-shorter g c =
 pub give_key-requires : goal.give_key-requires
 give_key-requires g c κs = (
   (refl, tt),
-  holds_key _ g.S.Sink.is _ _ _ c.requires.1,
+  holds_key _ g.S.Sink.is _ c.requires.1.1.0 _ (c.requires.1.0, c.requires.1.1.1),
 )
 
 pub returns-clause-deep : goal.returns-clause-deep
-returns-clause-deep g c =
+returns-clause-deep g c = λ kinds.
     let (key, (reads, adds)) = c.in_ok-after.ensures.ok in
-    key_within _ _ _ _ _ _ _ _ _ c.skip_blank.ensures c.in-Some.ensures reads
+    key_within kinds _ _ _ _ _ _ _ _ c.skip_blank.ensures c.in-Some.ensures reads
     c.skip_blank-2.ensures c.in-Some-after_char.ensures c.skip_blank-3.ensures
