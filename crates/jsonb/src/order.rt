@@ -6,7 +6,7 @@ ghost use Rattle.jsonb.specs.Words.{IsTotalOrder, on, document, other_bytes, mea
 ghost use Rattle.jsonb.specs.Words.{Tree, tree_cmp, Doc, IsDocument, kind, rank_order, meaning_of};
 ghost use Rattle.jsonb.specs.Words.{view_meaning, item_meaning, ItemView, item_view};
 ghost use Rattle.jsonb.specs.Words.{node_tree, HoldsNoScalar, bytes_in, key_meaning};
-ghost use Rattle.jsonb.specs.Words.{as_partial_cmp, eq_by_cmp};
+ghost use Rattle.jsonb.specs.Words.{as_partial_cmp, eq_by_cmp, meaning_within};
 ghost use Rattle.jsonb.specs.KeyOrder.{key_cmp, key_partial_cmp, key_eq};
 
 mod document;
@@ -69,6 +69,19 @@ pub fn key_order_laws()
 pub fn cmp_bytes(left: &[u8], right: &[u8]) -> Ordering
     ensures { result ≡ meaning_cmp (meaning_of left.now) (meaning_of right.now) }
 {
+    // Bytes do not nest deeper than they are many.
+    let depth = left.len().max(right.len());
+    cmp_within(left, right, depth)
+}
+
+/// Compares two byte strings by their meaning to a caller that accepts only documents of at most
+/// this depth: these compare by their values and are less than all other bytes, which compare as
+/// bytes. So a document that nests deeper compares by its bytes. A scalar has depth 0, an empty
+/// array or object 1, any other array or object one more than its deepest child.
+pub fn cmp_within(left: &[u8], right: &[u8], depth: usize) -> Ordering
+    ensures { result ≡ meaning_cmp (meaning_within depth left.now)
+        (meaning_within depth right.now) }
+{
     // Strings are compared most often, and two words suffice to recognize them.
     if let (Some(left), Some(right)) = (document_text(left), document_text(right)) {
         return left.cmp(right);
@@ -77,7 +90,7 @@ pub fn cmp_bytes(left: &[u8], right: &[u8]) -> Ordering
     if left.len() > QUICK_TO_CHECK && left == right {
         return Ordering::Equal;
     }
-    SortKey::new(left).cmp(&SortKey::new(right))
+    SortKey::within(left, depth).cmp(&SortKey::within(right, depth))
 }
 
 /// Compares two items by their meaning.
