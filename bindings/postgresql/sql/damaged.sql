@@ -35,6 +35,8 @@ SELECT bad_ends($$ kohiblad_at(d, '["a",3,"k"]') $$),
     bad_ends($$ kohiblad_at('[[1]]', d) $$, '22023');
 SELECT bad_ends('(SELECT count(*) FROM kohiblad_each(d))'), bad_ends('kohiblad_hash(d)');
 SELECT bad_ends('kohiblad_agg(d)'), bad_ends('d::bytea');
+SELECT bad_ends($$ kohiblad_survey(d, '["a",1]') $$),
+    bad_ends($$ kohiblad_survey('[[1]]', d) $$, '22023');
 SELECT bad_ends('d::json'), bad_ends('d::jsonb');
 SELECT bad_ends('d::numeric', '22023'), bad_ends('d::bool', '22023');
 SELECT bad_ends('(SELECT sum(kohiblad_cmp(d, e.d)) FROM (SELECT d FROM damaged LIMIT 50) e)');

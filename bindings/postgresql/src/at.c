@@ -18,11 +18,6 @@
 /* A constant of more bytes is left to -> and #>. */
 #define LONGEST_PATH 65536
 
-static void pg_attribute_noreturn() refuse_path(void) {
-    ereport(ERROR, (errcode(ERRCODE_INVALID_PARAMETER_VALUE),
-                    errmsg("kohiblad: a path is a text, a whole number, or an array of these")));
-}
-
 static int64 index_of_number(Part number) {
     uint8_t room[NUMBER_ROOM];
     if (room_of_part(number) > sizeof room) refuse_path();

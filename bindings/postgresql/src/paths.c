@@ -133,3 +133,8 @@ bool follow_path(Bytes document, TextPath path, PathEnd *end) {
         end->container = child;
     }
 }
+
+void refuse_path(void) {
+    ereport(ERROR, (errcode(ERRCODE_INVALID_PARAMETER_VALUE),
+                    errmsg("kohiblad: a path is a text, a whole number, or an array of these")));
+}

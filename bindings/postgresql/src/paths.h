@@ -51,6 +51,9 @@ extern bool follow_path(Bytes document, TextPath path, PathEnd *end);
 /* Whether an array of so many items has one at an index; a negative one counts from the end. */
 extern bool has_index(int64 count, int64 index);
 
+/* Raises the error of a document that is no path. */
+extern void refuse_path(void) pg_attribute_noreturn();
+
 /* Whether the next element of a path leads somewhere from its end. */
 extern bool is_end_there(const PathEnd *end);
 

@@ -33,6 +33,11 @@ void free_rows(Rows *rows) {
     pfree(rows);
 }
 
+void empty_rows(Rows *rows) {
+    resetStringInfo(&rows->bytes);
+    rows->count = 0;
+}
+
 /* Ends the row whose bytes were appended. */
 static void end_row(Rows *rows) {
     if (rows->count + 1 == rows->room) {

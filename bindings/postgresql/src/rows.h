@@ -19,6 +19,9 @@ typedef struct Rows {
 extern Rows *new_rows(void);
 extern void free_rows(Rows *rows);
 
+/* Takes all rows out, and keeps their memory for others. */
+extern void empty_rows(Rows *rows);
+
 extern void add_row(Rows *rows, Bytes row);
 extern void add_rows(Rows *rows, const Rows *more);
 extern void add_part(Rows *rows, Part part);
