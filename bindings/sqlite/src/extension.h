@@ -243,5 +243,6 @@ int register_builders(sqlite3 *database);   /* builders.c */
 int register_edits(sqlite3 *database);      /* edits.c */
 int register_aggregates(sqlite3 *database); /* aggregates.c */
 int register_each(sqlite3 *database);       /* each.c */
+int register_survey(sqlite3 *database);     /* survey.c */
 
 #endif

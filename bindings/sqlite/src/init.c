@@ -14,5 +14,6 @@ int sqlite3_kohiblad_init(sqlite3 *database, char **message, const sqlite3_api_r
     if (code == SQLITE_OK) code = register_edits(database);
     if (code == SQLITE_OK) code = register_aggregates(database);
     if (code == SQLITE_OK) code = register_each(database);
+    if (code == SQLITE_OK) code = register_survey(database);
     return code;
 }

@@ -120,6 +120,8 @@ def statement():
         "SELECT jb_text(jb_group_object(key, document) OVER (ROWS %s)) FROM jb_each(%s)"
         % (frame, doc),
         "SELECT jb_text(jb_group_object(fullkey, document)) FROM %s(%s)" % (table, doc),
+        "SELECT jb_text(jb_survey(document, %s)) FROM %s(%s)" % (at, table, doc),
+        "SELECT jb_text(jb_survey(%s, fullkey)) FROM jb_tree(%s)" % (other, doc),
         "SELECT t.key, e.key FROM jb_tree(%s) t, jb_each(t.document) e WHERE e.key = %s"
         % (doc, name),
     ])
@@ -149,6 +151,8 @@ def long_statement():
         "SELECT length(jb_pretty(x)), length(jb_text(x)), length(jb_key(x)) FROM a",
         "SELECT sum(length(jb_group_array(i) OVER (ROWS 50 PRECEDING))) FROM n",
         "SELECT length(jb_group_object('k' || i, %s)) FROM n" % item,
+        "SELECT jb_text(jb_survey(x, '$[' || i || ']')) FROM a, n",
+        "SELECT jb_text(jb_survey(jb_array(i, %s), '$[1]')) FROM n" % item,
         "SELECT length(jb_pretty(jb(%s))), length(jb_patch(jb(%s), x)) FROM a" % (deep, deep),
         "SELECT sum(jb_compare(x, y) + jb_compare(jb_text(x), x)) FROM a, n WHERE n.i < 50",
         "SELECT jb_valid(jb_concat(x, y)), jb_exists(x, 'a'), jb_exists(y, 'a') FROM a",

@@ -129,6 +129,12 @@ static const struct { const char *sql, *answer; } statements[] = {
       " FROM json_each('[1,\"x\",[2],null]')", "[\"x\",\"[2]\"]" },
     { "SELECT jb_text(jb_group_object('k' || key, value) OVER (ROWS 1 PRECEDING))"
       " FROM json_each('[1,\"x\",[2],null]') LIMIT 1 OFFSET 3", "{\"k2\":\"[2]\",\"k3\":null}" },
+    { "SELECT jb_text(jb_survey(jb_of(value), '$')) FROM json_each('[1,\"xy\",null]')",
+      "{\"digits\":1,\"length\":2,\"null\":1,\"rows\":3,\"scales\":[0,0],\"text\":1,"
+      "\"type\":\"mixed\",\"uint64\":1}" },
+    { "SELECT jb_value(jb_survey(jb('9223372036854775808'), '$[' || key || ']'), '$.absent')"
+      " FROM json_each('[1,2]')", "2" },
+    { "SELECT jb_value(jb_survey(jb('9223372036854775808'), '$'), '$.type')", "uint64" },
     { "SELECT jb_contains(jb('{\"a\":[1,2]}'), '{\"a\":[2]}')", "1" },
     { "SELECT jb_exists(jb('{\"a\":1}'), 'a')", "1" },
     { "SELECT jb_exists_any(jb('{\"a\":1}'), '[\"b\",\"a\"]')", "1" },
