@@ -1,5 +1,6 @@
 """The program `python -m kohiblad`."""
 import os
+import shutil
 import subprocess
 import sys
 import tempfile
@@ -20,9 +21,11 @@ def stored(*texts):
     return b"".join(len(it).to_bytes(8, "big") + it for it in documents)
 
 
-def run(*arguments, given=b""):
-    """The status of the program, its output and its messages."""
+def run(*arguments, given=b"", path=None):
+    """The status of the program, its output and its messages; `path` is where it looks for others.
+    """
     done = subprocess.run([sys.executable, "-m", "kohiblad", *arguments], input=given,
+                          env=dict(os.environ, **({} if path is None else {"PATH": path})),
                           stdout=subprocess.PIPE, stderr=subprocess.PIPE)
     return done.returncode, done.stdout, done.stderr.decode()
 
@@ -289,6 +292,57 @@ class CommandTest(unittest.TestCase):
         self.assertEqual(program.stderr.read(), b"")
         program.stderr.close()
         self.assertEqual(program.wait(), 1)
+
+    def program_path(self):
+        """A PATH with a script of the name of the program, and then a program that prints what it
+        is given."""
+        script, binary = self.path("script"), self.path("binary")
+        for folder in (script, binary):
+            os.mkdir(folder)
+        with open(os.path.join(script, "kohiblad"), "w") as file:
+            file.write("#!/bin/sh\necho the script\n")
+        os.chmod(os.path.join(script, "kohiblad"), 0o755)
+        shutil.copy(shutil.which("echo"), os.path.join(binary, "kohiblad"))
+        return os.pathsep.join([self.folder, script, binary])
+
+    def test_what_is_not_here_goes_to_the_program(self):
+        path = self.program_path()
+        for words in (["filter", "$.a", "rows.ndjson"], ["decode", "--pretty", "rows.docs"],
+                      ["sort", "--by", "$.town", "rows.ndjson"], ["encode", "one", "two"],
+                      ["get", "-r", "$.who"], ["filter", "--help"], ["no-such-command"]):
+            self.assertEqual(run(*words, path=path), (0, " ".join(words).encode() + b"\n", ""))
+        self.assertEqual(run("--", "merge", "{}", "a", path=path), (0, b"merge {} a\n", ""))
+        self.assertEqual(run("--", "get", "--", "-r", path=path), (0, b"get -- -r\n", ""))
+        self.assertEqual(run("--", path=path), (0, b"\n", ""))
+
+    def test_what_is_here_does_not_go_to_the_program(self):
+        path = self.program_path()
+        self.assertEqual(run("encode", given=b"1", path=path), (0, stored("1"), ""))
+        self.assertEqual(run("get", "a", given=stored('{"a":2}'), path=path), (0, b"2\n", ""))
+        self.assertEqual(run("--version", path=path)[0], 0)
+        for words in ([], ["get"], ["--no-such-option"], ["sort", "--memory", "much"]):
+            status, output, message = run(*words, path=path)
+            self.assertEqual((status, output), (2, b""), words)
+            self.assertIn("usage: ", message)
+
+    def test_without_the_program(self):
+        for words, what in ((["filter", "$.a"], "the command filter"),
+                            (["decode", "--pretty"], "--pretty of decode"),
+                            (["--", "merge"], "what comes after --")):
+            self.assertEqual(
+                run(*words, path=self.folder),
+                (2, b"", f"kohiblad: {what} is for the program kohiblad, which is not on PATH: "
+                         "install Debian's package kohiblad, or put bin/kohiblad of a release "
+                         "there\n"))
+
+    def test_a_program_that_does_not_run(self):
+        with open(self.path("kohiblad"), "wb") as file:
+            file.write(b"\x7fELF of another machine")
+        self.assertEqual(run("filter", path=self.folder)[2].count("not on PATH"), 1)
+        os.chmod(self.path("kohiblad"), 0o755)
+        status, output, message = run("filter", path=self.folder)
+        self.assertEqual((status, output), (1, b""))
+        self.assertIn("Exec format error", message)
 
     def test_help_and_version(self):
         status, output, _ = run("--help")

@@ -17,6 +17,7 @@ from ._files import documents_of_lines, rest_of, stored, stored_documents, targe
 from ._key_lines import add_key_options, add_range_options, key_line, key_row, range_lines
 from ._member_lines import (MemberError, add_extract_options, add_survey_options, csv_lines,
                             extracted, is_numpy, survey_lines, unfit_lines, write_numpy)
+from ._program import hand_over
 from ._show import lines_of, page_of
 from .arrow import Column
 
@@ -25,6 +26,10 @@ Converts files of JSON lines (NDJSON) to files of binary documents and back, sor
 documents, prints one member of each or the key of some, takes members as columns of one type, and
 shows the bytes of one. A file of documents has each document after its length: eight bytes, the
 most significant first. Two such files joined are a file of both."""
+
+_OTHERS = """\
+Commands and options that are not here are those of the program kohiblad for the shell: if it is on
+PATH, it is run with the same arguments. What comes after -- always goes to it, as in `-- merge`."""
 
 _SHOW = """\
 Prints one document as a tree beside its bytes. Each line has an entry word, the bytes that belong
@@ -160,7 +165,7 @@ def _parser() -> argparse.ArgumentParser:
     program = os.path.basename(sys.argv[0])
     parser = argparse.ArgumentParser(
         prog="python -m kohiblad" if program == "__main__.py" else program,
-        description=_DESCRIPTION)
+        description=_DESCRIPTION, epilog=_OTHERS)
     parser.add_argument("--version", action="version", version=f"kohiblad {__version__}")
     commands = parser.add_subparsers(dest="command", metavar="COMMAND")
     commands.required = True
@@ -411,20 +416,27 @@ def _write_members(options: argparse.Namespace) -> None:
         target.flush()
 
 
+def _commands(parser: argparse.ArgumentParser) -> List[str]:
+    return [name for action in parser._actions if isinstance(action, argparse._SubParsersAction)
+            for name in action.choices]
+
+
+def _options(words: List[str]) -> Tuple[argparse.Namespace, List[str], str]:
+    """What the arguments say; those that are for the program for the shell, and what it is for
+    which it is needed."""
+    parser = _parser()
+    if words[:1] == ["--"]:
+        return argparse.Namespace(), words[1:], "what comes after --"
+    if words and not words[0].startswith("-") and words[0] not in _commands(parser):
+        return argparse.Namespace(), words, f"the command {words[0]}"
+    options, others = parser.parse_known_args(words)
+    return options, words if others else [], f"{others[0]} of {words[0]}" if others else ""
+
+
 def main(arguments: Optional[List[str]] = None) -> int:
-    options = _parser().parse_args(arguments)
-    if options.command == "range":
-        sys.stdout.buffer.write(range_lines(options.low, options.high))
-        return 0
-    if options.command != "merge":
-        options.inputs = [options.input]
+    options, for_program, what = _options(sys.argv[1:] if arguments is None else arguments)
     try:
-        if options.command == "show":
-            _show(options)
-        elif options.command in ("survey", "extract"):
-            _write_members(options)
-        else:
-            _convert(options)
+        return hand_over(for_program, what) if what else _answer(options)
     except BrokenPipeError:
         # Nobody reads on, as after `| head`. Python would fail once more at its end.
         os.dup2(os.open(os.devnull, os.O_WRONLY), sys.stdout.fileno())
@@ -434,6 +446,20 @@ def main(arguments: Optional[List[str]] = None) -> int:
         return 1
     except KeyboardInterrupt:
         return 130
+
+
+def _answer(options: argparse.Namespace) -> int:
+    if options.command == "range":
+        sys.stdout.buffer.write(range_lines(options.low, options.high))
+        return 0
+    if options.command != "merge":
+        options.inputs = [options.input]
+    if options.command == "show":
+        _show(options)
+    elif options.command in ("survey", "extract"):
+        _write_members(options)
+    else:
+        _convert(options)
     return 0
 
 
