@@ -1,28 +1,34 @@
 #!/usr/bin/env bash
 # Times the extension beside jsonb on 100,000 rows, and prints the table of README.md.
 #
-#     bindings/postgresql/bench.sh [ROUNDS]
+#     bindings/postgresql/bench.sh [ROUNDS [NAME]]
 #
-# Each time is what \timing of psql reports: the least of ROUNDS (5) rounds, in which both types
-# take turns, so that other work on the machine matters little. tests/server.sh has the settings
-# that are needed.
+# Each time is the processor's, as log_statement_stats of the server says it: the least of ROUNDS
+# (5) rounds, in which both types take turns, so that other work on the machine matters little. With
+# NAME it measures the rows of the table alone in whose names this is. tests/server.sh has the
+# settings that are needed.
 set -euo pipefail
 folder=$(cd "$(dirname "$0")" && pwd)
 . "$folder/tests/server.sh"
 rounds=${1:-5}
+name_part=${2:-}
 rows=100000
 open_server shared_buffers=512MB work_mem=256MB maintenance_work_mem=256MB jit=off \
     max_parallel_workers_per_gather=0 max_parallel_maintenance_workers=0 autovacuum=off >&2
 
-# The milliseconds of a command.
-milliseconds() { psql -At -c '\timing on' -c "$1" | sed -n 's/^Time: \([0-9.]*\) ms.*/\1/p'; }
+# The milliseconds of a command: those of the processor, in its own process.
+milliseconds() {
+    psql -At -c 'SET client_min_messages = log' -c 'SET log_statement_stats = on' -c "$1" 2>&1 |
+        awk '/^!.* s user, .* s system/ { print 1000 * ($2 + $5); exit }'
+}
 
-least() { sort -n | awk 'NR == 1 { printf "%.0f", $1 }'; }
+least() { sort -n | awk 'NR == 1 { printf($1 < 10 ? "%.1f" : "%.0f", $1) }'; }
 
 # One line of the table, of what a command takes, and a command after it that is not timed. TYPE in
 # them and in the name becomes the name of each type. jsonb has a command of its own if it is given.
 measure() {
     local name=$1 command=$2 after=${3:-} command_of_jsonb=${4:-$2} type round asked
+    [[ $name = *"$name_part"* ]] || return 0
     : > "$scratch/jsonb.times"
     : > "$scratch/kohiblad.times"
     for ((round = 0; round < rounds; round++)); do
@@ -102,4 +108,18 @@ for type in jsonb kohiblad; do
 done
 measure "\`count(*)\` of 7,692 rows with a tag, by GIN" \
     "SELECT count(*) FROM in_TYPE WHERE doc @> '{\"tags\": [\"t3\"]}'"
+measure "\`TYPE_survey(doc, '\"price\"')\`" "SELECT TYPE_survey(doc, '\"price\"') FROM in_TYPE" '' \
+    "SELECT jsonb_typeof(doc -> 'price'), count(*) FROM in_jsonb GROUP BY 1"
+measure "\`sum((doc -> 'price')::numeric)\`" "SELECT sum((doc -> 'price')::numeric) FROM in_TYPE"
+measure "\`(doc -> 'price')::numeric < 10\`" "$(in_all "(doc -> 'price')::numeric < 10")"
+for type in jsonb kohiblad; do
+    psql << SQL
+ALTER TABLE in_$type
+    ADD price numeric(5, 2) GENERATED ALWAYS AS ((doc -> 'price')::numeric) STORED;
+CREATE INDEX ON in_$type (price);
+VACUUM ANALYZE in_$type;
+SQL
+done
+measure '`sum(price)` of a generated column' 'SELECT sum(price) FROM in_TYPE'
+measure '`price < 10`, by its index' 'SELECT sum(price) FROM in_TYPE WHERE price < 10'
 echo "| bytes a row | $sizes |"

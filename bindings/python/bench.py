@@ -1,9 +1,10 @@
 """Prints README's table of times: kohiblad, with and without its extension module, and json.
 
-    python3 bench.py
+    python3 bench.py [NAME]
 
 Each time is the processor's, the median of 21 rounds in which all rows and columns of the table
-take turns. json reads decimals as Decimal, and writes them as floats.
+take turns. With NAME it measures the rows alone in whose names this is. json reads decimals as
+Decimal, and writes them as floats.
 """
 import json
 import os
@@ -137,9 +138,13 @@ def times_of(measured, which):
             for name, times, *programs in measured if programs[which]}
 
 
-def answer_rounds():
+def cases_named(part):
+    return [it for it in cases() if part in it[0]]
+
+
+def answer_rounds(part):
     """Measures the package each time that a line is read."""
-    measured = cases()
+    measured = cases_named(part)
     for _ in sys.stdin:
         print(json.dumps(times_of(measured, 0)), flush=True)
 
@@ -147,10 +152,10 @@ def answer_rounds():
 class Way:
     """A process that measures the package with the extension module, or without it."""
 
-    def __init__(self, wish):
+    def __init__(self, wish, part):
         self._process = subprocess.Popen(
-            [sys.executable, __file__, "--answer"], stdin=subprocess.PIPE, stdout=subprocess.PIPE,
-            env=dict(os.environ, KOHIBLAD_NATIVE=wish), text=True)
+            [sys.executable, __file__, part, "--answer"], stdin=subprocess.PIPE,
+            stdout=subprocess.PIPE, env=dict(os.environ, KOHIBLAD_NATIVE=wish), text=True)
 
     def times(self):
         self._process.stdin.write("\n")
@@ -162,8 +167,8 @@ class Way:
         self._process.wait()
 
 
-def main():
-    module, by_ctypes, measured = Way("1"), Way("0"), cases()
+def main(part):
+    module, by_ctypes, measured = Way("1", part), Way("0", part), cases_named(part)
     rounds = [(module.times(), by_ctypes.times(), times_of(measured, 1)) for _ in range(ROUNDS)]
     module.end()
     by_ctypes.end()
@@ -174,4 +179,5 @@ def main():
 
 
 if __name__ == "__main__":
-    answer_rounds() if "--answer" in sys.argv else main()
+    name_part = sys.argv[1] if len(sys.argv) > 1 else ""
+    answer_rounds(name_part) if "--answer" in sys.argv else main(name_part)

@@ -2,8 +2,13 @@
 # Times the extension beside SQLite's own JSON functions over text, on 100,000 rows in memory, and
 # prints the table of README.md: the median of 9 rounds in which both take turns, in milliseconds of
 # processor time. Finds the library as test.sh does.
+#
+#     bindings/sqlite/bench/run.sh [NAME]
+#
+# With NAME it measures the rows of the table alone in whose names this is.
 set -eu
 cd "$(dirname "$0")/.."
+name_part=${1:-}
 rounds=9
 scratch=$(mktemp -d)
 trap 'rm -rf "$scratch"' EXIT
@@ -13,6 +18,12 @@ make -s OUT="$scratch"
 
 # bench/statements has three lines for each row of the table: its name, the statement over text, and
 # the statement over documents. What it makes is dropped again.
+awk -v part="$name_part" 'NR % 3 == 1 { on = index($0, part) || part == "" } on' \
+    bench/statements > "$scratch/statements"
+if [ ! -s "$scratch/statements" ]; then
+    echo "no row of the table has $name_part in its name" >&2
+    exit 2
+fi
 {
     echo ".load $scratch/kohiblad"
     echo '.read bench/rows.sql'
@@ -25,7 +36,7 @@ make -s OUT="$scratch"
                     index*) echo 'DROP INDEX i;' ;;
                 esac
             done
-        done < bench/statements
+        done < "$scratch/statements"
     done
 } > "$scratch/all.sql"
 sqlite3 -batch :memory: < "$scratch/all.sql" > "$scratch/printed"
@@ -57,6 +68,7 @@ awk -v rounds="$rounds" '
         for (row = 0; row < rows; row++) {
             text = median(0, row)
             documents = median(1, row)
-            printf "| %s | %.0f | %.0f | %.2f |\n", name[row], text, documents, documents / text
+            form = text < 1 ? "| %s | %.2f | %.2f | %.2f |\n" : "| %s | %.0f | %.0f | %.2f |\n"
+            printf form, name[row], text, documents, documents / text
         }
-    }' bench/statements "$scratch/printed"
+    }' "$scratch/statements" "$scratch/printed"
