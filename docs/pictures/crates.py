@@ -10,7 +10,7 @@ PLACES = {
     "typed_vector": (3.1, 4, "green"), "jsonb_functions": (4.4, 4, "green"),
     "json_fault": (5.5, 4, "green"), "kohiblad_shell": (0.5, 5, "blue"),
     "jsonb_rows": (2.55, 5, "plain"), "jsonb_typed": (3.6, 5, "green"),
-    "jsonb_calls": (4.7, 5, "plain"), "jsonb_column_cli": (1.5, 6, "blue"),
+    "tests_of_calls": (4.7, 5, "plain"), "jsonb_column_cli": (1.5, 6, "blue"),
     "kohiblad": (5, 6, "violet"),
 }
 KINDS = [("green", "library"), ("blue", "program"), ("violet", "library for C"),

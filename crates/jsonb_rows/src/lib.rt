@@ -1,5 +1,5 @@
 //! Tests over the known documents, laws over pairs and triples of documents, and what remains after
-//! a failed allocation. The tests of single calls are in `jsonb_calls`, those by lines in
+//! a failed allocation. The tests of single calls are in `tests_of_calls`, those by lines in
 //! `tests/lines`.
 //!
 //! Proving a test costs more than in proportion to its body, for each call that can fail and each
