@@ -9,8 +9,6 @@ mod place;
 mod select;
 mod sorted;
 mod storage;
-#[cfg(test)]
-mod tests;
 mod zone;
 mod zone_map;
 

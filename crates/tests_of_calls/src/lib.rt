@@ -36,3 +36,5 @@ mod readers;
 mod sets;
 #[cfg(test)]
 mod texts;
+#[cfg(test)]
+mod zones;

@@ -1,7 +1,6 @@
-// Zone maps with ample memory. tools/refuse_each runs each test with each of its allocations
-// failing in turn.
-use crate::{Column, Zones};
+// Zone maps of a column of seven rows.
 use jsonb::{Document, Error, Reads};
+use jsonb_column::{Column, Zones};
 use std::alloc::Global;
 use std::ops::Bound;
 use std::test::Fail;
