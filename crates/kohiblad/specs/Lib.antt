@@ -8,6 +8,7 @@ pub mod SortOrder
 pub mod KindAnswer
 pub mod NamedPaths
 pub mod Output
+pub mod OverRows
 pub mod EntryTexts
 pub mod Children
 pub mod Scalars

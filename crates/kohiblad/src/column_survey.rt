@@ -1,17 +1,17 @@
 //! What the members of rows are, counted.
 
 ghost use Rattle.std.specs.Prelude.{◌≡◌, List, map};
-ghost use Rattle.jsonb_value.specs.Meaning.{Meaning};
 ghost use Rattle.jsonb_typed.specs.Words.{rest_cell, survey_of, with_cell};
-ghost use Rattle.kohiblad.specs.ColumnSurvey.{AreRowsSurveyed, IsPathSurveyed, greatest_scale};
+ghost use Rattle.kohiblad.specs.ColumnSurvey.{AreRowsSurveyed, greatest_scale};
 ghost use Rattle.kohiblad.specs.ColumnSurvey.{least_scale, no_survey, survey_answer};
 ghost use Rattle.kohiblad.specs.RowCells.{row_cell};
-ghost use Rattle.kohiblad.specs.Words.{document_tree, meaning_within};
+ghost use Rattle.kohiblad.specs.Words.{meaning_within};
 
-use crate::answer::{OK, OTHER_KIND, code};
+use crate::answer::{OK, code};
+use crate::row_paths::steps_of;
 use crate::rows::Rows;
-use jsonb::{Document, Error, SortKey};
-use jsonb_functions::{Step, read_path};
+use jsonb::{Error, SortKey};
+use jsonb_functions::Step;
 use jsonb_typed::{Scales, Survey, member_of};
 use std::alloc::Global;
 
@@ -69,20 +69,9 @@ pub extern "C" fn kohiblad_survey(
     let Ok(rows) = Rows::new(bytes, offsets) else {
         return no_survey(code(Error::InvalidEOF));
     };
-    match SortKey::within(path, depth) {
-        SortKey::Document(path) => survey_at(alloc, rows, path, depth),
-        SortKey::Other(_) => no_survey(code(Error::InvalidJsonb)),
-    }
-}
-
-// The survey at the end of the path that a document gives, as C receives it.
-fn survey_at(alloc: Global, rows: Rows<'_>, path: Document<'_>, depth: usize) -> KohibladSurvey
-    ensures { IsPathSurveyed depth rows.entry (Meaning.document (document_tree path.entry)) result }
-{
-    match read_path(alloc, path) {
-        Ok(Some(steps)) => survey_answer(survey_of(rows, &steps, depth)),
-        Ok(None) => no_survey(OTHER_KIND),
-        Err(error) => no_survey(code(error)),
+    match steps_of(alloc, path, depth) {
+        Ok(steps) => survey_answer(survey_of(rows, &steps, depth)),
+        Err(status) => no_survey(status),
     }
 }
 

@@ -25,6 +25,7 @@ mod path_places;
 mod paths;
 mod picking;
 mod places;
+mod row_paths;
 mod rows;
 mod scalar;
 mod sort;
