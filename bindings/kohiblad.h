@@ -752,9 +752,9 @@ static inline struct kohiblad_survey_counts kohiblad_survey(const uint8_t *bytes
  * the document of a path, as kohiblad_get_path takes it. The answer counts the rows of states 3 and
  * 4, and names the first of them, or their number if there is none. INVALID_EOF if an offset is
  * below the previous one or beyond the bytes; then INVALID_JSONB if the path is not a document of
- * at most this depth; then NO_ROOM if `values` or `states` has fewer places than there are rows;
- * OTHER_KIND if the path is not an array of texts and whole numbers of 64 bits; OUT_OF_MEMORY if an
- * allocation fails, which only the path makes. If the status is not OK, `values` and `states` are
+ * at most this depth; OTHER_KIND if it is not an array of texts and whole numbers of 64 bits;
+ * OUT_OF_MEMORY if an allocation fails, which only the path makes; then NO_ROOM if `values` or
+ * `states` has fewer places than there are rows. If the status is not OK, `values` and `states` are
  * unchanged, and the counts are 0. */
 static inline struct kohiblad_taken kohiblad_take_int64(const uint8_t *bytes, size_t size,
     const size_t *offsets, size_t count, const uint8_t *path, size_t path_size, size_t depth,
@@ -803,6 +803,47 @@ static inline struct kohiblad_taken kohiblad_take_text(const uint8_t *bytes, siz
     const size_t *offsets, size_t count, const uint8_t *path, size_t path_size, size_t depth,
     uint8_t *out, size_t room, size_t *length, size_t *text_offsets, size_t offsets_room,
     uint8_t *states, size_t states_room) KOHIBLAD_INLINE("kohiblad_take_text");
+
+/* Takes the members of rows at the end of a path as whole numbers of 64 bits with a sign, without
+ * checking the rows, which takes most of the time of kohiblad_take_int64. Of each row that is a
+ * document, of any depth, or has no bytes, value and state are as that call has them. Any other
+ * bytes do no harm: nothing beyond the row is read, and its state is one of the five, with the
+ * value 0 unless it is 1; so rows from outside are checked once, by kohiblad_check or by the state
+ * 4 of a call that checks them. The depth is that of the path. All else is as kohiblad_take_int64
+ * has it. */
+static inline struct kohiblad_taken kohiblad_take_int64_unchecked(const uint8_t *bytes, size_t size,
+    const size_t *offsets, size_t count, const uint8_t *path, size_t path_size, size_t depth,
+    uint32_t fit, int64_t *values, size_t room, uint8_t *states, size_t states_room)
+    KOHIBLAD_INLINE("kohiblad_take_int64_unchecked");
+
+/* Takes the members of rows at the end of a path as whole numbers of 64 bits without a sign,
+ * without checking the rows. All else is as kohiblad_take_int64_unchecked has it. */
+static inline struct kohiblad_taken kohiblad_take_uint64_unchecked(const uint8_t *bytes,
+    size_t size, const size_t *offsets, size_t count, const uint8_t *path, size_t path_size,
+    size_t depth, uint32_t fit, uint64_t *values, size_t room, uint8_t *states, size_t states_room)
+    KOHIBLAD_INLINE("kohiblad_take_uint64_unchecked");
+
+/* Takes the members of rows at the end of a path as decimals, as kohiblad_take_decimal has them,
+ * without checking the rows. All else is as kohiblad_take_int64_unchecked has it. */
+static inline struct kohiblad_taken kohiblad_take_decimal_unchecked(const uint8_t *bytes,
+    size_t size, const size_t *offsets, size_t count, const uint8_t *path, size_t path_size,
+    size_t depth, uint32_t fit, uint32_t scale, struct kohiblad_int128 *values, size_t room,
+    uint8_t *states, size_t states_room) KOHIBLAD_INLINE("kohiblad_take_decimal_unchecked");
+
+/* Takes the members of rows at the end of a path as truth values, 0 or 1, without checking the
+ * rows. All else is as kohiblad_take_int64_unchecked has it. */
+static inline struct kohiblad_taken kohiblad_take_boolean_unchecked(const uint8_t *bytes,
+    size_t size, const size_t *offsets, size_t count, const uint8_t *path, size_t path_size,
+    size_t depth, uint8_t *values, size_t room, uint8_t *states, size_t states_room)
+    KOHIBLAD_INLINE("kohiblad_take_boolean_unchecked");
+
+/* Takes the members of rows at the end of a path as texts, without checking the rows. What holds of
+ * them and of the depth is as kohiblad_take_int64_unchecked has it, and a text is UTF-8. All else
+ * is as kohiblad_take_text has it. */
+static inline struct kohiblad_taken kohiblad_take_text_unchecked(const uint8_t *bytes, size_t size,
+    const size_t *offsets, size_t count, const uint8_t *path, size_t path_size, size_t depth,
+    uint8_t *out, size_t room, size_t *length, size_t *text_offsets, size_t offsets_room,
+    uint8_t *states, size_t states_room) KOHIBLAD_INLINE("kohiblad_take_text_unchecked");
 
 /* Whether the document `left` contains `right`, as 0 or 1. An object contains the objects whose
  * keys it has, with values that contain those; an array contains the arrays for each of whose items
@@ -1139,6 +1180,26 @@ struct kohiblad_taken kohiblad_export_take_text(const uint8_t *bytes, size_t siz
     const size_t *offsets, size_t count, const uint8_t *path, size_t path_size, size_t depth,
     uint8_t *out, size_t room, size_t *length, size_t *text_offsets, size_t offsets_room,
     uint8_t *states, size_t states_room) KOHIBLAD_EXPORT("kohiblad_take_text");
+struct kohiblad_taken kohiblad_export_take_int64_unchecked(const uint8_t *bytes, size_t size,
+    const size_t *offsets, size_t count, const uint8_t *path, size_t path_size, size_t depth,
+    uint32_t fit, int64_t *values, size_t room, uint8_t *states, size_t states_room)
+    KOHIBLAD_EXPORT("kohiblad_take_int64_unchecked");
+struct kohiblad_taken kohiblad_export_take_uint64_unchecked(const uint8_t *bytes, size_t size,
+    const size_t *offsets, size_t count, const uint8_t *path, size_t path_size, size_t depth,
+    uint32_t fit, uint64_t *values, size_t room, uint8_t *states, size_t states_room)
+    KOHIBLAD_EXPORT("kohiblad_take_uint64_unchecked");
+struct kohiblad_taken kohiblad_export_take_decimal_unchecked(const uint8_t *bytes, size_t size,
+    const size_t *offsets, size_t count, const uint8_t *path, size_t path_size, size_t depth,
+    uint32_t fit, uint32_t scale, struct kohiblad_int128 *values, size_t room, uint8_t *states,
+    size_t states_room) KOHIBLAD_EXPORT("kohiblad_take_decimal_unchecked");
+struct kohiblad_taken kohiblad_export_take_boolean_unchecked(const uint8_t *bytes, size_t size,
+    const size_t *offsets, size_t count, const uint8_t *path, size_t path_size, size_t depth,
+    uint8_t *values, size_t room, uint8_t *states, size_t states_room)
+    KOHIBLAD_EXPORT("kohiblad_take_boolean_unchecked");
+struct kohiblad_taken kohiblad_export_take_text_unchecked(const uint8_t *bytes, size_t size,
+    const size_t *offsets, size_t count, const uint8_t *path, size_t path_size, size_t depth,
+    uint8_t *out, size_t room, size_t *length, size_t *text_offsets, size_t offsets_room,
+    uint8_t *states, size_t states_room) KOHIBLAD_EXPORT("kohiblad_take_text_unchecked");
 struct kohiblad_truth kohiblad_export_contains(const uint8_t *left, size_t left_size,
     const uint8_t *right, size_t right_size, size_t depth, size_t steps)
     KOHIBLAD_EXPORT("kohiblad_contains");
@@ -1582,6 +1643,82 @@ static inline struct kohiblad_taken kohiblad_take_text(const uint8_t *bytes, siz
     return kohiblad_export_take_text(kohiblad_in(bytes), size, kohiblad_offsets_in(offsets), count,
         kohiblad_in(path), path_size, depth, kohiblad_out(out), room, length,
         kohiblad_order_out(text_offsets), offsets_room, kohiblad_out(states), states_room);
+}
+static inline struct kohiblad_taken kohiblad_take_int64_unchecked(const uint8_t *bytes, size_t size,
+    const size_t *offsets, size_t count, const uint8_t *path, size_t path_size, size_t depth,
+    uint32_t fit, int64_t *values, size_t room, uint8_t *states, size_t states_room) {
+    struct kohiblad_taken overlap = { KOHIBLAD_OVERLAP, 0, 0 };
+    if (!kohiblad_is_column(values, room * sizeof *values, states, states_room)
+        || !kohiblad_is_outside(values, room * sizeof *values, bytes, size, offsets, count, path,
+                                path_size)
+        || !kohiblad_is_outside(states, states_room, bytes, size, offsets, count, path, path_size))
+        return overlap;
+    return kohiblad_export_take_int64_unchecked(kohiblad_in(bytes), size,
+        kohiblad_offsets_in(offsets), count, kohiblad_in(path), path_size, depth, fit,
+        kohiblad_int64s_out(values), room, kohiblad_out(states), states_room);
+}
+static inline struct kohiblad_taken kohiblad_take_uint64_unchecked(const uint8_t *bytes,
+    size_t size, const size_t *offsets, size_t count, const uint8_t *path, size_t path_size,
+    size_t depth, uint32_t fit, uint64_t *values, size_t room, uint8_t *states,
+    size_t states_room) {
+    struct kohiblad_taken overlap = { KOHIBLAD_OVERLAP, 0, 0 };
+    if (!kohiblad_is_column(values, room * sizeof *values, states, states_room)
+        || !kohiblad_is_outside(values, room * sizeof *values, bytes, size, offsets, count, path,
+                                path_size)
+        || !kohiblad_is_outside(states, states_room, bytes, size, offsets, count, path, path_size))
+        return overlap;
+    return kohiblad_export_take_uint64_unchecked(kohiblad_in(bytes), size,
+        kohiblad_offsets_in(offsets), count, kohiblad_in(path), path_size, depth, fit,
+        kohiblad_keys_out(values), room, kohiblad_out(states), states_room);
+}
+static inline struct kohiblad_taken kohiblad_take_decimal_unchecked(const uint8_t *bytes,
+    size_t size, const size_t *offsets, size_t count, const uint8_t *path, size_t path_size,
+    size_t depth, uint32_t fit, uint32_t scale, struct kohiblad_int128 *values, size_t room,
+    uint8_t *states, size_t states_room) {
+    struct kohiblad_taken overlap = { KOHIBLAD_OVERLAP, 0, 0 };
+    if (!kohiblad_is_column(values, room * sizeof *values, states, states_room)
+        || !kohiblad_is_outside(values, room * sizeof *values, bytes, size, offsets, count, path,
+                                path_size)
+        || !kohiblad_is_outside(states, states_room, bytes, size, offsets, count, path, path_size))
+        return overlap;
+    return kohiblad_export_take_decimal_unchecked(kohiblad_in(bytes), size,
+        kohiblad_offsets_in(offsets), count, kohiblad_in(path), path_size, depth, fit, scale,
+        kohiblad_int128s_out(values), room, kohiblad_out(states), states_room);
+}
+static inline struct kohiblad_taken kohiblad_take_boolean_unchecked(const uint8_t *bytes,
+    size_t size, const size_t *offsets, size_t count, const uint8_t *path, size_t path_size,
+    size_t depth, uint8_t *values, size_t room, uint8_t *states, size_t states_room) {
+    struct kohiblad_taken overlap = { KOHIBLAD_OVERLAP, 0, 0 };
+    if (!kohiblad_is_column(values, room * sizeof *values, states, states_room)
+        || !kohiblad_is_outside(values, room * sizeof *values, bytes, size, offsets, count, path,
+                                path_size)
+        || !kohiblad_is_outside(states, states_room, bytes, size, offsets, count, path, path_size))
+        return overlap;
+    return kohiblad_export_take_boolean_unchecked(kohiblad_in(bytes), size,
+        kohiblad_offsets_in(offsets), count, kohiblad_in(path), path_size, depth,
+        kohiblad_out(values), room, kohiblad_out(states), states_room);
+}
+static inline struct kohiblad_taken kohiblad_take_text_unchecked(const uint8_t *bytes, size_t size,
+    const size_t *offsets, size_t count, const uint8_t *path, size_t path_size, size_t depth,
+    uint8_t *out, size_t room, size_t *length, size_t *text_offsets, size_t offsets_room,
+    uint8_t *states, size_t states_room) {
+    struct kohiblad_taken overlap = { KOHIBLAD_OVERLAP, 0, 0 };
+    size_t offsets_size = offsets_room * sizeof *text_offsets;
+    if (!kohiblad_is_room(out, room, length)
+        || !kohiblad_is_apart(out, room, length, text_offsets, offsets_size)
+        || !kohiblad_is_apart(out, room, length, states, states_room)
+        || !kohiblad_is_column(text_offsets, offsets_size, states, states_room)
+        || !kohiblad_is_outside(out, room, bytes, size, offsets, count, path, path_size)
+        || !kohiblad_is_outside(length, sizeof *length, bytes, size, offsets, count, path,
+                                path_size)
+        || !kohiblad_is_outside(text_offsets, offsets_size, bytes, size, offsets, count, path,
+                                path_size)
+        || !kohiblad_is_outside(states, states_room, bytes, size, offsets, count, path, path_size))
+        return overlap;
+    return kohiblad_export_take_text_unchecked(kohiblad_in(bytes), size,
+        kohiblad_offsets_in(offsets), count, kohiblad_in(path), path_size, depth,
+        kohiblad_out(out), room, length, kohiblad_order_out(text_offsets), offsets_room,
+        kohiblad_out(states), states_room);
 }
 static inline struct kohiblad_truth kohiblad_contains(const uint8_t *left, size_t left_size,
     const uint8_t *right, size_t right_size, size_t depth, size_t steps) {

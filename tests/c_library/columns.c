@@ -97,6 +97,30 @@ int main(void) {
     assert(length == 3 && !memcmp(out, "x\xC3\xA9.", 4));
     for (int i = 0; i <= ROWS; i++) assert(text_offsets[i] == (i < 8 ? 0 : 3));
 
+    /* Of documents and rows of no bytes the same, without a check: row 6 has other bytes, and row 11
+     * nests too deep for the calls that check. */
+    memset(whole, 0xA5, sizeof whole);
+    expect(kohiblad_take_int64_unchecked(rows, size, offsets, ROWS + 1, path, path_size, DEPTH,
+                                         KOHIBLAD_BY_VALUE, whole, ROWS, states, ROWS),
+           "131200433313");
+    assert(whole[0] == 5 && whole[1] == 0 && whole[2] == -3 && whole[10] == 2 && whole[11] == 0);
+    assert((uint64_t)whole[12] == 0xA5A5A5A5A5A5A5A5u);
+    expect(kohiblad_take_uint64_unchecked(rows, size, offsets, ROWS + 1, path, path_size, DEPTH,
+                                          KOHIBLAD_EXACT, unsigned_numbers, ROWS, states, ROWS),
+           "133200433133");
+    assert(unsigned_numbers[9] == UINT64_MAX && unsigned_numbers[2] == 0);
+    expect(kohiblad_take_decimal_unchecked(rows, size, offsets, ROWS + 1, path, path_size, DEPTH,
+                                           KOHIBLAD_BY_VALUE, 2, prices, ROWS, states, ROWS),
+           "111200433113");
+    assert(prices[1].low == 150 && prices[9].high == 99);
+    expect(kohiblad_take_boolean_unchecked(rows, size, offsets, ROWS + 1, path, path_size, DEPTH,
+                                           truths, ROWS, states, ROWS), "333200431333");
+    assert(truths[8] == 1 && truths[0] == 0);
+    expect(kohiblad_take_text_unchecked(rows, size, offsets, ROWS + 1, path, path_size, DEPTH, out,
+                                        3, &length, text_offsets, ROWS + 1, states, ROWS),
+           "333200413333");
+    assert(length == 3 && !memcmp(out, "x\xC3\xA9.", 4));
+
     /* What is refused changes nothing. */
     memset(states, 9, sizeof states);
     refused(kohiblad_take_int64(rows, size - 1, offsets, ROWS + 1, path, path_size, DEPTH, 0, whole,
@@ -111,6 +135,12 @@ int main(void) {
                                 ROWS, states, ROWS), KOHIBLAD_OTHER_KIND);
     refused(kohiblad_take_decimal(rows, size, offsets, ROWS + 1, path, path_size, DEPTH, 0, 256,
                                   prices, ROWS, states, ROWS), KOHIBLAD_INVALID_JSONB);
+    refused(kohiblad_take_int64_unchecked(rows, size - 1, offsets, ROWS + 1, path, path_size, DEPTH,
+                                          0, whole, ROWS, states, ROWS), KOHIBLAD_INVALID_EOF);
+    refused(kohiblad_take_int64_unchecked(rows, size, offsets, ROWS + 1, path, path_size, 0, 0,
+                                          whole, ROWS, states, ROWS), KOHIBLAD_INVALID_JSONB);
+    refused(kohiblad_take_int64_unchecked(rows, size, offsets, ROWS + 1, path, path_size, DEPTH, 0,
+                                          whole, ROWS, states, ROWS - 1), KOHIBLAD_NO_ROOM);
     refused(kohiblad_take_text(rows, size, offsets, ROWS + 1, path, path_size, DEPTH, out, 2,
                                &length, text_offsets, ROWS + 1, states, ROWS), KOHIBLAD_NO_ROOM);
     assert(length == 3);

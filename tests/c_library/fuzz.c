@@ -686,6 +686,24 @@ static void path_within(struct block b, bool shallow, size_t depth) {
     drop(p); drop(out); drop(t);
 }
 
+/* The same without a check: of documents and rows of no bytes the same state and value, of other
+ * bytes some state. */
+static void unchecked_column_of(struct block rows, const size_t *where, const uint8_t *path,
+                                size_t path_size, size_t depth, uint32_t status,
+                                const int64_t *values, const uint8_t *states) {
+    struct block mine = make(3 * sizeof(int64_t)), seen = make(3);
+    const int64_t *at = (const int64_t *)(const void *)mine.at;
+    struct kohiblad_taken taken = kohiblad_take_int64_unchecked(rows.at, rows.size, where, 4, path,
+        path_size, depth, KOHIBLAD_BY_VALUE, (int64_t *)(void *)mine.at, 3, seen.at, 3);
+    assert(taken.status == status);
+    for (size_t i = 0; i < 3 && !status; i++) {
+        assert(seen.at[i] < 5 && (at[i] == 0 || seen.at[i] == KOHIBLAD_ROW_VALUE));
+        if (states[i] != KOHIBLAD_ROW_NO_DOCUMENT)
+            assert(seen.at[i] == states[i] && at[i] == values[i]);
+    }
+    drop(seen); drop(mine);
+}
+
 /* A member of rows of any bytes as a column: of each row the state and the value are what the calls
  * for one document say of it. */
 static void column_of(struct block rows, const size_t *where, bool good, size_t depth) {
@@ -704,6 +722,7 @@ static void column_of(struct block rows, const size_t *where, bool good, size_t 
     assert(taken.status == (!good ? KOHIBLAD_INVALID_EOF : depth < 1 ? KOHIBLAD_INVALID_JSONB
                                                                     : KOHIBLAD_OK));
     assert(all.status == taken.status && all.rows == (all.status ? 0 : 3));
+    unchecked_column_of(rows, where, path, path_size, depth, taken.status, at, states.at);
     uint64_t counts[5] = { 0 };
     for (size_t i = 0; i < 3; i++) {
         uint8_t state = states.at[i];

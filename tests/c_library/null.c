@@ -53,6 +53,16 @@ int main(void) {
                                  0, NULL, 0).status == KOHIBLAD_OK);
     assert(kohiblad_take_boolean(NULL, 0, NULL, 0, whole, sizeof whole, 1, NULL, 0, NULL, 0).status
            == KOHIBLAD_OK);
+    assert(kohiblad_take_int64_unchecked(NULL, 0, NULL, 0, whole, sizeof whole, 1, KOHIBLAD_EXACT,
+                                         NULL, 0, NULL, 0).status == KOHIBLAD_OK);
+    assert(kohiblad_take_uint64_unchecked(NULL, 0, NULL, 0, whole, sizeof whole, 1, KOHIBLAD_EXACT,
+                                          NULL, 0, NULL, 0).status == KOHIBLAD_OK);
+    assert(kohiblad_take_decimal_unchecked(NULL, 0, NULL, 0, whole, sizeof whole, 1, KOHIBLAD_EXACT,
+                                           2, NULL, 0, NULL, 0).status == KOHIBLAD_OK);
+    assert(kohiblad_take_boolean_unchecked(NULL, 0, NULL, 0, whole, sizeof whole, 1, NULL, 0, NULL,
+                                           0).status == KOHIBLAD_OK);
+    assert(kohiblad_take_text_unchecked(NULL, 0, NULL, 0, NULL, 0, 1, NULL, 0, &length, NULL, 0,
+                                        NULL, 0).status == KOHIBLAD_INVALID_JSONB);
     /* Also of no rows there is one offset. */
     assert(kohiblad_take_text(NULL, 0, NULL, 0, whole, sizeof whole, 1, NULL, 0, &length, NULL, 0,
                               NULL, 0).status == KOHIBLAD_NO_ROOM);
@@ -241,6 +251,10 @@ int main(void) {
                                 1, block + 8, 4).status == KOHIBLAD_OVERLAP);
     assert(kohiblad_take_text(block, 8, numbers, 2, whole, 4, 9, block + 8, 4, &length, &length, 1,
                               block + 12, 1).status == KOHIBLAD_OVERLAP);
+    assert(kohiblad_take_boolean_unchecked(block, 8, numbers, 2, whole, 4, 9, block + 7, 1,
+                                           block + 9, 4).status == KOHIBLAD_OVERLAP);
+    assert(kohiblad_take_text_unchecked(block, 8, numbers, 2, whole, 4, 9, block + 8, 4, &length,
+                                        &length, 1, block + 12, 1).status == KOHIBLAD_OVERLAP);
     assert(kohiblad_get_member(block, 8, 0, block + 8, 8, &length, block + 12, 8, numbers)
            == KOHIBLAD_OVERLAP);
     assert(kohiblad_get_member(block, 8, 0, block + 8, 8, &length, block + 16, 8, &length)

@@ -26,7 +26,7 @@ void *__wrap_realloc(void *block, size_t size) {
 
 static const char text[] = "{\"a\":1,\"b\":[true,\"\\u00e9\"],"
                            "\"c\":{\"d\":\"e\",\"f\":-12.5,\"g\":[[],{}]}}";
-enum { ROOM = 1024, CALLS = 48 };
+enum { ROOM = 1024, CALLS = 50 };
 static uint8_t document[ROOM], pairs[ROOM];
 static size_t size, offsets[5], pairs_size, order[4];
 static uint64_t keys[ROOM / 8];
@@ -138,6 +138,13 @@ static uint32_t call(int which, uint8_t *out, size_t *length) {
     case 47:
         return kohiblad_take_text(pairs, pairs_size, offsets, 4, path, path_size, 8, out,
                                   ROOM / 2, length, order, 4, out + ROOM / 2, ROOM / 2).status;
+    case 48:
+        return kohiblad_take_int64_unchecked(pairs, pairs_size, offsets, 5, path, path_size, 8,
+                                             KOHIBLAD_EXACT, (int64_t *)keys, 4, out, 4).status;
+    case 49:
+        return kohiblad_take_text_unchecked(pairs, pairs_size, offsets, 4, path, path_size, 8, out,
+                                            ROOM / 2, length, order, 4, out + ROOM / 2, ROOM / 2)
+            .status;
     default: return kohiblad_key_cut(document, size, 8, out, ROOM, length);
     }
 }

@@ -15,6 +15,7 @@ pub mod NameLaws
 pub mod NumberLengths
 pub mod Objects
 pub mod Orders
+pub mod OverRowsLaws
 pub mod PartLaws
 pub mod PathCallLaws
 pub mod PathPlaceLaws
@@ -26,6 +27,7 @@ pub mod ResultLaws
 pub mod ResultRooms
 pub mod Rooms
 pub mod Scalars
+pub mod ScalarReads
 pub mod ScalarValues
 pub mod StoredRooms
 pub mod Walks
@@ -33,4 +35,5 @@ pub mod WithinLaws
 pub mod Yielded
 pub mod NamedPathLaws
 pub mod TakingLaws
+pub mod UncheckedLaws
 pub mod TakenTextLaws

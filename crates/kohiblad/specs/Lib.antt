@@ -28,4 +28,5 @@ pub mod RowCells
 pub mod ColumnSurvey
 pub mod Taking
 pub mod TakenTexts
+pub mod UncheckedRows
 pub mod Words

@@ -1,18 +1,14 @@
 -- The members of rows as texts, as C receives them.
-use Rattle.std.specs.Prelude.{◌≡◌, ◌<◌, ◌⊎◌, ◌+◌, ◌∷◌, [], ℕ, true, false, List, map, length}
-use Rattle.std.specs.Prelude.{Option, None, Some}
+use Rattle.std.specs.Prelude.{◌≡◌, ◌<◌, ◌⊎◌, ◌+◌, ◌∷◌, [], ℕ, List, length}
 use Rattle.std.specs.List.{AllZip, concat}
-use Rattle.jsonb_value.specs.declared.error.Error.TheVariants.{InvalidEOF, InvalidJsonb}
 use Rattle.jsonb_value.specs.declared.error.Error.TheVariants.{OutOfMemory}
-use Rattle.jsonb_value.specs.Meaning.{Meaning, document, other_bytes}
+use Rattle.jsonb_value.specs.Meaning.{Meaning}
 use Rattle.jsonb_functions.specs.declared.path.Step.{Step}
-use Rattle.jsonb_functions.specs.StoredPath.{StepView, path_in, step_view}
-use Rattle.jsonb_typed.specs.Types.{IsText}
 use Rattle.kohiblad.specs.declared.taking.KohibladTaken.{KohibladTaken}
 use Rattle.kohiblad.specs.declared.taken_texts.TakenTexts.{TakenTexts}
-use Rattle.kohiblad.specs.Rows.{are_offsets, rows}
-use Rattle.kohiblad.specs.Status.{code, no_room, other_kind, IsCopied}
-use Rattle.kohiblad.specs.Taking.{IsTakenRow, not_taken, states_of, taken_answer, values_of}
+use Rattle.kohiblad.specs.OverRows.{OverRows}
+use Rattle.kohiblad.specs.Status.{code, no_room, IsCopied}
+use Rattle.kohiblad.specs.Taking.{not_taken, states_of, taken_answer, values_of}
 
 -- Where texts end, the first of which begins at an offset.
 abbrev pub ends_from : ℕ → List (List ℕ) → List ℕ
@@ -69,34 +65,16 @@ pub record IsTextsOf (taken : List (List ℕ × ℕ)) (kept : TakenTexts) : Type
   pub offsets : kept.offsets.items ≡ text_offsets (values_of taken)
   pub states : kept.states.items ≡ states_of taken
 
--- The texts of the rows at the end of these steps.
-abbrev pub AreTextsOf : ℕ → List Step → List (List ℕ) → List (List ℕ × ℕ) → Type 0
-AreTextsOf depth path rows taken = AllZip (IsTakenRow IsText [] depth path) rows taken
-
--- The members of the rows at the end of these steps are taken.
-abbrev pub AreStepTextsTaken : ℕ → List (List ℕ) → Option (List StepView) → TextBuffers
+-- The texts of the rows are taken, each as the relation says, and handed over.
+abbrev pub AreRowTextsTaken : (List ℕ → List ℕ × ℕ → Type 0) → List (List ℕ) → TextBuffers
     → KohibladTaken → Type 0
-AreStepTextsTaken depth rows None b answer = AreTextsRefused other_kind b answer
-AreStepTextsTaken depth rows (Some steps) b answer =
-    (path : List Step)
-    × ((map step_view path ≡ steps)
-    × ((taken : List (List ℕ × ℕ))
-    × (AreTextsOf depth path rows taken × AreTextsHandedOver taken b answer)))
-
--- The members at the end of the path that a document gives are taken; or there is not enough
--- memory.
-abbrev pub ArePathTextsTaken : ℕ → List (List ℕ) → Meaning → TextBuffers → KohibladTaken → Type 0
-ArePathTextsTaken depth rows (document p) b answer =
-    AreStepTextsTaken depth rows (path_in p) b answer
+AreRowTextsTaken IsTaken rows b answer =
+    ((taken : List (List ℕ × ℕ)) × (AllZip IsTaken rows taken × AreTextsHandedOver taken b answer))
     ⊎ AreTextsRefused (code OutOfMemory) b answer
-ArePathTextsTaken depth rows (other_bytes bytes) b answer =
-    AreTextsRefused (code InvalidJsonb) b answer
 
--- Offsets that are below the previous one or beyond the bytes are refused first; otherwise it is
--- as `ArePathTextsTaken` says.
-abbrev pub AreTextsTaken : ℕ → List ℕ → List ℕ → Meaning → TextBuffers → KohibladTaken → Type 0
-AreTextsTaken depth bytes offsets path b answer =
-    ((are_offsets (length bytes) 0 offsets ≡ false)
-    × AreTextsRefused (code InvalidEOF) b answer)
-    ⊎ ((are_offsets (length bytes) 0 offsets ≡ true)
-    × ArePathTextsTaken depth (rows bytes offsets) path b answer)
+-- The members of the rows are taken, at the end of the path and of each row as the relation says.
+abbrev pub AreTextsTaken : (List Step → List ℕ → List ℕ × ℕ → Type 0) → List ℕ → List ℕ → Meaning
+    → TextBuffers → KohibladTaken → Type 0
+AreTextsTaken IsTaken bytes offsets path b answer =
+    OverRows (λ status. AreTextsRefused status b answer)
+    (λ rows steps. AreRowTextsTaken (IsTaken steps) rows b answer) bytes offsets path

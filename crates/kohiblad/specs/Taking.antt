@@ -1,25 +1,27 @@
 -- The members of rows as values of one type, as C receives them.
 use Rattle.std.specs.Prelude.{◌≡◌, ◌<◌, ◌≤◌, ◌⊎◌, ◌∷◌, ◌++◌, [], ℕ, Bool, true, false}
-use Rattle.std.specs.Prelude.{if◌then◌else◌, nat_le, zero, suc, List, map, length, drop, Option}
-use Rattle.std.specs.Prelude.{None, Some}
+use Rattle.std.specs.Prelude.{if◌then◌else◌, nat_le, zero, suc, List, map, length, drop}
 use Rattle.std.specs.List.{AllZip}
-use Rattle.jsonb_value.specs.declared.error.Error.TheVariants.{InvalidEOF, InvalidJsonb}
-use Rattle.jsonb_value.specs.declared.error.Error.TheVariants.{OutOfMemory}
-use Rattle.jsonb_value.specs.Meaning.{Meaning, document, other_bytes}
+use Rattle.jsonb_value.specs.Meaning.{Meaning}
 use Rattle.jsonb_value.specs.Tree as trees
 use Rattle.jsonb_value.specs.Tree.{Tree}
+use Rattle.jsonb_codec.specs.Doc.{Doc}
+use Rattle.jsonb.specs.Node.{IsContainer}
+use Rattle.jsonb_functions.specs.Found.{found_at}
 use Rattle.jsonb_functions.specs.declared.path.Step.{Step}
-use Rattle.jsonb_functions.specs.StoredPath.{StepView, path_in, step_view}
 use Rattle.typed_vector.specs.Cells.{Cell, absent, value, other}
+use Rattle.jsonb_typed.specs.Surveys.{member_cell}
 use Rattle.jsonb_typed.specs.Types.{IsDecimal}
 use Rattle.jsonb_typed.specs.declared.numbers.Fit.{Fit}
 use Rattle.jsonb_typed.specs.declared.numbers.Fit.TheVariants.{ByValue, Exact}
 use Rattle.kohiblad.specs.declared.taking.KohibladTaken.{KohibladTaken}
+use Rattle.kohiblad.specs.declared.taking.Reading.{Reading}
+use Rattle.kohiblad.specs.declared.taking.Reading.TheVariants.{Checked, Unchecked}
 use Rattle.kohiblad.specs.declared.taken_types.KohibladInt128.{KohibladInt128}
+use Rattle.kohiblad.specs.OverRows.{OverRows}
 use Rattle.kohiblad.specs.RowCells.{row_cell}
-use Rattle.kohiblad.specs.Rows.{are_offsets, rows}
 use Rattle.kohiblad.specs.Scalars.{from_halves}
-use Rattle.kohiblad.specs.Status.{code, no_room, other_kind}
+use Rattle.kohiblad.specs.Status.{no_room}
 
 -- The state of a row whose member has no value: 2 for null, 3 for any other.
 abbrev pub tree_state : Tree → ℕ
@@ -45,6 +47,29 @@ abbrev pub IsTakenRow : {V : Type 0} → (V → Tree → Type 0) → V → ℕ �
     → Type 0
 IsTakenRow Stands blank depth path row taken =
     IsTakenCell Stands blank (row_cell depth path row) taken
+
+-- A value with the state 1, or none and any other state.
+abbrev pub IsSomeTaken : {V : Type 0} → V → V × ℕ → Type 0
+IsSomeTaken blank taken = (taken.1 ≡ 1) ⊎ ((taken.0 ≡ blank) × (taken.1 ≤ 4))
+
+-- What is written for a row that is not checked: of a document the same as if it were checked, of
+-- no bytes that there is no member, and of other bytes anything.
+abbrev pub IsTakenUnchecked : {V : Type 0} → (V → Tree → Type 0) → V → List Step → List ℕ → V × ℕ
+    → Type 0
+IsTakenUnchecked Stands blank path row taken =
+    ((t : Tree) → Doc row t → IsTakenCell Stands blank (member_cell (found_at path t)) taken)
+    × ((row ≡ [] → taken ≡ (blank, 0)) × IsSomeTaken blank taken)
+
+-- What is written for a row, by how rows are read.
+abbrev pub IsReadRow : {V : Type 0} → (V → Tree → Type 0) → V → Reading → List Step → List ℕ
+    → V × ℕ → Type 0
+IsReadRow Stands blank (Checked depth) path row taken =
+    IsTakenRow Stands blank depth path row taken
+IsReadRow Stands blank Unchecked path row taken = IsTakenUnchecked Stands blank path row taken
+
+-- No value stands for an array or object.
+abbrev pub HoldsScalars : {V : Type 0} → (V → Tree → Type 0) → Type 0
+HoldsScalars {V = V} Stands = (v : V) (t : Tree) → IsContainer t → Stands v t → ⊥
 
 -- The values that are written for rows, and their states.
 abbrev pub values_of : {V : Type 0} → List (V × ℕ) → List V
@@ -97,40 +122,23 @@ abbrev pub AreRowsPut : {V : Type 0} → (List ℕ → V × ℕ → Type 0) → 
     → List (V × ℕ) → Type 0
 AreRowsPut IsTaken rows b taken = AllZip IsTaken rows taken × ArePut taken b
 
--- The members of the rows at the end of these steps are taken.
-abbrev pub AreStepsTaken : {V : Type 0} → (V → Tree → Type 0) → V → ℕ → List (List ℕ)
-    → Option (List StepView) → Buffers V → KohibladTaken → Type 0
-AreStepsTaken Stands blank depth rows None b answer =
-    (answer ≡ not_taken other_kind) × AreKept b
-AreStepsTaken {V = V} Stands blank depth rows (Some steps) b answer =
-    (path : List Step)
-    × ((map step_view path ≡ steps)
-    × ((taken : List (V × ℕ))
-    × (AreRowsPut (IsTakenRow Stands blank depth path) rows b taken
-    × (answer ≡ taken_answer (states_of taken)))))
-
--- The members at the end of the path that a document gives are taken; or there is not enough
--- memory. Too short a buffer is refused before.
-abbrev pub IsPathTaken : {V : Type 0} → (V → Tree → Type 0) → V → ℕ → List (List ℕ) → Meaning
-    → Buffers V → KohibladTaken → Type 0
-IsPathTaken Stands blank depth rows (document p) b answer =
+-- What is taken of these rows, each as the relation says, is put into the buffers. Too short a
+-- buffer is refused.
+abbrev pub AreRowsTaken : {V : Type 0} → (List ℕ → V × ℕ → Type 0) → List (List ℕ) → Buffers V
+    → KohibladTaken → Type 0
+AreRowsTaken {V = V} IsTaken rows b answer =
     (((length b.values < length rows) ⊎ (length b.states < length rows))
     × ((answer ≡ not_taken no_room) × AreKept b))
     ⊎ (((length rows ≤ length b.values) × (length rows ≤ length b.states))
-    × (AreStepsTaken Stands blank depth rows (path_in p) b answer
-    ⊎ ((answer ≡ not_taken (code OutOfMemory)) × AreKept b)))
-IsPathTaken Stands blank depth rows (other_bytes bytes) b answer =
-    (answer ≡ not_taken (code InvalidJsonb)) × AreKept b
+    × ((taken : List (V × ℕ))
+    × (AreRowsPut IsTaken rows b taken × (answer ≡ taken_answer (states_of taken)))))
 
--- Offsets that are below the previous one or beyond the bytes are refused first; otherwise it is
--- as `IsPathTaken` says.
-abbrev pub AreTaken : {V : Type 0} → (V → Tree → Type 0) → V → ℕ → List ℕ → List ℕ → Meaning
-    → Buffers V → KohibladTaken → Type 0
-AreTaken Stands blank depth bytes offsets path b answer =
-    ((are_offsets (length bytes) 0 offsets ≡ false)
-    × ((answer ≡ not_taken (code InvalidEOF)) × AreKept b))
-    ⊎ ((are_offsets (length bytes) 0 offsets ≡ true)
-    × IsPathTaken Stands blank depth (rows bytes offsets) path b answer)
+-- The members of the rows are taken, at the end of the path and of each row as the relation says.
+abbrev pub AreTaken : {V : Type 0} → (List Step → List ℕ → V × ℕ → Type 0) → List ℕ → List ℕ
+    → Meaning → Buffers V → KohibladTaken → Type 0
+AreTaken IsTaken bytes offsets path b answer =
+    OverRows (λ status. (answer ≡ not_taken status) × AreKept b)
+    (λ rows steps. AreRowsTaken (IsTaken steps) rows b answer) bytes offsets path
 
 -- When a number fits, by the number that a caller gives: 0 is by value.
 abbrev pub fit_of : ℕ → Fit

@@ -35,3 +35,5 @@ mod taking;
 mod text_expected;
 mod text_fault;
 mod texts;
+mod unchecked_rows;
+mod unchecked_types;

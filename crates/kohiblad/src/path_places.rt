@@ -155,7 +155,8 @@ fn node_there(bytes: &[u8], place: Entry) -> Node<'_>
 /// The position to which a path leads from a position. `None` if the path leads nowhere.
 pub fn place_at_end(bytes: &[u8], from: Entry, path: &[Step<'_>]) -> Option<Entry>
     requires { IsPlaceWithin bytes.now from }
-    ensures { result ≡ place_from path.now bytes.now from }
+    ensures value { result ≡ place_from path.now bytes.now from }
+    ensures inside { IfSome result (IsPlaceWithin bytes.now) }
 {
     let mut place = from;
     let mut left = path;
@@ -213,8 +214,8 @@ fn next_place(bytes: &[u8], place: Entry, walk: &mut ChildWalk) -> Option<Entry>
     })
 }
 
-// The payload at a position.
-fn bytes_at(bytes: &[u8], place: Entry) -> &[u8]
+/// The payload at a position.
+pub fn bytes_at(bytes: &[u8], place: Entry) -> &[u8]
     requires { IsPlaceWithin bytes.now place }
     ensures { result.now ≡ (entry_there bytes.now place).payload }
 {

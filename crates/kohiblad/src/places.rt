@@ -229,8 +229,8 @@ fn place_of_item(bytes: &[u8], index: usize) -> Result<Option<Entry>, Error>
     }
 }
 
-// The position of the value of a key. `None` if there is none.
-fn place_of_key(bytes: &[u8], name: &[u8]) -> Result<Option<Entry>, Error>
+/// The position of the value of a key. `None` if there is none.
+pub fn place_of_key(bytes: &[u8], name: &[u8]) -> Result<Option<Entry>, Error>
     ensures utf8 { (IsUtf8 name.now → ⊥) → result ≡ Err Error.InvalidUtf8 }
     ensures place { IsUtf8 name.now → IsPlaceFound name.now bytes.now result }
     ensures document { IsUtf8 name.now → (t : Tree) → Doc bytes.now t

@@ -1,21 +1,24 @@
 //! The call that takes the members of rows as texts.
 
 ghost use Rattle.std.specs.Prelude.{◌≡◌, ◌≤◌, [], ℕ, List, IfErr, IfOk, length, option_map};
-ghost use Rattle.jsonb_value.specs.Meaning.{Meaning};
+ghost use Rattle.std.specs.List.{AllZip};
 ghost use Rattle.jsonb_typed.specs.Words.{IsText, member_cell};
 ghost use Rattle.kohiblad.specs.Status.{IsCopied};
-ghost use Rattle.kohiblad.specs.Taking.{IsTakenCell, IsTakenRow};
-ghost use Rattle.kohiblad.specs.TakenTexts.{ArePathTextsTaken, AreTextsHandedOver, AreTextsOf};
-ghost use Rattle.kohiblad.specs.TakenTexts.{AreTextsTaken, IsTextsOf};
-ghost use Rattle.kohiblad.specs.Words.{document_tree, meaning_within, node_tree};
+ghost use Rattle.kohiblad.specs.Taking.{IsReadRow, IsTakenCell, IsTakenRow, IsTakenUnchecked};
+ghost use Rattle.kohiblad.specs.TakenTexts.{AreRowTextsTaken, AreTextsHandedOver, AreTextsTaken};
+ghost use Rattle.kohiblad.specs.TakenTexts.{IsTextsOf};
+ghost use Rattle.kohiblad.specs.Words.{meaning_within, node_tree};
 
-use crate::answer::{NO_ROOM, OTHER_KIND, code};
+use crate::answer::{NO_ROOM, code};
+use crate::row_paths::steps_of;
 use crate::rows::Rows;
 use crate::taking::{
-    ABSENT, KohibladTaken, VALUE, not_taken, state_of, state_of_bytes, taken_answer,
+    ABSENT, KohibladTaken, Reading, Source, VALUE, not_taken, state_of, state_of_bytes,
+    taken_answer,
 };
-use jsonb::{Document, Error, Node, SortKey};
-use jsonb_functions::{Step, read_path};
+use crate::unchecked_rows::unchecked_member;
+use jsonb::{Error, Node, SortKey};
+use jsonb_functions::Step;
 use jsonb_typed::{member_of, opened};
 use std::alloc::Global;
 
@@ -45,7 +48,8 @@ pub extern "C" fn kohiblad_take_text(
     text_offsets: &mut [usize],
     states: &mut [u8],
 ) -> KohibladTaken
-    ensures { AreTextsTaken depth bytes.now offsets.now (meaning_within depth path.now)
+    ensures { AreTextsTaken (IsTakenRow IsText [] depth) bytes.now offsets.now
+        (meaning_within depth path.now)
         (record {
           texts = out.old;
           texts_after = out.new;
@@ -56,31 +60,53 @@ pub extern "C" fn kohiblad_take_text(
           states_after = states.new;
         }) result }
 {
-    *length = 0;
-    let Ok(rows) = Rows::new(bytes, offsets) else {
-        return not_taken(code(Error::InvalidEOF));
-    };
-    match SortKey::within(path, depth) {
-        SortKey::Document(path) => {
-            take_texts_at(alloc, rows, path, depth, out, length, text_offsets, states)
-        }
-        SortKey::Other(_) => not_taken(code(Error::InvalidJsonb)),
-    }
+    let source = Source::checked(bytes, offsets, path, depth);
+    take_texts(alloc, source, out, length, text_offsets, states)
 }
 
-// Takes the texts at the end of the path that a document gives.
-fn take_texts_at(
+/// Takes the members of rows at the end of a path as texts, without checking the rows. What holds
+/// of them and of the depth is as `kohiblad_take_int64_unchecked` has it, and a text is UTF-8. All
+/// else is as `kohiblad_take_text` has it.
+#[unsafe(no_mangle)]
+pub extern "C" fn kohiblad_take_text_unchecked(
     alloc: Global,
-    rows: Rows<'_>,
-    path: Document<'_>,
+    bytes: &[u8],
+    offsets: &[usize],
+    path: &[u8],
     depth: usize,
+    out: &mut [u8],
+    length: &mut usize,
+    text_offsets: &mut [usize],
+    states: &mut [u8],
+) -> KohibladTaken
+    ensures { AreTextsTaken (IsTakenUnchecked IsText []) bytes.now offsets.now
+        (meaning_within depth path.now)
+        (record {
+          texts = out.old;
+          texts_after = out.new;
+          size = length.new;
+          offsets = text_offsets.old;
+          offsets_after = text_offsets.new;
+          states = states.old;
+          states_after = states.new;
+        }) result }
+{
+    let source = Source::unchecked(bytes, offsets, path, depth);
+    take_texts(alloc, source, out, length, text_offsets, states)
+}
+
+// Takes the members of rows at the end of a path as texts.
+fn take_texts(
+    alloc: Global,
+    source: Source<'_>,
     out: &mut [u8],
     size: &mut usize,
     text_offsets: &mut [usize],
     states: &mut [u8],
 ) -> KohibladTaken
-    requires { size.old ≡ 0 }
-    ensures { ArePathTextsTaken depth rows.entry (Meaning.document (document_tree path.entry))
+    ensures { AreTextsTaken (IsReadRow IsText [] source.entry.reading)
+        source.entry.bytes.now source.entry.offsets.now
+        (meaning_within source.entry.depth source.entry.path.now)
         (record {
           texts = out.old;
           texts_after = out.new;
@@ -91,12 +117,52 @@ fn take_texts_at(
           states_after = states.new;
         }) result }
 {
-    match read_path(alloc, path) {
-        Ok(Some(steps)) => match texts_of(alloc, rows, &steps, depth) {
-            Ok(taken) => hand_over_texts(&taken, out, size, text_offsets, states),
-            Err(error) => not_taken(code(error)),
-        },
-        Ok(None) => not_taken(OTHER_KIND),
+    *size = 0;
+    let Ok(rows) = Rows::new(source.bytes, source.offsets) else {
+        return not_taken(code(Error::InvalidEOF));
+    };
+    match steps_of(alloc, source.path, source.depth) {
+        Ok(steps) => {
+            take_row_texts(
+                alloc,
+                rows,
+                &steps,
+                source.reading,
+                out,
+                size,
+                text_offsets,
+                states,
+            )
+        }
+        Err(status) => not_taken(status),
+    }
+}
+
+// Takes the members of the rows as texts.
+fn take_row_texts(
+    alloc: Global,
+    rows: Rows<'_>,
+    path: &[Step<'_>],
+    reading: Reading,
+    out: &mut [u8],
+    size: &mut usize,
+    text_offsets: &mut [usize],
+    states: &mut [u8],
+) -> KohibladTaken
+    requires { size.old ≡ 0 }
+    ensures { AreRowTextsTaken (IsReadRow IsText [] reading path.now) rows.entry
+        (record {
+          texts = out.old;
+          texts_after = out.new;
+          size = size.new;
+          offsets = text_offsets.old;
+          offsets_after = text_offsets.new;
+          states = states.old;
+          states_after = states.new;
+        }) result }
+{
+    match texts_of(alloc, rows, path, reading) {
+        Ok(taken) => hand_over_texts(&taken, out, size, text_offsets, states),
         Err(error) => not_taken(code(error)),
     }
 }
@@ -154,10 +220,11 @@ fn texts_of(
     alloc: Global,
     rows: Rows<'_>,
     path: &[Step<'_>],
-    depth: usize,
+    reading: Reading,
 ) -> Result<TakenTexts, Error>
     ensures ok { IfOk result (λ texts. (taken : List (List ℕ × ℕ))
-        × (AreTextsOf depth path.now rows.entry taken × IsTextsOf taken texts)) }
+        × (AllZip (IsReadRow IsText [] reading path.now) rows.entry taken
+        × IsTextsOf taken texts)) }
     ensures memory { IfErr result (λ e. e ≡ Error.OutOfMemory) }
 {
     let mut left = rows;
@@ -166,7 +233,7 @@ fn texts_of(
     offsets.push_reserved(0);
     let mut states = Vec::new(alloc);
     while let Some(row) = left.next() {
-        let (text, state) = take_text(row, path, depth);
+        let (text, state) = read_text(row, path, reading);
         texts.extend_from_slice(text.as_bytes())?;
         offsets.push(texts.len())?;
         states.push(state)?;
@@ -179,12 +246,33 @@ fn texts_of(
 }
 
 // The text of a row, or the empty one, and the state of the row.
+fn read_text<'a>(row: &'a [u8], path: &[Step<'_>], reading: Reading) -> (&'a str, u8)
+    ensures { IsReadRow IsText [] reading path.now row.entry.now (result.0.now, result.1) }
+{
+    match reading {
+        Reading::Checked(depth) => take_text(row, path, depth),
+        Reading::Unchecked => take_unchecked_text(row, path),
+    }
+}
+
+// The same for a row that is checked.
 fn take_text<'a>(row: &'a [u8], path: &[Step<'_>], depth: usize) -> (&'a str, u8)
     ensures { IsTakenRow IsText [] depth path.now row.entry.now (result.0.now, result.1) }
 {
     match SortKey::within(row, depth) {
         SortKey::Document(document) => take_member_text(member_of(document, path)),
         SortKey::Other(bytes) => ("", state_of_bytes(bytes)),
+    }
+}
+
+// The same for a row that is not checked.
+#[tactic(auto, using(crate::proofs::UncheckedLaws::taken_member, crate::proofs::UncheckedLaws::taken_state, crate::proofs::UncheckedLaws::scalar_texts))]
+fn take_unchecked_text<'a>(row: &'a [u8], path: &[Step<'_>]) -> (&'a str, u8)
+    ensures { IsTakenUnchecked IsText [] path.now row.entry.now (result.0.now, result.1) }
+{
+    match unchecked_member(row, path) {
+        Ok(member) => take_member_text(member),
+        Err(state) => ("", state),
     }
 }
 

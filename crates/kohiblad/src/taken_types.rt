@@ -2,11 +2,12 @@
 
 ghost use Rattle.std.specs.Prelude.{◌≡◌, ◌<◌, ◌≤◌, ◌^◌, pos};
 ghost use Rattle.jsonb_typed.specs.Words.{IsInt64, IsUInt64, node_tree};
-ghost use Rattle.kohiblad.specs.Taking.{AreKept, AreTaken, IsInt128, IsTruth, fit_of, not_taken};
+ghost use Rattle.kohiblad.specs.Taking.{AreKept, AreTaken, IsInt128, IsTakenRow, IsTruth};
+ghost use Rattle.kohiblad.specs.Taking.{fit_of, not_taken};
 ghost use Rattle.kohiblad.specs.Words.{Error, code, from_halves, meaning_within};
 
 use crate::answer::code;
-use crate::taking::{KohibladTaken, fit_of, not_taken, take};
+use crate::taking::{KohibladTaken, Source, fit_of, not_taken, take};
 use jsonb::{Error, Node};
 use jsonb_typed::{Boolean, ColumnType, Decimal, Int64, UInt64};
 use std::alloc::Global;
@@ -28,11 +29,12 @@ pub struct KohibladInt128 {
 /// is the document of a path, as `kohiblad_get_path` takes it. The answer counts the rows of states
 /// 3 and 4, and names the first of them, or their number if there is none. `InvalidEOF` if an
 /// offset is below the previous one or beyond the bytes; then `InvalidJsonb` if the path is not a
-/// document of at most this depth; then `NO_ROOM` if `values` or `states` has fewer places than
-/// there are rows; `OTHER_KIND` if the path is not an array of texts and whole numbers of 64 bits;
-/// `OutOfMemory` if an allocation fails, which only the path makes. If the status is not `OK`,
-/// `values` and `states` are unchanged, and the counts are 0. A scalar has depth 0, an array or
-/// object one more than its deepest child, and at least 1. Deeper levels are not examined.
+/// document of at most this depth; `OTHER_KIND` if it is not an array of texts and whole numbers of
+/// 64 bits; `OutOfMemory` if an allocation fails, which only the path makes; then `NO_ROOM` if
+/// `values` or `states` has fewer places than there are rows. If the status is not `OK`, `values`
+/// and `states` are unchanged, and the counts are 0. A scalar has depth 0, an array or object one
+/// more than its deepest child, and at least 1. Deeper levels are not examined.
+#[tactic(auto, using(crate::proofs::UncheckedLaws::scalar_int64s))]
 #[unsafe(no_mangle)]
 pub extern "C" fn kohiblad_take_int64(
     alloc: Global,
@@ -44,8 +46,8 @@ pub extern "C" fn kohiblad_take_int64(
     values: &mut [i64],
     states: &mut [u8],
 ) -> KohibladTaken
-    ensures { AreTaken (λ v t. IsInt64 (fit_of fit) v t) (pos 0) depth bytes.now offsets.now
-        (meaning_within depth path.now)
+    ensures { AreTaken (IsTakenRow (λ v t. IsInt64 (fit_of fit) v t) (pos 0) depth) bytes.now
+        offsets.now (meaning_within depth path.now)
         (record {
           values = values.old;
           values_after = values.new;
@@ -54,21 +56,13 @@ pub extern "C" fn kohiblad_take_int64(
         }) result }
 {
     let column_type = Int64 { fit: fit_of(fit) };
-    take(
-        alloc,
-        bytes,
-        offsets,
-        path,
-        depth,
-        &column_type,
-        0,
-        values,
-        states,
-    )
+    let source = Source::checked(bytes, offsets, path, depth);
+    take(alloc, source, &column_type, 0, values, states)
 }
 
 /// Takes the members of rows at the end of a path as whole numbers of 64 bits without a sign. All
 /// else is as `kohiblad_take_int64` has it.
+#[tactic(auto, using(crate::proofs::UncheckedLaws::scalar_uint64s))]
 #[unsafe(no_mangle)]
 pub extern "C" fn kohiblad_take_uint64(
     alloc: Global,
@@ -80,8 +74,8 @@ pub extern "C" fn kohiblad_take_uint64(
     values: &mut [u64],
     states: &mut [u8],
 ) -> KohibladTaken
-    ensures { AreTaken (λ v t. IsUInt64 (fit_of fit) v t) 0 depth bytes.now offsets.now
-        (meaning_within depth path.now)
+    ensures { AreTaken (IsTakenRow (λ v t. IsUInt64 (fit_of fit) v t) 0 depth) bytes.now
+        offsets.now (meaning_within depth path.now)
         (record {
           values = values.old;
           values_after = values.new;
@@ -90,17 +84,8 @@ pub extern "C" fn kohiblad_take_uint64(
         }) result }
 {
     let column_type = UInt64 { fit: fit_of(fit) };
-    take(
-        alloc,
-        bytes,
-        offsets,
-        path,
-        depth,
-        &column_type,
-        0,
-        values,
-        states,
-    )
+    let source = Source::checked(bytes, offsets, path, depth);
+    take(alloc, source, &column_type, 0, values, states)
 }
 
 /// Takes the members of rows at the end of a path as decimals with `scale` digits after the point,
@@ -109,6 +94,7 @@ pub extern "C" fn kohiblad_take_uint64(
 /// digits have in a JSON text, with as many of them after the point: 1.50, and not 1.5.
 /// `InvalidJsonb` also, before all others, if the scale is above 255. All else is as
 /// `kohiblad_take_int64` has it.
+#[tactic(auto, using(crate::proofs::UncheckedLaws::scalar_int128s))]
 #[unsafe(no_mangle)]
 pub extern "C" fn kohiblad_take_decimal(
     alloc: Global,
@@ -128,8 +114,8 @@ pub extern "C" fn kohiblad_take_decimal(
           states = states.old;
           states_after = states.new;
         }) }
-    ensures taken { scale ≤ 255 → AreTaken (IsInt128 (fit_of fit) scale)
-        (record { low = 0; high = pos 0 }) depth bytes.now offsets.now
+    ensures taken { scale ≤ 255 → AreTaken (IsTakenRow (IsInt128 (fit_of fit) scale)
+        (record { low = 0; high = pos 0 }) depth) bytes.now offsets.now
         (meaning_within depth path.now)
         (record {
           values = values.old;
@@ -146,23 +132,14 @@ pub extern "C" fn kohiblad_take_decimal(
         decimal: Decimal { scale, fit },
     };
     let blank = KohibladInt128 { low: 0, high: 0 };
-    take(
-        alloc,
-        bytes,
-        offsets,
-        path,
-        depth,
-        &column_type,
-        blank,
-        values,
-        states,
-    )
+    let source = Source::checked(bytes, offsets, path, depth);
+    take(alloc, source, &column_type, blank, values, states)
 }
 
-// Decimals in two halves.
+/// Decimals in two halves.
 #[derive(Clone, Copy)]
-struct Halves {
-    decimal: Decimal,
+pub struct Halves {
+    pub decimal: Decimal,
 }
 
 impl ColumnType for Halves {
@@ -195,6 +172,7 @@ fn halves_of(value: i128) -> KohibladInt128
 
 /// Takes the members of rows at the end of a path as truth values, 0 or 1. All else is as
 /// `kohiblad_take_int64` has it.
+#[tactic(auto, using(crate::proofs::UncheckedLaws::scalar_truths))]
 #[unsafe(no_mangle)]
 pub extern "C" fn kohiblad_take_boolean(
     alloc: Global,
@@ -205,7 +183,8 @@ pub extern "C" fn kohiblad_take_boolean(
     values: &mut [u8],
     states: &mut [u8],
 ) -> KohibladTaken
-    ensures { AreTaken IsTruth 0 depth bytes.now offsets.now (meaning_within depth path.now)
+    ensures { AreTaken (IsTakenRow IsTruth 0 depth) bytes.now offsets.now
+        (meaning_within depth path.now)
         (record {
           values = values.old;
           values_after = values.new;
@@ -214,22 +193,13 @@ pub extern "C" fn kohiblad_take_boolean(
         }) result }
 {
     let blank = 0;
-    take(
-        alloc,
-        bytes,
-        offsets,
-        path,
-        depth,
-        &TruthBytes,
-        blank,
-        values,
-        states,
-    )
+    let source = Source::checked(bytes, offsets, path, depth);
+    take(alloc, source, &TruthBytes, blank, values, states)
 }
 
-// Truth values as bytes.
+/// Truth values as bytes.
 #[derive(Clone, Copy)]
-struct TruthBytes;
+pub struct TruthBytes;
 
 impl ColumnType for TruthBytes {
     type Value = u8;

@@ -1,18 +1,19 @@
 //! The members of rows as values of one type, written to the caller's buffers.
 
 ghost use Rattle.std.specs.Prelude.{◌≡◌, ◌≤◌, ℕ, List, length, map, nat_le, option_map};
-ghost use Rattle.jsonb_value.specs.Meaning.{Meaning};
 ghost use Rattle.jsonb_typed.specs.Words.{HoldsNoScalar, member_cell};
-ghost use Rattle.kohiblad.specs.RowCells.{row_cell};
-ghost use Rattle.kohiblad.specs.Taking.{AreRowsPut, AreTaken, IsPathTaken, IsTakenCell};
-ghost use Rattle.kohiblad.specs.Taking.{IsTakenRow, bytes_state, first_unfit, fit_of, not_taken};
+ghost use Rattle.kohiblad.specs.Taking.{AreRowsPut, AreRowsTaken, AreTaken, HoldsScalars};
+ghost use Rattle.kohiblad.specs.Taking.{IsReadRow, IsTakenCell, IsTakenRow, IsTakenUnchecked};
+ghost use Rattle.kohiblad.specs.Taking.{bytes_state, first_unfit, fit_of, not_taken};
 ghost use Rattle.kohiblad.specs.Taking.{taken_answer, tree_state, unfit_count};
-ghost use Rattle.kohiblad.specs.Words.{document_tree, meaning_within, node_tree};
+ghost use Rattle.kohiblad.specs.Words.{meaning_within, node_tree};
 
-use crate::answer::{NO_ROOM, OK, OTHER_KIND, code};
+use crate::answer::{NO_ROOM, OK, code};
+use crate::row_paths::steps_of;
 use crate::rows::Rows;
-use jsonb::{Document, Error, Node, SortKey};
-use jsonb_functions::{Step, read_path};
+use crate::unchecked_rows::unchecked_member;
+use jsonb::{Error, Node, SortKey};
+use jsonb_functions::Step;
 use jsonb_typed::{ColumnType, Fit, member_of, opened};
 use std::alloc::Global;
 
@@ -26,7 +27,7 @@ pub const VALUE: u8 = 1;
 const NULL: u8 = 2;
 
 /// The state of a row whose member is no value of the type, and not null.
-const UNFIT: u8 = 3;
+pub const UNFIT: u8 = 3;
 
 /// The state of a row that is not a document.
 pub const NO_DOCUMENT: u8 = 4;
@@ -42,21 +43,79 @@ pub struct KohibladTaken {
     pub first_unfit: u64,
 }
 
+/// How rows are read.
+#[derive(Clone, Copy)]
+pub enum Reading {
+    /// Each is checked, as a document of at most this depth.
+    Checked(usize),
+    /// None is checked.
+    Unchecked,
+}
+
+/// Rows, how they are read, and the document of a path, of at most a depth.
+#[derive(Clone, Copy)]
+pub struct Source<'a> {
+    pub bytes: &'a [u8],
+    pub offsets: &'a [usize],
+    pub path: &'a [u8],
+    pub depth: usize,
+    pub reading: Reading,
+}
+
+impl<'a> Source<'a> {
+    /// Rows that are checked.
+    pub fn checked(bytes: &'a [u8], offsets: &'a [usize], path: &'a [u8], depth: usize) -> Self
+        ensures { result ≡ record {
+          bytes = bytes.entry;
+          offsets = offsets.entry;
+          path = path.entry;
+          depth = depth;
+          reading = Reading.Checked depth;
+        } }
+    {
+        Source {
+            bytes,
+            offsets,
+            path,
+            depth,
+            reading: Reading::Checked(depth),
+        }
+    }
+
+    /// Rows that are not checked.
+    pub fn unchecked(bytes: &'a [u8], offsets: &'a [usize], path: &'a [u8], depth: usize) -> Self
+        ensures { result ≡ record {
+          bytes = bytes.entry;
+          offsets = offsets.entry;
+          path = path.entry;
+          depth = depth;
+          reading = Reading.Unchecked;
+        } }
+    {
+        Source {
+            bytes,
+            offsets,
+            path,
+            depth,
+            reading: Reading::Unchecked,
+        }
+    }
+}
+
 /// Takes the members of rows at the end of a path as values of a type, and writes them and the
 /// states of the rows to the buffers.
 pub fn take<T: ColumnType>(
     alloc: Global,
-    bytes: &[u8],
-    offsets: &[usize],
-    path: &[u8],
-    depth: usize,
+    source: Source<'_>,
     column_type: &T,
     blank: T::Value,
     values: &mut [T::Value],
     states: &mut [u8],
 ) -> KohibladTaken
-    ensures { AreTaken (T.stands column_type.now) blank depth bytes.now offsets.now
-        (meaning_within depth path.now)
+    requires { HoldsScalars (T.stands column_type.now) }
+    ensures { AreTaken (IsReadRow (T.stands column_type.now) blank source.entry.reading)
+        source.entry.bytes.now source.entry.offsets.now
+        (meaning_within source.entry.depth source.entry.path.now)
         (record {
           values = values.old;
           values_after = values.new;
@@ -64,30 +123,35 @@ pub fn take<T: ColumnType>(
           states_after = states.new;
         }) result }
 {
-    let Ok(rows) = Rows::new(bytes, offsets) else {
+    let Ok(rows) = Rows::new(source.bytes, source.offsets) else {
         return not_taken(code(Error::InvalidEOF));
     };
-    match SortKey::within(path, depth) {
-        SortKey::Document(path) => {
-            take_at(alloc, rows, path, depth, column_type, blank, values, states)
-        }
-        SortKey::Other(_) => not_taken(code(Error::InvalidJsonb)),
+    match steps_of(alloc, source.path, source.depth) {
+        Ok(steps) => take_rows(
+            rows,
+            &steps,
+            source.reading,
+            column_type,
+            blank,
+            values,
+            states,
+        ),
+        Err(status) => not_taken(status),
     }
 }
 
-// Takes the members at the end of the path that a document gives.
-fn take_at<T: ColumnType>(
-    alloc: Global,
+// Takes the members of the rows, if the buffers have room for them.
+fn take_rows<T: ColumnType>(
     rows: Rows<'_>,
-    path: Document<'_>,
-    depth: usize,
+    path: &[Step<'_>],
+    reading: Reading,
     column_type: &T,
     blank: T::Value,
     values: &mut [T::Value],
     states: &mut [u8],
 ) -> KohibladTaken
-    ensures { IsPathTaken (T.stands column_type.now) blank depth rows.entry
-        (Meaning.document (document_tree path.entry))
+    requires { HoldsScalars (T.stands column_type.now) }
+    ensures { AreRowsTaken (IsReadRow (T.stands column_type.now) blank reading path.now) rows.entry
         (record {
           values = values.old;
           values_after = values.new;
@@ -98,18 +162,14 @@ fn take_at<T: ColumnType>(
     if values.len() < rows.len() || states.len() < rows.len() {
         return not_taken(NO_ROOM);
     }
-    match read_path(alloc, path) {
-        Ok(Some(steps)) => take_rows(rows, &steps, depth, column_type, blank, values, states),
-        Ok(None) => not_taken(OTHER_KIND),
-        Err(error) => not_taken(code(error)),
-    }
+    put_rows(rows, path, reading, column_type, blank, values, states)
 }
 
 // Takes the members of the rows.
-fn take_rows<T: ColumnType>(
+fn put_rows<T: ColumnType>(
     rows: Rows<'_>,
     path: &[Step<'_>],
-    depth: usize,
+    reading: Reading,
     column_type: &T,
     blank: T::Value,
     values: &mut [T::Value],
@@ -117,8 +177,9 @@ fn take_rows<T: ColumnType>(
 ) -> KohibladTaken
     requires values { length rows ≤ length values.old }
     requires states { length rows ≤ length states.old }
+    requires scalars { HoldsScalars (T.stands column_type.now) }
     ensures { (taken : List (T.Value × ℕ))
-        × (AreRowsPut (IsTakenRow (T.stands column_type.now) blank depth path.now) rows.entry
+        × (AreRowsPut (IsReadRow (T.stands column_type.now) blank reading path.now) rows.entry
         (record {
           values = values.old;
           values_after = values.new;
@@ -130,7 +191,7 @@ fn take_rows<T: ColumnType>(
     let mut left = rows;
     let mut number = 0;
     while let Some(row) = left.next() {
-        let (value, state) = take_row(row, path, depth, column_type, blank);
+        let (value, state) = read_row(row, path, reading, column_type, blank);
         values[number] = value;
         states[number] = state;
         number += 1;
@@ -139,6 +200,23 @@ fn take_rows<T: ColumnType>(
 }
 
 // What is written for a row: its value, or the blank one, and its state.
+fn read_row<T: ColumnType>(
+    row: &[u8],
+    path: &[Step<'_>],
+    reading: Reading,
+    column_type: &T,
+    blank: T::Value,
+) -> (T::Value, u8)
+    requires { HoldsScalars (T.stands column_type.now) }
+    ensures { IsReadRow (T.stands column_type.now) blank reading path.now row.now result }
+{
+    match reading {
+        Reading::Checked(depth) => take_row(row, path, depth, column_type, blank),
+        Reading::Unchecked => take_unchecked(row, path, column_type, blank),
+    }
+}
+
+// The same for a row that is checked.
 fn take_row<T: ColumnType>(
     row: &[u8],
     path: &[Step<'_>],
@@ -151,6 +229,23 @@ fn take_row<T: ColumnType>(
     match SortKey::within(row, depth) {
         SortKey::Document(document) => take_member(member_of(document, path), column_type, blank),
         SortKey::Other(bytes) => (blank, state_of_bytes(bytes)),
+    }
+}
+
+// The same for a row that is not checked.
+#[tactic(auto, using(crate::proofs::UncheckedLaws::taken_member, crate::proofs::UncheckedLaws::taken_state))]
+fn take_unchecked<T: ColumnType>(
+    row: &[u8],
+    path: &[Step<'_>],
+    column_type: &T,
+    blank: T::Value,
+) -> (T::Value, u8)
+    requires { HoldsScalars (T.stands column_type.now) }
+    ensures { IsTakenUnchecked (T.stands column_type.now) blank path.now row.now result }
+{
+    match unchecked_member(row, path) {
+        Ok(member) => take_member(member, column_type, blank),
+        Err(state) => (blank, state),
     }
 }
 

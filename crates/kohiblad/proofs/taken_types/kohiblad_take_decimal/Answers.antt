@@ -1,25 +1,27 @@
 use Rattle.std.proofs.Common.{◌≡◌, ℕ, pos, rules, subst}
 use Rattle.jsonb.specs.Within.{meaning_within}
 use Rattle.jsonb_typed.specs.declared.numbers.Fit.{Fit}
-use Rattle.kohiblad.specs.Taking.{AreTaken, IsInt128, fit_of}
+use Rattle.kohiblad.specs.Taking.{AreTaken, IsInt128, IsTakenRow, fit_of}
 use Rattle.kohiblad.proofs.taken_types.kohiblad_take_decimal.Goals as goal
 
 pub returns-clause-taken : goal.returns-clause-taken
 returns-clause-taken c = λ small.
     let scale : c.in-Ok.scale ≡ c.args.scale = search rules in
     let at_fit = subst
-    (λ (fit : Fit). AreTaken (IsInt128 fit c.in-Ok.scale) (record { low = 0; high = pos 0 })
-    c.args.depth c.args.bytes.now c.args.offsets.now (meaning_within c.args.depth c.args.path.now)
+    (λ (fit : Fit). AreTaken
+    (IsTakenRow (IsInt128 fit c.in-Ok.scale) (record { low = 0; high = pos 0 }) c.args.depth)
+    c.args.bytes.now c.args.offsets.now (meaning_within c.args.depth c.args.path.now)
     (record {
       values = c.args.values.now;
       values_after = c.take.new.values;
       states = c.args.states.now;
       states_after = c.take.new.states;
     }) c.take.result)
-    c.fit_of-fit.ensures c.take.ensures in
+    c.fit_of-fit.ensures (rw c.checked-source.ensures at c.take.ensures) in
     subst
-    (λ (scale : ℕ). AreTaken (IsInt128 (fit_of c.args.fit) scale) (record { low = 0; high = pos 0 })
-    c.args.depth c.args.bytes.now c.args.offsets.now (meaning_within c.args.depth c.args.path.now)
+    (λ (scale : ℕ). AreTaken
+    (IsTakenRow (IsInt128 (fit_of c.args.fit) scale) (record { low = 0; high = pos 0 }) c.args.depth)
+    c.args.bytes.now c.args.offsets.now (meaning_within c.args.depth c.args.path.now)
     (record {
       values = c.args.values.now;
       values_after = c.take.new.values;

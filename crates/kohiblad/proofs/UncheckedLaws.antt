@@ -1,0 +1,192 @@
+-- What is taken of rows that are not checked.
+use Rattle.std.proofs.Common.{◌≡◌, ◌⊎◌, ◌<◌, ◌≤◌, ◌==◌, ◌&&◌, if◌then◌else◌, ℕ, Bool, true}
+use Rattle.std.proofs.Common.{false, List, [], ◌∷◌, length, Option, None, Some, option_map, Result}
+use Rattle.std.proofs.Common.{Ok, Err, IsOkAnd, get_or, inl, inr, refl, sym, ap, subst, arith}
+use Rattle.std.specs.Borrow.{Bor}
+use Rattle.std.specs.Map.{keys_of, values_of}
+use Rattle.jsonb_value.specs.Tree as trees
+use Rattle.jsonb_value.specs.Tree.{Tree, Pairs, no_pairs, pair, array, object}
+use Rattle.jsonb_value.specs.declared.error.Error.{Error}
+use Rattle.jsonb_codec.specs.Doc.{Doc}
+use Rattle.jsonb_codec.specs.Parts.{IsPayloadOf}
+use Rattle.jsonb.specs.Entries.{entry_there}
+use Rattle.jsonb.specs.Item.{Entry}
+use Rattle.jsonb.specs.Lookup.{find_pair}
+use Rattle.jsonb.specs.Node.{IsContainer, node_tree, value_of_key}
+use Rattle.jsonb.specs.StoredEntries.{AreMemberEntriesOf, find_entry}
+use Rattle.jsonb.specs.declared.document.Node.{Node}
+use Rattle.jsonb.specs.declared.entries.Entry.{Entry as PlacedEntry}
+use Rattle.jsonb.proofs.KindLaws.{container_cases}
+use Rattle.jsonb_functions.specs.Found.{found_at, if_there}
+use Rattle.jsonb_functions.specs.declared.path.Step.{Step}
+use Rattle.jsonb_functions.specs.declared.path.Step.TheVariants.{Key}
+use Rattle.jsonb_typed.specs.Surveys.{member_cell}
+use Rattle.jsonb_typed.specs.Types.{IsInt64, IsText, IsUInt64}
+use Rattle.jsonb_typed.specs.declared.numbers.Fit.{Fit}
+use Rattle.jsonb_typed.proofs.DocumentLaws as typed
+use Rattle.typed_vector.specs.Cells.{value}
+use Rattle.kohiblad.specs.PathPlaces.{HoldsFound, path_place_in, whole_place}
+use Rattle.kohiblad.proofs.PathPlaceLaws.{place_holds}
+use Rattle.kohiblad.specs.Places.{IsValuePlace, is_name}
+use Rattle.kohiblad.specs.Taking.{HoldsScalars, IsSomeTaken, IsTakenCell, IsTakenUnchecked}
+use Rattle.kohiblad.specs.Taking.{IsInt128, IsTruth}
+use Rattle.kohiblad.specs.UncheckedRows.{IsReadAs}
+
+pub no_document : (b : List ℕ) (t : Tree) → Doc b t → b ≡ [] → ⊥
+no_document b t document empty =
+    let some : 0 < length b = typed.some_bytes b t document in
+    let none : length b ≡ 0 = ap length empty in
+    omega (arith, some, none)
+
+-- The whole of a document has a place.
+pub whole_there : (b : List ℕ) (t : Tree) (e : Error) → Doc b t → Err e ≡ whole_place b → ⊥
+whole_there b t e document failed =
+    subst (λ (r : Result PlacedEntry Error). HoldsFound b (path_place_in [] b r) (Some t))
+    (sym failed) (place_holds b t [] document)
+
+-- The place of a key's value holds the value.
+module _ (b name : List ℕ) where
+  chosen : (first : Bool) (c : Entry) (t : Tree) (others : Option Entry) (left : Option Tree)
+      → IsPayloadOf c.type c.payload t
+      → ((o : Option PlacedEntry) → option_map (entry_there b) o ≡ others → HoldsFound b o left)
+      → (o : Option PlacedEntry)
+      → option_map (entry_there b) o ≡ (if first then Some c else others)
+      → HoldsFound b o (if first then Some t else left)
+  chosen true c t others left means later None is = absurd cc
+  chosen true c t others left means later (Some place) is =
+      let same : entry_there b place ≡ c = cc in
+      subst (λ (e : Entry). IsPayloadOf e.type e.payload t) (sym same) means
+  chosen false c t others left means later o is = later o is
+
+  accepts : List ℕ → Bool
+  accepts key = (length key == length name) && is_name name key
+
+  held_among : (ms : List (List ℕ × Entry)) (ps : Pairs)
+      → AreMemberEntriesOf (keys_of ms) (values_of ms) ps → (o : Option PlacedEntry)
+      → option_map (entry_there b) o ≡ find_entry (is_name name) (length name) ms
+      → HoldsFound b o (find_pair (is_name name) (length name) ps)
+  held_among [] no_pairs mean None is = tt
+  held_among [] no_pairs mean (Some place) is = absurd cc
+  held_among [] (pair k t ps) mean o is = absurd cc
+  held_among (m ∷ ms) no_pairs mean o is = absurd mean
+  held_among (m ∷ ms) (pair k t ps) mean o is =
+      subst
+      (λ (key : List ℕ). HoldsFound b o
+      (if (length key == length name) && is_name name key then Some t
+      else find_pair (is_name name) (length name) ps))
+      mean.0
+      (chosen ((length m.0 == length name) && is_name name m.0) m.1 t
+      (find_entry (is_name name) (length name) ms) (find_pair (is_name name) (length name) ps)
+      mean.1.0 (λ o is. held_among ms ps mean.1.1 o is) o is)
+
+  pub key_held : (t : Tree) (found : Result (Option PlacedEntry) Error)
+      → IsValuePlace b t name found → IsOkAnd found (λ o. HoldsFound b o (value_of_key name t))
+  key_held (object ps) found (ms, (stored, (o, (is, there)))) =
+      rw is (held_among ms ps stored.mean o there)
+  key_held t found is = rw is tt
+
+  end_of_key : (o : Option Tree) → if_there o (λ u. found_at [] u) ≡ o
+  end_of_key None = refl
+  end_of_key (Some t) = refl
+
+pub one_step : (path : List Step) (other s : Step) → 1 ≤ length path → length path < 2
+    → get_or path 0 other ≡ s → path ≡ s ∷ []
+one_step [] other s some few is = absurd (omega (arith, some))
+one_step (first ∷ []) other s some few is = let same : first ≡ s = is in rw same refl
+one_step (first ∷ (second ∷ path)) other s some few is = absurd (omega (arith, few))
+
+pub one_key_held : (b : List ℕ) (t : Tree) (key : Bor (List ℕ))
+    (found : Result (Option PlacedEntry) Error) → IsValuePlace b t key.now found
+    → IsOkAnd found (λ o. HoldsFound b o (found_at (Key key ∷ []) t))
+one_key_held b (array ts) key found is = rw is tt
+one_key_held b t key found is =
+    rw (end_of_key b key.now (value_of_key key.now t)) (key_held b key.now t found is)
+
+-- What was read of a row: a member or none, or only the state of the row.
+abbrev read_as : Option Node → Result (Option Node) ℕ
+read_as member = Ok member
+
+abbrev state_only : ℕ → Result (Option Node) ℕ
+state_only state = Err state
+
+-- What is taken of the member that was read.
+module _ {V : Type 0} (Stands : V → Tree → Type 0) (blank : V) where
+  some_taken : (o : Option Tree) (taken : V × ℕ)
+      → IsTakenCell Stands blank (member_cell o) taken → IsSomeTaken blank taken
+  some_taken None taken is = rw is (inr (refl, omega arith))
+  some_taken (Some t) taken (inl (stands, state)) = inl state
+  some_taken (Some trees.null) taken (inr (none, is)) = rw is (inr (refl, omega arith))
+  some_taken (Some t) taken (inr (none, is)) = rw is (inr (refl, omega arith))
+
+  unfit_container : (t : Tree) → IsContainer t → HoldsScalars Stands
+      → IsTakenCell Stands blank (value t) (blank, 3)
+  unfit_container t is scalars =
+      container_cases
+      (λ (u : Tree). ((v : V) → Stands v u → ⊥) → IsTakenCell Stands blank (value u) (blank, 3)) t
+      is (λ ts none. inr (none, refl)) (λ ps none. inr (none, refl)) (λ v. scalars v t is)
+
+  pub taken_member : (path : List Step) (row : List ℕ) (member : Option Node) (taken : V × ℕ)
+      → ((t : Tree) → Doc row t → IsReadAs (found_at path t) (Ok member))
+      → (row ≡ [] → read_as member ≡ read_as None)
+      → IsTakenCell Stands blank (member_cell (option_map node_tree member)) taken
+      → IsTakenUnchecked Stands blank path row taken
+  taken_member path row member taken read empty is = (
+    λ t document.
+        subst (λ (o : Option Tree). IsTakenCell Stands blank (member_cell o) taken)
+        (read t document) is,
+    (
+      λ none.
+          let absent : member ≡ None = let same = empty none in cc in
+          subst
+          (λ (o : Option Node).
+          IsTakenCell Stands blank (member_cell (option_map node_tree o)) taken)
+          absent is,
+      some_taken (option_map node_tree member) taken is,
+    ),
+  )
+
+  state_found : (o : Option Tree) (state : ℕ) → HoldsScalars Stands → IsReadAs o (Err state)
+      → IsTakenCell Stands blank (member_cell o) (blank, state)
+  state_found (Some t) state scalars (is, container) =
+      rw is (unfit_container t container scalars)
+  state_found None state scalars is = absurd is
+
+  pub taken_state : (path : List Step) (row : List ℕ) (state : ℕ) → HoldsScalars Stands
+      → ((t : Tree) → Doc row t → IsReadAs (found_at path t) (Err state))
+      → (row ≡ [] → state_only state ≡ read_as None)
+      → (state ≡ 3) ⊎ (state ≡ 4)
+      → IsTakenUnchecked Stands blank path row (blank, state)
+  taken_state path row state scalars read empty known = (
+    λ t document. state_found (found_at path t) state scalars (read t document),
+    (
+      λ none. let same = empty none in absurd cc,
+      known_state known,
+    ),
+  )
+    where
+      known_state : (state ≡ 3) ⊎ (state ≡ 4) → IsSomeTaken blank (blank, state)
+      known_state (inl is) = inr (refl, omega (arith, is))
+      known_state (inr is) = inr (refl, omega (arith, is))
+
+-- No value of a type stands for an array or object.
+pub scalar_texts : HoldsScalars IsText
+scalar_texts s t is same =
+    container_cases (λ (u : Tree). u ≡ trees.text s → ⊥) t is (λ ts other. cc) (λ ps other. cc) same
+
+pub scalar_int64s : (fit : Fit) → HoldsScalars (λ v t. IsInt64 fit v t)
+scalar_int64s fit v t is stands =
+    container_cases (λ (u : Tree). IsInt64 fit v u → ⊥) t is (λ ts h. h.1) (λ ps h. h.1) stands
+
+pub scalar_uint64s : (fit : Fit) → HoldsScalars (λ n t. IsUInt64 fit n t)
+scalar_uint64s fit n t is stands =
+    container_cases (λ (u : Tree). IsUInt64 fit n u → ⊥) t is (λ ts h. h.1) (λ ps h. h.1) stands
+
+pub scalar_int128s : (fit : Fit) (scale : ℕ) → HoldsScalars (IsInt128 fit scale)
+scalar_int128s fit scale v t is stands =
+    container_cases (λ (u : Tree). IsInt128 fit scale v u → ⊥) t is (λ ts h. h.1) (λ ps h. h.1)
+    stands
+
+pub scalar_truths : HoldsScalars IsTruth
+scalar_truths v t is (b, (truth, same)) =
+    container_cases (λ (u : Tree). u ≡ trees.boolean b → ⊥) t is (λ ts other. cc) (λ ps other. cc)
+    same

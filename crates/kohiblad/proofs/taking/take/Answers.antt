@@ -1,0 +1,50 @@
+use Rattle.std.proofs.Common.{◌≡◌, true, length, List, inr, subst, ◌∙◌, rules}
+use Rattle.jsonb.specs.Within.{meaning_within}
+use Rattle.jsonb_functions.specs.declared.path.Step.{Step}
+use Rattle.kohiblad.specs.Rows.{are_offsets, rows}
+use Rattle.kohiblad.specs.Taking.{AreKept, AreRowsTaken, IsReadRow, not_taken}
+use Rattle.kohiblad.proofs.OverRowsLaws.{not_refused, same_path}
+use Rattle.kohiblad.proofs.taking.take.Goals as goal
+
+pub returns-in-Ok-steps_of : goal.returns-in-Ok-steps_of
+returns-in-Ok-steps_of g c =
+    let source = c.args.source in
+    let good : are_offsets (length source.bytes.now) 0 source.offsets.now ≡ true = search rules in
+    let all : c.in-Ok.rows ≡ rows source.bytes.now source.offsets.now = search rules in
+    inr (
+      good,
+      same_path _
+          (λ status. (c.take_rows.result ≡ not_taken status)
+          × AreKept (record {
+            values = c.args.values.now;
+            values_after = c.take_rows.new.values;
+            states = c.args.states.now;
+            states_after = c.take_rows.new.states;
+          }))
+          _
+          (λ path. AreRowsTaken
+          (IsReadRow (g.T.ColumnType.stands c.args.column_type.now) c.args.blank source.reading
+          path)
+          (rows source.bytes.now source.offsets.now)
+          (record {
+            values = c.args.values.now;
+            values_after = c.take_rows.new.values;
+            states = c.args.states.now;
+            states_after = c.take_rows.new.states;
+          }) c.take_rows.result)
+          (λ status refused. absurd (not_refused c.in-Ok-steps_of.steps status refused))
+          (λ path is.
+          subst
+          (λ (path : List Step). AreRowsTaken
+          (IsReadRow (g.T.ColumnType.stands c.args.column_type.now) c.args.blank source.reading
+          path)
+          (rows source.bytes.now source.offsets.now)
+          (record {
+            values = c.args.values.now;
+            values_after = c.take_rows.new.values;
+            states = c.args.states.now;
+            states_after = c.take_rows.new.states;
+          }) c.take_rows.result)
+          (c.deref.ensures.value ∙ is) (rw all at c.take_rows.ensures))
+          (meaning_within source.depth source.path.now) c.in-Ok-steps_of.ensures,
+    )
