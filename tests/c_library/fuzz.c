@@ -645,6 +645,7 @@ static const char *const paths[][2] = {
     { "$.b[#-3]", "[\"b\",-3]" }, { "$.\"\".\"\"", "[\"\",\"\"]" },
     { "$[007]", "[7]" }, { "$[#-9999999999999999999]", "[-9223372036854775808]" },
     { "$[99999999999999999999]", "[18446744073709551615]" },
+    { "$[last]", "[-1]" }, { "$[last - 2].a[last-0]", "[-3,\"a\",-1]" },
 };
 enum { PATHS = sizeof paths / sizeof *paths };
 
@@ -785,10 +786,11 @@ static void names_within(struct block b, bool shallow, size_t depth) {
 /* The children of a document are what wildcards select, in order. */
 static void select_within(struct block b, bool shallow, size_t depth,
                           struct kohiblad_value_kind kind) {
-    enum { MANY = 64, GOOD = 8 };
+    enum { MANY = 64, GOOD = 10 };
     static struct kohiblad_place out[MANY], before[MANY];
     static const char *const tried[] = { "$[*]", "$.*", "$[1 to #-1]", "$[*][*]", "$.*.*",
                                          "$[0 to 0].*", "$?(@ == null)", "$[*]?(@[0] != 5)",
+                                         "$[last, 0,0]", "$.*[0, last - 1]",
                                          "a", "$[", "$.", "$[1 to]", "", "$?(@ == )",
                                          "$[*]?(@[*] < 5)", "$[*]?(@ < 5" };
     uint32_t which = below(sizeof tried / sizeof *tried);
@@ -809,7 +811,8 @@ static void select_within(struct block b, bool shallow, size_t depth,
     for (size_t i = 0; i < count; i++) {
         assert(out[i].status == KOHIBLAD_OK);
         assert(out[i].offset <= b.size && out[i].length <= b.size - out[i].offset);
-        assert(i == 0 || out[i - 1].offset + out[i - 1].length <= out[i].offset);
+        assert(i == 0 || out[i - 1].offset + out[i - 1].length <= out[i].offset
+               || strchr(tried[which], ','));
     }
     assert(count == MANY || !memcmp(out + count, before, (MANY - count) * sizeof *out));
     if (status == KOHIBLAD_OK && which < 3) {

@@ -410,8 +410,8 @@ def in_order(value):
 
 def children(value, step):
     """The children to which a step of a path with wildcards leads: a key, an index, `*` for all
-    items, `.*` for all members, or the first and the last index of a range. A filter leads to the
-    value itself, or to nothing."""
+    items, `.*` for all members, the first and the last index of a range, or the indexes of a list.
+    A filter leads to the value itself, or to nothing."""
     kind, *rest = step
     if kind == "filter":
         steps, comparison, literal = rest
@@ -431,6 +431,8 @@ def children(value, step):
     if kind == "range":
         (first, _), (last, is_there) = (place(it, len(value)) for it in rest)
         return value[first:last + is_there]
+    if kind == "list":
+        return [it for index in rest for it in children(value, ("index", index))]
     return []
 
 
@@ -522,10 +524,15 @@ def entry_at(stored, found):
     return found.type, stored[found.offset:found.offset + found.length]
 
 
+# How many steps a path has, and how many indexes a list in it.
+MOST_STEPS = 4
+MOST_INDEXES = 3
+
+
 def places_of(stored, text, depth):
     """The status of a selection, and the places that it found."""
     export, crossed = call("select", stored, text, SIZE(depth))
-    places, count = (Place * (len(stored) // 4 + 1))(), SIZE()
+    places, count = (Place * ((len(stored) // 4 + 1) * MOST_INDEXES**MOST_STEPS))(), SIZE()
     status = export(*crossed, places, SIZE(len(places)), ctypes.byref(count))
     return status, places[:count.value]
 
@@ -582,6 +589,14 @@ def path_document(path, stored=True):
     return document([it if isinstance(it, str) else whole(it) for it in path], stored)
 
 
+def index_text(chance, index):
+    if index >= 0:
+        return str(index)
+    if chance.random() < 0.5:
+        return f"#{index}"
+    return "last" + (chance.choice(["-%d", " - %d"]) % (-1 - index) if index < -1 else "")
+
+
 def written(chance, step):
     """A step of a path with wildcards as a text."""
     kind, *rest = step
@@ -589,12 +604,14 @@ def written(chance, step):
         steps, comparison, literal = rest
         path = "".join(written(chance, it) for it in steps)
         return f"?(@{path} {comparison} {literal})"
-    bound = ["[%d]" % it if it >= 0 else "[#%d]" % it for it in rest if kind != "key"]
+    bound = [f"[{index_text(chance, it)}]" for it in rest if kind != "key"]
     if kind == "key":
         is_plain = rest[0] and rest[0] != "*" and chance.random() < 0.5
         return f".{rest[0]}" if is_plain else f'."{rest[0]}"'
     if kind == "range":
         return f"{bound[0][:-1]} to {bound[1][1:]}"
+    if kind == "list":
+        return "[%s]" % chance.choice([",", ", "]).join(it[1:-1] for it in bound)
     return {"*": "[*]", ".*": ".*"}.get(kind) or bound[0]
 
 
@@ -603,7 +620,10 @@ def any_filter(chance):
     return "filter", steps, chance.choice(list(COMPARISONS)), chance.choice(list(LITERALS))
 
 
-def any_step(chance, kinds=("key", "key", "index", "index", "*", ".*", "range", "filter")):
+ALL_STEPS = ("key", "key", "index", "index", "*", ".*", "range", "list", "filter")
+
+
+def any_step(chance, kinds=ALL_STEPS):
     kind = chance.choice(kinds)
     if kind == "filter":
         return any_filter(chance)
@@ -613,6 +633,8 @@ def any_step(chance, kinds=("key", "key", "index", "index", "*", ".*", "range", 
         return kind, chance.randint(-3, 3)
     if kind == "range":
         return kind, chance.randint(-3, 3), chance.randint(-3, 3)
+    if kind == "list":
+        return kind, *(chance.randint(-3, 3) for _ in range(chance.randint(2, MOST_INDEXES)))
     return kind,
 
 
@@ -748,13 +770,14 @@ def asks_strip_nulls(chance, left, right):
 
 
 def asks_select(chance, left, right):
-    path = [any_step(chance) for _ in range(chance.randint(0, 4))]
+    path = [any_step(chance) for _ in range(chance.randint(0, MOST_STEPS))]
     stored, text = document(left), path_text(chance, path)
     status, places = places_of(stored, text, depth_of(left))
     assert status == OK
     wanted = [entry(it, stored=True) for it in selected(left, path)]
     assert [entry_at(stored, it) for it in places] == wanted, text
-    assert all(it.offset <= after.offset for it, after in zip(places, places[1:])), text
+    if not any(kind == "list" for kind, *_ in path):
+        assert all(it.offset <= after.offset for it, after in zip(places, places[1:])), text
 
 
 def asks_get_path(chance, left, right):

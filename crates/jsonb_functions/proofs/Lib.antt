@@ -23,6 +23,7 @@ pub mod StoredPathLaws
 pub mod SelectLaws
 pub mod SelectStepLaws
 pub mod PathTextLaws
+pub mod IndexTextLaws
 pub mod PathStepLaws
 pub mod FilterTextLaws
 pub mod PathDocumentLaws

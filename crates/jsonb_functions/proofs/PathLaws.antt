@@ -221,13 +221,15 @@ as_written : (text : List ℕ) (s : SelectorView) (rest : List ℕ)
 as_written text s rest other (inl h) = h
 as_written text s rest other (inr (condition, e, h)) = absurd (other condition e)
 
-pub no_filter : (text : List ℕ) (r : Option (Selector × Bor (List ℕ)))
+pub no_filter : {E : Type 0} (text : List ℕ) (r : Result (Option (Selector × Bor (List ℕ))) E)
     → ((rest : List ℕ) → after_spaces text ≡ 63 ∷ rest → ⊥)
-    → ReadsStep (BeginsWith false) false text r → ReadsStep BeginsWithStep false text r
-no_filter text r other h = record {
-  is = as_step text r h.is;
+    → IfOk r (ReadsStep (BeginsWith false) false text)
+    → IfOk r (ReadsStep BeginsWithStep false text)
+no_filter text (Ok x) other h = record {
+  is = as_step text x h.is;
   only = λ s later b stops. h.only s later (as_written text s later other b) stops;
 }
+no_filter text (Err x) other h = tt
 
 -- The path of a text.
 pub other_text : (text : List ℕ) → ((rest : List ℕ) → text ≡ 36 ∷ rest → ⊥)

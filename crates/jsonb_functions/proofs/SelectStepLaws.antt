@@ -1,12 +1,13 @@
--- How many steps a path with wildcards takes: at most as many for each selector as the tree weighs.
+-- How many steps a path with wildcards takes: at most as many for each selector as the tree weighs,
+-- as often as there are ways to it.
 use Rattle.std.proofs.Common.{◌≡◌, ◌≤◌, ◌+◌, ◌*◌, ℕ, zero, suc, List, [], ◌∷◌, length, map, take}
-use Rattle.std.proofs.Common.{drop, refl, ap, ◌∙◌, arith}
+use Rattle.std.proofs.Common.{drop, refl, sym, ap, ◌∙◌, ◌++◌, arith, flat_map}
 use Rattle.std.specs.Prelude.{Bool, true, false, Option, None, Some, slice_get, option_to_list}
 use Rattle.std.specs.Prelude.{if◌then◌else◌, nat_eq, ◌&&◌, ◌==◌}
 use Rattle.std.specs.Cmp.Lexicographic.{pointwise}
 use Rattle.std.specs.List.{sum_by}
-use Rattle.std.proofs.lemmas.List.Sums.{sum_by-cons}
-use Rattle.std.proofs.Math.Nat.{add-mul, mul-add}
+use Rattle.std.proofs.lemmas.List.Sums.{sum_by-append, sum_by-cons}
+use Rattle.std.proofs.Math.Nat.{add-mul, mul-add, mul_assoc, mul_left_comm}
 use Rattle.std.proofs.lemmas.Nat.{mul-le}
 use Rattle.jsonb_value.specs.Tree.{Tree, null, boolean, number, text, extension, array, object}
 use Rattle.jsonb_value.specs.Tree.{Trees, no_trees, tree, Pairs, no_pairs, pair, count, pair_count}
@@ -17,17 +18,19 @@ use Rattle.jsonb_functions.specs.declared.filter.Term.{Term}
 use Rattle.jsonb_functions.specs.declared.filter.Term.TheVariants as terms
 use Rattle.jsonb_functions.specs.declared.path.Step.{Step}
 use Rattle.jsonb_functions.specs.declared.path.Step.TheVariants as steps
+use Rattle.jsonb_functions.specs.declared.selection.Bound.{Bound}
 use Rattle.jsonb_functions.specs.declared.selection.Selector.{Selector}
 use Rattle.jsonb_functions.specs.declared.selection.Selector.TheVariants.{AllItems, AllMembers}
 use Rattle.jsonb_functions.specs.declared.selection.Selector.TheVariants.{Filter, FromEnd, Index}
-use Rattle.jsonb_functions.specs.declared.selection.Selector.TheVariants.{Key, Range}
+use Rattle.jsonb_functions.specs.declared.selection.Selector.TheVariants.{Indexes, Key, Range}
 use Rattle.jsonb_functions.specs.Contains.{items_or_none}
 use Rattle.jsonb_functions.specs.Filter.{holds}
 use Rattle.jsonb_functions.specs.Found.{child_at, item_there}
 use Rattle.jsonb_functions.specs.Path.{item_place}
 use Rattle.jsonb_functions.specs.Selected.{children_at, items_before, items_through, member_trees}
+use Rattle.jsonb_functions.specs.Selected.{step_at, trees_at}
 use Rattle.jsonb_functions.specs.SelectSteps.{asked, extent, extents, number_there, path_size}
-use Rattle.jsonb_functions.specs.SelectSteps.{select_steps, selector_size, term_steps}
+use Rattle.jsonb_functions.specs.SelectSteps.{select_steps, selector_size, term_steps, ways}
 use Rattle.jsonb_functions.specs.Weight.{pair_weights, weight, weights}
 use Rattle.jsonb_functions.proofs.StepLaws.{weight_positive}
 
@@ -163,7 +166,19 @@ terms_within (term ∷ ts) t =
       sum_by-cons (λ x. term_steps x t) term ts,
     )
 
+indexes_within : (indexes : List Bound) (t : Tree)
+    → sum_by (λ index. suc (extent t)) indexes ≤ length indexes * weight t
+indexes_within [] t = omega arith
+indexes_within (index ∷ indexes) t =
+    omega (
+      arith,
+      extent_within t,
+      indexes_within indexes t,
+      sum_by-cons {X = Bound} (λ x. suc (extent t)) index indexes,
+    )
+
 asked_within : (s : Selector) (t : Tree) → asked s t ≤ selector_size s * weight t
+asked_within (Indexes indexes) t = indexes_within indexes.items t
 asked_within (Key k) t = omega (arith, extent_within t)
 asked_within (Index i) t = omega (arith, extent_within t)
 asked_within (FromEnd i) t = omega (arith, extent_within t)
@@ -220,12 +235,27 @@ kept_total : (b : Bool) (t : Tree) → total (if b then t ∷ [] else []) ≤ we
 kept_total true t = omega (arith, total_cons t [])
 kept_total false t = omega arith
 
-children_within : (s : Selector) (t : Tree) → total (children_at s t) ≤ weight t
-children_within (Key k) t = child_total (steps.Key k) t (child_at (steps.Key k) t) refl
-children_within (Index i) t = child_total (steps.Index i) t (child_at (steps.Index i) t) refl
-children_within (FromEnd i) t = child_total (steps.FromEnd i) t (child_at (steps.FromEnd i) t) refl
-children_within AllItems t = items_total t
-children_within AllMembers t = members_total t
+step_total : (s : Step) (t : Tree) → total (option_to_list (child_at s t)) ≤ weight t
+step_total s t = child_total s t (child_at s t) refl
+
+at_total : (indexes : List Bound) (t : Tree)
+    → total (trees_at indexes t) ≤ length indexes * weight t
+at_total [] t = omega arith
+at_total (index ∷ indexes) t =
+    omega (
+      arith,
+      step_total (step_at index) t,
+      at_total indexes t,
+      sum_by-append weight (option_to_list (child_at (step_at index) t)) (trees_at indexes t),
+    )
+
+-- as often as there are ways to them
+children_within : (s : Selector) (t : Tree) → total (children_at s t) ≤ ways s * weight t
+children_within (Key k) t = omega (arith, step_total (steps.Key k) t)
+children_within (Index i) t = omega (arith, step_total (steps.Index i) t)
+children_within (FromEnd i) t = omega (arith, step_total (steps.FromEnd i) t)
+children_within AllItems t = omega (arith, items_total t)
+children_within AllMembers t = omega (arith, members_total t)
 children_within (Range first last) t =
     let ts = tree_list (items_or_none t) in
     let through = items_through last (length ts) in
@@ -235,7 +265,8 @@ children_within (Range first last) t =
       total_taken through ts,
       items_total t,
     )
-children_within (Filter condition) t = kept_total (holds condition t) t
+children_within (Indexes indexes) t = at_total indexes.items t
+children_within (Filter condition) t = omega (arith, kept_total (holds condition t) t)
 
 sum_within : (path : List Selector) (us : List Tree)
     → ((u : Tree) → select_steps path u ≤ path_size path * weight u)
@@ -257,13 +288,17 @@ pub steps_within : (path : List Selector) (t : Tree)
 steps_within [] t = omega arith
 steps_within (s ∷ path) t =
     let us = children_at s t in
-    let fewer : path_size path * total us ≤ path_size path * weight t =
-    mul-le (path_size path) (total us) (path_size path) (weight t) (omega arith)
+    let fewer : path_size path * total us ≤ path_size path * (ways s * weight t) =
+    mul-le (path_size path) (total us) (path_size path) (ways s * weight t) (omega arith)
     (children_within s t) in
+    let same : path_size path * (ways s * weight t) ≡ (ways s * path_size path) * weight t =
+    mul_left_comm (path_size path) (ways s) (weight t)
+    ∙ sym (mul_assoc (ways s) (path_size path) (weight t)) in
     omega (
       arith,
       asked_within s t,
       sum_within path us (λ u. steps_within path u),
       fewer,
-      add-mul (selector_size s) (path_size path) (weight t),
+      same,
+      add-mul (selector_size s) (ways s * path_size path) (weight t),
     )

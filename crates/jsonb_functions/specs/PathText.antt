@@ -11,7 +11,6 @@ use Rattle.jsonb_value.specs.Json.Syntax.{JsonWithExponents}
 use Rattle.jsonb_value.specs.Tree as trees
 use Rattle.jsonb_value.specs.Tree.{Tree}
 use Rattle.jsonb.specs.Node.{node_tree}
-use Rattle.std.specs.List.{after_first, before_first}
 use Rattle.std.specs.Option.{option_or}
 use Rattle.jsonb_functions.specs.declared.filter.Comparison.{Comparison}
 use Rattle.jsonb_functions.specs.declared.filter.Comparison.TheVariants as comparisons
@@ -48,6 +47,7 @@ pub data SelectorView : Type 0 where
   all_items : SelectorView
   all_members : SelectorView
   range : Bound → Bound → SelectorView
+  indexes : List Bound → SelectorView
   filter : List TermView → SelectorView
 
 abbrev pub selector_view : Selector → SelectorView
@@ -57,6 +57,7 @@ selector_view (selectors.FromEnd i) = step (from_end i)
 selector_view selectors.AllItems = all_items
 selector_view selectors.AllMembers = all_members
 selector_view (selectors.Range first last) = range first last
+selector_view (selectors.Indexes l) = indexes l.items
 selector_view (selectors.Filter condition) = filter (map term_view condition.terms.items)
 
 -- The step that leads to one value, if it is one.
@@ -65,6 +66,7 @@ single_step (step s) = Some s
 single_step all_items = None
 single_step all_members = None
 single_step (range first last) = None
+single_step (indexes l) = None
 single_step (filter ts) = None
 
 -- The steps of a path that each lead to one value, if each does.
@@ -136,14 +138,43 @@ from_end_of zero = bounds.FromStart (2 ^ 64 - 1)
 from_end_of (suc n) = bounds.FromEnd n
 
 -- An item: a number from the start, `#-` and a number from the end, or `#`, past the last one.
-abbrev pub bound_in : List ℕ → Option Bound
-bound_in [] = None
-bound_in (c ∷ []) =
+abbrev pub counted_in : List ℕ → Option Bound
+counted_in [] = None
+counted_in (c ∷ []) =
     if c == 35 then Some (from_end_of 0)
     else option_map (λ n. bounds.FromStart n) (capped_number (c ∷ []))
-bound_in (c ∷ (d ∷ ds)) =
+counted_in (c ∷ (d ∷ ds)) =
     if (c == 35) && (d == 45) then option_map from_end_of (capped_number ds)
     else option_map (λ n. bounds.FromStart n) (capped_number (c ∷ (d ∷ ds)))
+
+-- What is after a byte, if it is the first one.
+abbrev pub tail_after : ℕ → List ℕ → Option (List ℕ)
+tail_after c [] = None
+tail_after c (d ∷ ds) = if d == c then Some ds else None
+
+abbrev pub if_after : {A : Type 0} → Option (List ℕ) → (List ℕ → Option A) → Option A
+if_after None f = None
+if_after (Some rest) f = f rest
+
+-- What is after a word, if it comes first.
+abbrev pub tail_after_word : List ℕ → List ℕ → Option (List ℕ)
+tail_after_word [] text = Some text
+tail_after_word (c ∷ word) text = if_after (tail_after c text) (tail_after_word word)
+
+-- How far before the last item: nothing is 0, and else there is a `-`, with spaces around it or
+-- none, and a number.
+abbrev pub back_in : List ℕ → Option ℕ
+back_in [] = Some 0
+back_in (c ∷ cs) =
+    if_after (tail_after 45 (after_spaces (c ∷ cs))) (λ ds. capped_number (after_spaces ds))
+
+-- An item: so far before the last one, after `last`, or one that is counted.
+abbrev pub bound_after : Option (List ℕ) → List ℕ → Option Bound
+bound_after None text = counted_in text
+bound_after (Some rest) text = option_map (λ n. bounds.FromEnd n) (back_in rest)
+
+abbrev pub bound_in : List ℕ → Option Bound
+bound_in text = bound_after (tail_after_word (codes "last") text) text
 
 -- The step to an item.
 abbrev pub item_at : Bound → SelectorView
@@ -156,19 +187,58 @@ range_of (Some first) (Some last) = Some (range first last)
 range_of (Some first) None = None
 range_of None last = None
 
--- The items from one to another: `first to last`, with single spaces.
-abbrev pub range_in : List ℕ → Option SelectorView
-range_in place =
-    let rest = after_first is_space place in
-    if bytes_eq (before_first is_space rest) (codes "to")
-    then range_of (bound_in (before_first is_space place)) (bound_in (after_first is_space rest))
-    else None
+-- What is before the first ` to `, and what is after it.
+abbrev pub ends_with : Option (List ℕ) → ℕ → Option (List ℕ × List ℕ)
+    → Option (List ℕ × List ℕ)
+ends_with (Some rest) c later = Some ([], rest)
+ends_with None c (Some ends) = Some (c ∷ ends.0, ends.1)
+ends_with None c None = None
 
--- What is between brackets: `*` is each item, and else an item or a range.
+abbrev pub ends_in : List ℕ → Option (List ℕ × List ℕ)
+ends_in [] = None
+ends_in (c ∷ cs) = ends_with (tail_after_word (codes " to ") (c ∷ cs)) c (ends_in cs)
+
+-- The items from one to another: `first to last`, with single spaces.
+abbrev pub range_at : Option (List ℕ × List ℕ) → Option SelectorView
+range_at None = None
+range_at (Some ends) = range_of (bound_in ends.0) (bound_in ends.1)
+
+abbrev pub range_in : List ℕ → Option SelectorView
+range_in place = range_at (ends_in place)
+
+-- An item, or the items from one to another.
+abbrev pub items_in : List ℕ → Option SelectorView
+items_in place = option_or (option_map item_at (bound_in place)) (range_in place)
+
+-- The parts of bytes between commas.
+abbrev pub onto_first : ℕ → List (List ℕ) → List (List ℕ)
+onto_first c [] = (c ∷ []) ∷ []
+onto_first c (part ∷ parts) = (c ∷ part) ∷ parts
+
+abbrev pub parts_of : List ℕ → List (List ℕ)
+parts_of [] = [] ∷ []
+parts_of (c ∷ cs) = if c == 44 then [] ∷ parts_of cs else onto_first c (parts_of cs)
+
+-- The items of these parts, if each is one, after spaces or none.
+abbrev pub bound_then : Option Bound → Option (List Bound) → Option (List Bound)
+bound_then (Some bound) (Some more) = Some (bound ∷ more)
+bound_then (Some bound) None = None
+bound_then None more = None
+
+abbrev pub bounds_in : List (List ℕ) → Option (List Bound)
+bounds_in [] = Some []
+bounds_in (part ∷ parts) = bound_then (bound_in (after_spaces part)) (bounds_in parts)
+
+abbrev pub indexes_in : List ℕ → Option (List Bound)
+indexes_in place = bounds_in (parts_of place)
+
+-- What is between brackets: `*` is each item, and else an item or a range, or a list of items if
+-- there is a comma.
 abbrev pub place_in : List ℕ → Option SelectorView
 place_in place =
     if bytes_eq place (codes "*") then Some all_items
-    else option_or (option_map item_at (bound_in place)) (range_in place)
+    else if all_are (is_not 44) place then items_in place
+    else option_map indexes (indexes_in place)
 
 -- The step that is written so, if it is one. There is no quote between quotes, and no bracket
 -- between brackets.
@@ -266,15 +336,6 @@ pub record BeginsWithTest (text : List ℕ) (t : TermView) (rest : List ℕ) : T
   pub is_comparison : IsComparison after_path comparison after_comparison
   pub is_value : BeginsWithLiteral after_comparison value rest
   pub is : t ≡ tested steps comparison value
-
--- What is after a byte, if it is the first one.
-abbrev pub tail_after : ℕ → List ℕ → Option (List ℕ)
-tail_after c [] = None
-tail_after c (d ∷ ds) = if d == c then Some ds else None
-
-abbrev pub if_after : Option (List ℕ) → (List ℕ → Option (List ℕ)) → Option (List ℕ)
-if_after None f = None
-if_after (Some rest) f = f rest
 
 -- What is after two such bytes.
 abbrev pub tail_after_two : ℕ → List ℕ → Option (List ℕ)

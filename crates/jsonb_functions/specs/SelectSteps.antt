@@ -1,5 +1,5 @@
 -- How many steps a path with wildcards takes.
-use Rattle.std.specs.Prelude.{ℕ, suc, ◌+◌, List, [], ◌∷◌, length, Option, None, Some}
+use Rattle.std.specs.Prelude.{ℕ, suc, ◌+◌, ◌*◌, List, [], ◌∷◌, length, Option, None, Some}
 use Rattle.std.specs.List.{sum_by}
 use Rattle.jsonb_value.specs.Order.{extension_data}
 use Rattle.jsonb_value.specs.Tree.{Tree, text, extension, array, object, count, pair_count}
@@ -7,7 +7,7 @@ use Rattle.jsonb_functions.specs.declared.filter.Term.{Term}
 use Rattle.jsonb_functions.specs.declared.filter.Term.TheVariants as terms
 use Rattle.jsonb_functions.specs.declared.path.Step.{Step}
 use Rattle.jsonb_functions.specs.declared.selection.Selector.{Selector}
-use Rattle.jsonb_functions.specs.declared.selection.Selector.TheVariants.{Filter}
+use Rattle.jsonb_functions.specs.declared.selection.Selector.TheVariants.{Filter, Indexes}
 use Rattle.jsonb_functions.specs.Found.{child_at}
 use Rattle.jsonb_functions.specs.Selected.{children_at}
 
@@ -34,19 +34,27 @@ abbrev pub term_steps : Term → Tree → ℕ
 term_steps (terms.Test test) t = suc (extents test.path.items t)
 term_steps term t = 1
 
--- The steps to ask a selector of a tree: one and its extent, and for a filter those of its terms.
+-- The steps to ask a selector of a tree: one and its extent, for a list of indexes as often as it
+-- has one, and for a filter those of its terms.
 abbrev pub asked : Selector → Tree → ℕ
+asked (Indexes indexes) t = sum_by (λ index. suc (extent t)) indexes.items
 asked (Filter condition) t = sum_by (λ term. term_steps term t) condition.terms.items
 asked s t = suc (extent t)
 
--- How many selectors a path has, where each term of a filter counts as one.
+-- How many selectors a path has, where each term of a filter and each index of a list counts as
+-- one, and those after a list as often as it has an index.
 abbrev pub selector_size : Selector → ℕ
+selector_size (Indexes indexes) = length indexes.items
 selector_size (Filter condition) = length condition.terms.items
 selector_size s = 1
 
+abbrev pub ways : Selector → ℕ
+ways (Indexes indexes) = length indexes.items
+ways s = 1
+
 abbrev pub path_size : List Selector → ℕ
 path_size [] = 0
-path_size (s ∷ path) = selector_size s + path_size path
+path_size (s ∷ path) = selector_size s + ways s * path_size path
 
 -- The steps to follow a path from a tree: to ask its first selector, and to follow the others from
 -- each child to which that leads.

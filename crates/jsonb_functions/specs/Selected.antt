@@ -4,16 +4,18 @@ use Rattle.std.specs.Prelude.{Option, None, Some, option_to_list}
 use Rattle.jsonb_value.specs.Tree.{Tree, object}
 use Rattle.jsonb.specs.EntryTrees.{rest_trees, rest_pairs}
 use Rattle.jsonb.specs.Node.{node_tree, pair_list, tree_list}
+use Rattle.jsonb_functions.specs.declared.path.Step.{Step}
 use Rattle.jsonb_functions.specs.declared.path.Step.TheVariants as steps
 use Rattle.jsonb_functions.specs.declared.selection.Bound.{Bound}
 use Rattle.jsonb_functions.specs.declared.selection.Bound.TheVariants as bounds
 use Rattle.jsonb_functions.specs.declared.selection.Chosen.{Chosen}
 use Rattle.jsonb_functions.specs.declared.selection.Chosen.TheVariants as walks
 use Rattle.jsonb_functions.specs.declared.selection.FirstItems.{FirstItems}
+use Rattle.jsonb_functions.specs.declared.selection.Listed.{Listed}
 use Rattle.jsonb_functions.specs.declared.selection.Selector.{Selector}
 use Rattle.jsonb_functions.specs.declared.selection.Selector.TheVariants.{AllItems, AllMembers}
 use Rattle.jsonb_functions.specs.declared.selection.Selector.TheVariants.{FromEnd, Index, Key}
-use Rattle.jsonb_functions.specs.declared.selection.Selector.TheVariants.{Filter, Range}
+use Rattle.jsonb_functions.specs.declared.selection.Selector.TheVariants.{Filter, Indexes, Range}
 use Rattle.jsonb_functions.specs.Contains.{items_or_none}
 use Rattle.jsonb_functions.specs.Filter.{filtered}
 use Rattle.jsonb_functions.specs.Found.{child_at}
@@ -38,8 +40,17 @@ abbrev pub member_trees : Tree → List Tree
 member_trees (object ps) = map (λ p. p.1) (pair_list ps)
 member_trees t = []
 
--- The children that a selector leads to, in the order in which they are stored; a filter leads to
--- the tree itself.
+-- The step to an item at an index.
+abbrev pub step_at : Bound → Step
+step_at (bounds.FromStart i) = steps.Index i
+step_at (bounds.FromEnd i) = steps.FromEnd i
+
+-- The items at indexes, in the order of these, of an array that has them.
+abbrev pub trees_at : List Bound → Tree → List Tree
+trees_at indexes t = flat_map (λ index. option_to_list (child_at (step_at index) t)) indexes
+
+-- The children that a selector leads to, in the order in which they are stored, or of the indexes;
+-- a filter leads to the tree itself.
 abbrev pub children_at : Selector → Tree → List Tree
 children_at (Key k) t = option_to_list (child_at (steps.Key k) t)
 children_at (Index i) t = option_to_list (child_at (steps.Index i) t)
@@ -47,9 +58,10 @@ children_at (FromEnd i) t = option_to_list (child_at (steps.FromEnd i) t)
 children_at AllItems t = tree_list (items_or_none t)
 children_at AllMembers t = member_trees t
 children_at (Range first last) t = trees_between first last (tree_list (items_or_none t))
+children_at (Indexes indexes) t = trees_at indexes.items t
 children_at (Filter condition) t = filtered condition t
 
--- What is at the ends of all ways that a path allows, in the order in which it is stored.
+-- What is at the ends of all ways that a path allows, in the order in which these lead to it.
 abbrev pub selected : List Selector → Tree → List Tree
 selected [] t = t ∷ []
 selected (s ∷ path) t = flat_map (λ u. selected path u) (children_at s t)
@@ -63,8 +75,18 @@ first_tree (t ∷ ts) = Some t
 abbrev pub first_trees : FirstItems → List Tree
 first_trees first = take first.count (rest_trees first.items)
 
--- The children that are left in a walk over them.
-abbrev pub chosen_trees : Chosen → List Tree
-chosen_trees (walks.Child child) = map node_tree (option_to_list child)
-chosen_trees (walks.Items first) = first_trees first
-chosen_trees (walks.Members members) = map (λ p. p.1) (rest_pairs members)
+-- The indexes of a list; none of any other selector.
+abbrev pub indexes_of : Selector → List Bound
+indexes_of (Indexes indexes) = indexes.items
+indexes_of s = []
+
+-- The items at those of the indexes that are left in a walk over them.
+abbrev pub indexed_trees : List Bound → Listed → List Tree
+indexed_trees indexes listed = trees_at (drop listed.passed indexes) (node_tree listed.node)
+
+-- The children that are left in a walk over them, for a list of indexes those at these.
+abbrev pub chosen_trees : List Bound → Chosen → List Tree
+chosen_trees indexes (walks.Child child) = map node_tree (option_to_list child)
+chosen_trees indexes (walks.Items first) = first_trees first
+chosen_trees indexes (walks.Members members) = map (λ p. p.1) (rest_pairs members)
+chosen_trees indexes (walks.Listed listed) = indexed_trees indexes listed

@@ -59,17 +59,20 @@ pub use Rattle.jsonb_functions.specs.PathText.{BeginsWithStep, BeginsWithTerm, B
 pub use Rattle.jsonb_functions.specs.PathText.{EndsName, IsComparison, IsFilter, IsFilterPath}
 pub use Rattle.jsonb_functions.specs.PathText.{IsLiteralWord, PathText}
 pub use Rattle.jsonb_functions.specs.PathText.{Reads, ReadsStep, SelectorView, StopsAt, TermView}
-pub use Rattle.jsonb_functions.specs.PathText.{after_spaces, all_are, bound_in, capped_number}
-pub use Rattle.jsonb_functions.specs.PathText.{comparison_in, ends_in_space, from_end_of}
+pub use Rattle.jsonb_functions.specs.PathText.{after_spaces, all_are, back_in, bound_in}
+pub use Rattle.jsonb_functions.specs.PathText.{capped_number, comparison_in, counted_in, ends_in}
+pub use Rattle.jsonb_functions.specs.PathText.{ends_in_space, from_end_of, indexes, indexes_in}
 pub use Rattle.jsonb_functions.specs.PathText.{is_in_name, is_in_word, is_not, is_space, item_at}
-pub use Rattle.jsonb_functions.specs.PathText.{mark_in, member_step, name_len, path_view, place_in}
-pub use Rattle.jsonb_functions.specs.PathText.{range_in, state_after, tail_after, tail_after_not}
+pub use Rattle.jsonb_functions.specs.PathText.{items_in, mark_in, member_step, name_len, path_view}
+pub use Rattle.jsonb_functions.specs.PathText.{place_in, range_in, state_after, tail_after}
 pub use Rattle.jsonb_functions.specs.PathText.{scalar_tree, selector_view, single_step}
-pub use Rattle.jsonb_functions.specs.PathText.{single_steps, tail_after_two, term_view, terms_view}
+pub use Rattle.jsonb_functions.specs.PathText.{single_steps, tail_after_not, tail_after_two}
+pub use Rattle.jsonb_functions.specs.PathText.{tail_after_word, term_view, terms_view}
 pub use Rattle.jsonb_functions.specs.Picked.{AreSorted, is_named, keeps, picked}
 pub use Rattle.jsonb_functions.specs.Selected.{children_at, chosen_trees, first_tree, first_trees}
-pub use Rattle.jsonb_functions.specs.Selected.{items_before, items_through, member_trees, selected}
-pub use Rattle.jsonb_functions.specs.Selected.{trees_between}
+pub use Rattle.jsonb_functions.specs.Selected.{indexed_trees, indexes_of, items_before}
+pub use Rattle.jsonb_functions.specs.Selected.{items_through}
+pub use Rattle.jsonb_functions.specs.Selected.{member_trees, selected, step_at, trees_between}
 pub use Rattle.jsonb_functions.specs.Steps.{FoundIn}
 pub use Rattle.jsonb_functions.specs.StoredPath.{StepView, path_in, step_in, step_to, step_view}
 pub use Rattle.jsonb_functions.specs.StripSource.{FirstStripped}

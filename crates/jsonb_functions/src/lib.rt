@@ -53,6 +53,7 @@ pub use picked::pick;
 pub use pointer::read_pointer;
 pub use selection::{
     Bound, Selector, count_before, count_through, exists_path, select, select_first, select_within,
+    step_at,
 };
 pub use stored_path::read_path;
 pub use strip::strip_nulls;

@@ -1,20 +1,22 @@
 //! Paths that are given as texts.
 
 ghost use Rattle.std.specs.Prelude.{◌≡◌, ◌↔◌, ◌∷◌, ◌++◌, ◌<◌, ◌-◌, ◌^◌, ℕ, List, [], IfErr, IfOk};
-ghost use Rattle.std.specs.Prelude.{MatchOption, Some, map, option_map, true, false};
-ghost use Rattle.std.specs.List.{after_first, before_first, prefix_len};
+ghost use Rattle.std.specs.Prelude.{MatchOption, Some, codes, map, option_map, true, false};
+ghost use Rattle.std.specs.List.{prefix_len};
 ghost use Rattle.jsonb_functions.specs.Words.{AreTerms, BeginsWith, BeginsWithLiteral};
 ghost use Rattle.jsonb_functions.specs.Words.{BeginsWithStep, BeginsWithTerm, BeginsWithTest};
 ghost use Rattle.jsonb_functions.specs.Words.{EndsName, IsComparison, IsFilter, IsFilterPath};
 ghost use Rattle.jsonb_functions.specs.Words.{IsLiteralWord, PathText, Reads, ReadsStep};
 ghost use Rattle.jsonb_functions.specs.Words.{SelectorView, StopsAt, Tree, after_spaces, all_are};
-ghost use Rattle.jsonb_functions.specs.Words.{bound_in, comparison_in, ends_in_space, from_end_of};
-ghost use Rattle.jsonb_functions.specs.Words.{is_in_name, is_in_word, is_not, is_space, item_at};
-ghost use Rattle.jsonb_functions.specs.Words.{mark_in, member_step, name_len, node_tree};
+ghost use Rattle.jsonb_functions.specs.Words.{back_in, bound_in, comparison_in, counted_in};
+ghost use Rattle.jsonb_functions.specs.Words.{ends_in, ends_in_space, from_end_of, indexes};
+ghost use Rattle.jsonb_functions.specs.Words.{indexes_in, is_in_name, is_in_word, is_not, item_at};
+ghost use Rattle.jsonb_functions.specs.Words.{items_in, mark_in, member_step, name_len, node_tree};
 ghost use Rattle.jsonb_functions.specs.Words.{path_view, place_in, range_in, scalar_tree};
 ghost use Rattle.jsonb_functions.specs.Words.{selector_view, single_step, single_steps};
 ghost use Rattle.jsonb_functions.specs.Words.{state_after, step_view, tail_after, tail_after_not};
-ghost use Rattle.jsonb_functions.specs.Words.{tail_after_two, term_view, terms_view, tree_of};
+ghost use Rattle.jsonb_functions.specs.Words.{tail_after_two, tail_after_word, term_view};
+ghost use Rattle.jsonb_functions.specs.Words.{terms_view, tree_of};
 
 use crate::digits::read_number;
 use crate::filter::{Comparison, Condition, Term, Test};
@@ -27,14 +29,15 @@ use std::alloc::Global;
 /// The path that a text gives: `$`, and then its steps. `.name` is the value of a key, and so is
 /// `."any name"`, if there are points, brackets or question marks in it; `[7]` is an item, also as
 /// `[007]`, `[#-1]` the last one, and `[#]`, or `[#-0]`, none, past the last one; `[*]` is each
-/// item, `[0 to #-2]` the items from one to another, and `.*` each member's value. The keys are the
-/// text's bytes, without escapes: `.*a` is the key `*a`. A key with a parenthesis, or with a space
-/// at its end, is written between quotes, so that `.size()` is no key. An index past 64 bits is the
-/// greatest of 64 bits.
+/// item, `[0 to #-2]` the items from one to another, and `.*` each member's value. `[last]` is the
+/// last item too, and `[last - 1]`, or `[last-1]`, the one before it; `[0, 2, last]` are the items
+/// at these indexes. The keys are the text's bytes, without escapes: `.*a` is the key `*a`. A key
+/// with a parenthesis, or with a space at its end, is written between quotes, so that `.size()` is
+/// no key. An index past 64 bits is the greatest of 64 bits.
 ///
 /// `?(@.price < 3)` keeps a value if what is at the end of the path that begins with `@` compares
-/// so with a literal, by the order of documents. The path has no wildcards, ranges and filters, and
-/// a key with a space is written between quotes. There may be spaces around `?` and the condition,
+/// so with a literal, by the order of documents. The path has no wildcards, ranges, lists and
+/// filters, and a key with a space is written between quotes. There may be spaces around `?` and the condition,
 /// as in `$ ? ( @.price < 3 )`. The comparison is `==`, `!=` or `<>`, `<`, `<=`, `>` or `>=`, with
 /// one space before and after it. The literal is `null`, `true`, `false`, a JSON
 /// number, read exactly, with or without an exponent, or a string without quotes and escapes in it.
@@ -64,8 +67,9 @@ pub fn read_path_text<'a>(alloc: Global, text: &'a str) -> Result<Option<Vec<Sel
     Ok(Some(path))
 }
 
-/// The steps of a path without wildcards, ranges and filters, as `get_path` and `edit_document`
-/// take them. `None` if it has any; `OutOfMemory`, the only error, if an allocation fails.
+/// The steps of a path without wildcards, ranges, lists and filters, as `get_path` and
+/// `edit_document` take them. `None` if it has any; `OutOfMemory`, the only error, if an allocation
+/// fails.
 pub fn steps_of_path<'a>(
     alloc: Global,
     path: &[Selector<'a>],
@@ -86,7 +90,7 @@ pub fn steps_of_path<'a>(
     Ok(Some(steps))
 }
 
-// The step of a path without wildcards, ranges and filters.
+// The step of a path without wildcards, ranges, lists and filters.
 fn step_of<'a>(selector: &Selector<'a>) -> Option<Step<'a>>
     ensures { option_map step_view result ≡ single_step (selector_view selector.now) }
 {
@@ -105,7 +109,7 @@ fn read_step<'a>(alloc: Global, text: &'a str) -> Result<Option<(Selector<'a>, &
 {
     match after_char(after_spaces(text), '?') {
         Some(condition) => read_filter(alloc, condition),
-        None => Ok(read_written(text, false)),
+        None => read_written(alloc, text, false),
     }
 }
 
@@ -123,14 +127,21 @@ fn after_spaces(text: &str) -> &str
 
 // A step that is not a filter, and what is after it. In a filter, a name as it is ends before a
 // space too.
-fn read_written<'a>(text: &'a str, in_filter: bool) -> Option<(Selector<'a>, &'a str)>
-    ensures { ReadsStep (BeginsWith in_filter) in_filter text.now result }
+fn read_written<'a>(
+    alloc: Global,
+    text: &'a str,
+    in_filter: bool,
+) -> Result<Option<(Selector<'a>, &'a str)>, Error>
+    ensures ok { IfOk result (ReadsStep (BeginsWith in_filter) in_filter text.now) }
+    ensures memory { IfErr result (λ e. e ≡ Error.OutOfMemory) }
 {
     if let Some(name) = after_char(text, '.') {
-        return read_member(name, in_filter);
+        return Ok(read_member(name, in_filter));
     }
-    let place = after_char(text, '[')?;
-    read_bracketed(place, in_filter)
+    match after_char(text, '[') {
+        Some(place) => read_bracketed(alloc, place, in_filter),
+        None => Ok(None),
+    }
 }
 
 // A step after a point, and what is after it.
@@ -235,26 +246,77 @@ fn split_at(text: &str, end: char) -> Option<(&str, &str)>
 }
 
 // A step up to a closing bracket, and what is after that.
-fn read_bracketed<'a>(text: &'a str, in_filter: bool) -> Option<(Selector<'a>, &'a str)>
-    ensures { ReadsStep (BeginsWith in_filter) in_filter (91 ∷ text.now) result }
+fn read_bracketed<'a>(
+    alloc: Global,
+    text: &'a str,
+    in_filter: bool,
+) -> Result<Option<(Selector<'a>, &'a str)>, Error>
+    ensures ok { IfOk result (ReadsStep (BeginsWith in_filter) in_filter (91 ∷ text.now)) }
+    ensures memory { IfErr result (λ e. e ≡ Error.OutOfMemory) }
 {
     match split_at(text, ']') {
-        Some((place, rest)) => match read_place(place) {
-            Some(selector) => Some((selector, rest)),
-            None => None,
+        Some((place, rest)) => match read_place(alloc, place)? {
+            Some(selector) => Ok(Some((selector, rest))),
+            None => Ok(None),
         },
-        None => None,
+        None => Ok(None),
     }
 }
 
 // The step between brackets.
-fn read_place<'a>(place: &str) -> Option<Selector<'a>>
-    ensures { option_map selector_view result ≡ place_in place.now }
+fn read_place<'a>(alloc: Global, place: &str) -> Result<Option<Selector<'a>>, Error>
+    ensures ok { IfOk result (λ selector.
+        option_map selector_view selector ≡ place_in place.now) }
+    ensures memory { IfErr result (λ e. e ≡ Error.OutOfMemory) }
 {
     if place == "*" {
-        return Some(Selector::AllItems);
+        return Ok(Some(Selector::AllItems));
     }
-    match read_bound(place.as_bytes()) {
+    match split_at(place, ',') {
+        Some(_) => read_list(alloc, place),
+        None => Ok(read_items(place)),
+    }
+}
+
+// The step to the items at indexes between commas.
+fn read_list<'a>(alloc: Global, place: &str) -> Result<Option<Selector<'a>>, Error>
+    ensures ok { IfOk result (λ selector.
+        option_map selector_view selector ≡ option_map indexes (indexes_in place.now)) }
+    ensures memory { IfErr result (λ e. e ≡ Error.OutOfMemory) }
+{
+    match read_indexes(alloc, place)? {
+        Some(indexes) => Ok(Some(Selector::Indexes(indexes))),
+        None => Ok(None),
+    }
+}
+
+// The indexes between commas. There may be spaces before each.
+fn read_indexes(alloc: Global, place: &str) -> Result<Option<Vec<Bound>>, Error>
+    ensures ok { IfOk result (λ indexes.
+        option_map (λ indexes. indexes.items) indexes ≡ indexes_in place.now) }
+    ensures memory { IfErr result (λ e. e ≡ Error.OutOfMemory) }
+{
+    let mut indexes = Vec::new(alloc);
+    let mut left = place;
+    while let Some((part, rest)) = split_at(left, ',') {
+        let Some(index) = read_bound(after_spaces(part)) else {
+            return Ok(None);
+        };
+        indexes.push(index)?;
+        left = rest;
+    }
+    let Some(index) = read_bound(after_spaces(left)) else {
+        return Ok(None);
+    };
+    indexes.push(index)?;
+    Ok(Some(indexes))
+}
+
+// The step to an item, or to the items from one to another.
+fn read_items<'a>(place: &str) -> Option<Selector<'a>>
+    ensures { option_map selector_view result ≡ items_in place.now }
+{
+    match read_bound(place) {
         Some(bound) => Some(item_at(bound)),
         None => read_range(place),
     }
@@ -274,27 +336,56 @@ fn item_at<'a>(bound: Bound) -> Selector<'a>
 fn read_range<'a>(place: &str) -> Option<Selector<'a>>
     ensures { option_map selector_view result ≡ range_in place.now }
 {
-    let (first, rest) = split_space(place);
-    let (word, last) = split_space(rest);
-    if word != "to" {
-        return None;
-    }
-    let first = read_bound(first.as_bytes())?;
-    let last = read_bound(last.as_bytes())?;
+    let (first, last) = split_to(place)?;
+    let first = read_bound(first)?;
+    let last = read_bound(last)?;
     Some(Selector::Range { first, last })
 }
 
-// What is before the first space, and what is after it.
-fn split_space(text: &str) -> (&str, &str)
-    ensures before { result.0.now ≡ before_first is_space text.now }
-    ensures after { result.1.now ≡ after_first is_space text.now }
+// What is before the first ` to `, and what is after it.
+fn split_to(text: &str) -> Option<(&str, &str)>
+    ensures { option_map (λ ends. (ends.0.now, ends.1.now)) result ≡ ends_in text.now }
 {
-    text.split_once(' ').unwrap_or((text, ""))
+    text.split_once(" to ")
 }
 
 // An item from the start or from the end.
-fn read_bound(bytes: &[u8]) -> Option<Bound>
-    ensures { result ≡ bound_in bytes.now }
+fn read_bound(text: &str) -> Option<Bound>
+    ensures { result ≡ bound_in text.now }
+{
+    match tail_after_last(text) {
+        Some(rest) => {
+            let number = read_back(rest)?;
+            Some(Bound::FromEnd(number))
+        }
+        None => read_counted(text.as_bytes()),
+    }
+}
+
+// What is after `last`.
+fn tail_after_last(text: &str) -> Option<&str>
+    ensures { option_map (λ rest. rest.now) result ≡ tail_after_word (codes "last") text.now }
+{
+    let rest = tail_after(text, 'l')?;
+    let rest = tail_after(rest, 'a')?;
+    let rest = tail_after(rest, 's')?;
+    tail_after(rest, 't')
+}
+
+// The number after `last` and a `-`, with spaces around that or none; 0 after `last` alone.
+fn read_back(text: &str) -> Option<usize>
+    ensures { result ≡ back_in text.now }
+{
+    if text.is_empty() {
+        return Some(0);
+    }
+    let digits = tail_after(after_spaces(text), '-')?;
+    read_number(after_spaces(digits).as_bytes())
+}
+
+// An item by a number from the start, or after `#`.
+fn read_counted(bytes: &[u8]) -> Option<Bound>
+    ensures { result ≡ counted_in bytes.now }
 {
     match bytes {
         [b'#'] => Some(Bound::FromStart(usize::MAX)),
@@ -492,7 +583,7 @@ fn read_filter_path<'a>(
         if let Some(rest) = after_char(left, ' ') {
             return Ok(Some((steps, rest)));
         }
-        let Some((selector, rest)) = read_written(left, true) else {
+        let Some((selector, rest)) = read_written(alloc, left, true)? else {
             return Ok(None);
         };
         steps.push(selector)?;

@@ -1,16 +1,17 @@
 //! The values that paths with wildcards select.
 
 ghost use Rattle.std.specs.Prelude.{◌≡◌, ◌++◌, ◌∷◌, [], ◌*◌, ◌<◌, ◌≤◌, IfErr, IfNone, IfOk};
-ghost use Rattle.std.specs.Prelude.{IfSome, OnOk, drop, is_some, map, option_map};
-ghost use Rattle.jsonb_functions.specs.SelectSteps.{asked, extents, path_size, select_steps};
-ghost use Rattle.jsonb_functions.specs.SelectSteps.{term_steps};
+ghost use Rattle.std.specs.Prelude.{IfSome, OnOk, drop, is_some, map, option_map, suc};
+ghost use Rattle.jsonb_functions.specs.SelectSteps.{asked, extent, extents, path_size};
+ghost use Rattle.jsonb_functions.specs.SelectSteps.{select_steps, term_steps};
 ghost use Rattle.std.specs.List.{sum_by};
 ghost use Rattle.jsonb_functions.specs.Steps.{Takes};
 ghost use Rattle.jsonb_functions.specs.Words.{YieldsFirstBy, children_at, chosen_trees};
 ghost use Rattle.jsonb_functions.specs.Words.{document_tree, filtered, first_tree, first_trees};
-ghost use Rattle.jsonb_functions.specs.Words.{items_before, items_or_none, items_through};
-ghost use Rattle.jsonb_functions.specs.Words.{member_trees, node_tree, rest_trees, selected};
-ghost use Rattle.jsonb_functions.specs.Words.{tree_list, trees_between, weight};
+ghost use Rattle.jsonb_functions.specs.Words.{indexed_trees, indexes_of, items_before};
+ghost use Rattle.jsonb_functions.specs.Words.{items_or_none, items_through, member_trees};
+ghost use Rattle.jsonb_functions.specs.Words.{node_tree, rest_trees};
+ghost use Rattle.jsonb_functions.specs.Words.{selected, step_at, tree_list, trees_between, weight};
 
 use crate::extent::extent_of;
 use crate::filter::{Condition, Term, holds};
@@ -31,7 +32,8 @@ pub enum Bound {
 
 /// A step of a path with wildcards: the value of a key, an item of an array from the start or the
 /// end, each item of an array, each member's value of an object, the items of an array from one to
-/// another, both included, or the value itself if a condition on it holds.
+/// another, both included, the items of an array at some indexes, in their order and as often as
+/// they are there, or the value itself if a condition on it holds.
 #[derive(Debug, Drop)]
 pub enum Selector<'a> {
     Key(&'a str),
@@ -40,6 +42,7 @@ pub enum Selector<'a> {
     AllItems,
     AllMembers,
     Range { first: Bound, last: Bound },
+    Indexes(Vec<Bound>),
     Filter(Condition<'a>),
 }
 
@@ -50,17 +53,25 @@ pub struct FirstItems<'a> {
     pub count: usize,
 }
 
-/// The children that a selector leads to, in a walk over them: a child or none, items, or the
-/// values of members.
+/// A walk over the items of a value at the indexes of a list, of which so many were passed.
+#[derive(Drop)]
+pub struct Listed<'a> {
+    pub node: Node<'a>,
+    pub passed: usize,
+}
+
+/// The children that a selector leads to, in a walk over them: a child or none, items, the values
+/// of members, or items at indexes.
 #[derive(Drop)]
 pub enum Chosen<'a> {
     Child(Option<Node<'a>>),
     Items(FirstItems<'a>),
     Members(Members<'a>),
+    Listed(Listed<'a>),
 }
 
-/// The values at the ends of all ways that a path allows, in the order in which they are stored.
-/// `OutOfMemory` is the only error.
+/// The values at the ends of all ways that a path allows, in the order in which they are stored,
+/// but at indexes in the order of these. `OutOfMemory` is the only error.
 pub fn select<'a>(
     alloc: Global,
     document: Document<'a>,
@@ -77,13 +88,14 @@ pub fn select<'a>(
 
 /// The values that `select` returns, unless that takes more than so many steps. There is a step for
 /// each value that a selector is asked of, and one for each of its items or members, or of the
-/// bytes of a text, or of binary or opaque data. A filter takes one for each term of its condition,
-/// and for a test also one for each item, member or byte of each value on the way of its path. So
-/// `$.*?(@ > 1)` takes 3 of `{"a":2}`: for the object, its member, and the test of the number.
-/// `None` if the steps do not suffice, which is so only if they are fewer than the selectors, where
-/// a filter counts for each of its terms, times the document's weight, which is the number of its
-/// values and keys, and of the bytes of texts, keys, and binary and opaque values. `OutOfMemory` is
-/// the only error.
+/// bytes of a text, or of binary or opaque data; a list of indexes takes as many for each of them.
+/// A filter takes one for each term of its condition, and for a test also one for each item, member
+/// or byte of each value on the way of its path. So `$.*?(@ > 1)` takes 3 of `{"a":2}`: for the
+/// object, its member, and the test of the number. `None` if the steps do not suffice, which is so
+/// only if they are fewer than the selectors times the document's weight. Of the selectors a filter
+/// counts for each of its terms, and a list of indexes for each of them, as often as there are ways
+/// to it, which it multiplies by their number. The weight is the number of values and keys, and of
+/// the bytes of texts, keys, and binary and opaque values. `OutOfMemory` is the only error.
 #[tactic(auto, using(crate::proofs::SelectStepLaws::steps_within))]
 pub fn select_within<'a>(
     alloc: Global,
@@ -142,7 +154,7 @@ fn append_selected<'a>(
         return Ok(());
     };
     let mut children = children_of(node, selector);
-    while let Some(child) = next_child(&mut children) {
+    while let Some(child) = next_child(&mut children, selector) {
         append_selected(child, rest, found)?;
     }
     Ok(())
@@ -165,7 +177,7 @@ fn append_counted<'a>(
     };
     ask(node, selector, steps)?;
     let mut children = children_of(node, selector);
-    while let Some(child) = next_child(&mut children) {
+    while let Some(child) = next_child(&mut children, selector) {
         append_counted(child, rest, found, steps)?;
     }
     Ok(())
@@ -189,11 +201,30 @@ fn ask(node: Node<'_>, selector: &Selector<'_>, steps: &mut u128) -> Result<(), 
 {
     match selector {
         Selector::Filter(condition) => ask_terms(node, &condition.terms, steps),
-        _ => {
-            take(steps, 1)?;
-            take(steps, extent_of(node))
-        }
+        Selector::Indexes(indexes) => ask_items(node, indexes, steps),
+        _ => ask_children(node, steps),
     }
+}
+
+// Takes the steps for a value and its children.
+fn ask_children(node: Node<'_>, steps: &mut u128) -> Result<(), Unanswered>
+    ensures { Takes result (suc (extent (node_tree node.entry))) steps.old steps.new }
+{
+    take(steps, 1)?;
+    take(steps, extent_of(node))
+}
+
+// Takes the steps for a value and its children, for each of some indexes.
+fn ask_items(node: Node<'_>, indexes: &[Bound], steps: &mut u128) -> Result<(), Unanswered>
+    ensures { Takes result (sum_by (λ index. suc (extent (node_tree node.entry))) indexes.now)
+        steps.old steps.new }
+{
+    let mut left = indexes;
+    while let [_, rest @ ..] = left {
+        ask_children(node, steps)?;
+        left = rest;
+    }
+    Ok(())
 }
 
 // Takes the steps for the terms of a condition.
@@ -248,7 +279,7 @@ fn first_selected<'a>(node: Node<'a>, path: &[Selector<'_>]) -> Option<Node<'a>>
         return Some(node);
     };
     let mut children = children_of(node, selector);
-    while let Some(child) = next_child(&mut children) {
+    while let Some(child) = next_child(&mut children, selector) {
         if let Some(found) = first_selected(child, rest) {
             return Some(found);
         }
@@ -258,7 +289,8 @@ fn first_selected<'a>(node: Node<'a>, path: &[Selector<'_>]) -> Option<Node<'a>>
 
 // The children that a selector leads to.
 fn children_of<'a>(node: Node<'a>, selector: &Selector<'_>) -> Chosen<'a>
-    ensures { chosen_trees result ≡ children_at selector.now (node_tree node.entry) }
+    ensures { chosen_trees (indexes_of selector.now) result
+        ≡ children_at selector.now (node_tree node.entry) }
 {
     match selector {
         Selector::Key(name) => Chosen::Child(child_of(node, Step::Key(name))),
@@ -267,13 +299,14 @@ fn children_of<'a>(node: Node<'a>, selector: &Selector<'_>) -> Chosen<'a>
         Selector::AllItems => items_between(node, Bound::FromStart(0), Bound::FromEnd(0)),
         Selector::AllMembers => values_of(node),
         Selector::Range { first, last } => items_between(node, *first, *last),
+        Selector::Indexes(_) => Chosen::Listed(Listed { node, passed: 0 }),
         Selector::Filter(condition) => filtered(node, condition),
     }
 }
 
 // The value itself, if the condition on it holds.
 fn filtered<'a>(node: Node<'a>, condition: &Condition<'_>) -> Chosen<'a>
-    ensures { chosen_trees result ≡ filtered condition.now (node_tree node.entry) }
+    ensures { chosen_trees [] result ≡ filtered condition.now (node_tree node.entry) }
 {
     if holds(node, condition) {
         Chosen::Child(Some(node))
@@ -284,7 +317,7 @@ fn filtered<'a>(node: Node<'a>, condition: &Condition<'_>) -> Chosen<'a>
 
 // The items of an array between two bounds.
 fn items_between<'a>(node: Node<'a>, first: Bound, last: Bound) -> Chosen<'a>
-    ensures { chosen_trees result
+    ensures { chosen_trees [] result
         ≡ trees_between first last (tree_list (items_or_none (node_tree node.entry))) }
 {
     let Node::Container(document) = node else {
@@ -305,7 +338,7 @@ fn items_between<'a>(node: Node<'a>, first: Bound, last: Bound) -> Chosen<'a>
 
 // The values of an object's members.
 fn values_of<'a>(node: Node<'a>) -> Chosen<'a>
-    ensures { chosen_trees result ≡ member_trees (node_tree node.entry) }
+    ensures { chosen_trees [] result ≡ member_trees (node_tree node.entry) }
 {
     let Node::Container(document) = node else {
         return Chosen::Child(None);
@@ -361,8 +394,9 @@ fn next_first<'a>(first: &mut FirstItems<'a>) -> Option<Node<'a>>
 }
 
 // The next of the children.
-fn next_child<'a>(children: &mut Chosen<'a>) -> Option<Node<'a>>
-    ensures { YieldsFirstBy node_tree chosen_trees children.old result children.new }
+fn next_child<'a>(children: &mut Chosen<'a>, selector: &Selector<'_>) -> Option<Node<'a>>
+    ensures { YieldsFirstBy node_tree (chosen_trees (indexes_of selector.now))
+        children.old result children.new }
 {
     match children {
         Chosen::Child(child) => child.take(),
@@ -371,5 +405,32 @@ fn next_child<'a>(children: &mut Chosen<'a>) -> Option<Node<'a>>
             let (_, value) = next_member(members)?;
             Some(value)
         }
+        Chosen::Listed(listed) => match selector {
+            Selector::Indexes(indexes) => next_listed(listed, indexes),
+            _ => None,
+        },
+    }
+}
+
+// The next of the items at indexes.
+fn next_listed<'a>(listed: &mut Listed<'a>, indexes: &[Bound]) -> Option<Node<'a>>
+    ensures { YieldsFirstBy node_tree (indexed_trees indexes.now) listed.old result listed.new }
+{
+    while let Some(index) = indexes.get(listed.passed) {
+        listed.passed += 1;
+        if let Some(item) = child_of(listed.node, step_at(*index)) {
+            return Some(item);
+        }
+    }
+    None
+}
+
+/// The step to an item at an index.
+pub fn step_at<'a>(index: Bound) -> Step<'a>
+    ensures { result ≡ step_at index }
+{
+    match index {
+        Bound::FromStart(index) => Step::Index(index),
+        Bound::FromEnd(index) => Step::FromEnd(index),
     }
 }

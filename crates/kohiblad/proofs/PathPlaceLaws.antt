@@ -5,7 +5,8 @@ use Rattle.std.proofs.Common.{length}
 use Rattle.std.proofs.Common.{map, flat_map, take, drop, slice_get, Option, None, Some}
 use Rattle.std.proofs.Common.{Result, Ok, IfSome, refl, sym, ap, subst, ◌∙◌, inl, inr, arith}
 use Rattle.std.proofs.Common.{length-drop, get_or, zero-add}
-use Rattle.std.specs.Prelude.{is_some, option_to_list, nat_eq, ⊤}
+use Rattle.std.specs.Global.{Vec}
+use Rattle.std.specs.Prelude.{is_some, option_to_list, nat_eq, slice_index_or, ⊤}
 use Rattle.std.specs.Cmp.Lexicographic.{pointwise}
 use Rattle.std.specs.Map.{keys_of, values_of}
 use Rattle.std.proofs.Math.Bool.{and-false}
@@ -43,21 +44,23 @@ use Rattle.jsonb_functions.specs.Contains.{items_or_none}
 use Rattle.jsonb_functions.specs.Filter.{filtered, holds}
 use Rattle.jsonb_functions.specs.Found.{child_at, found_at, if_there, item_there}
 use Rattle.jsonb_functions.specs.Selected.{children_at, items_before, items_through, member_trees}
-use Rattle.jsonb_functions.specs.Selected.{selected, trees_between}
+use Rattle.jsonb_functions.specs.Selected.{indexes_of, selected, step_at, trees_at, trees_between}
 use Rattle.jsonb_functions.specs.declared.filter.Condition.{Condition}
 use Rattle.jsonb_functions.specs.declared.path.Step.{Step}
 use Rattle.jsonb_functions.specs.declared.path.Step.TheVariants as steps
+use Rattle.jsonb_functions.specs.declared.selection.Bound.{Bound}
 use Rattle.jsonb_functions.specs.declared.selection.Selector.{Selector}
 use Rattle.jsonb_functions.specs.declared.selection.Selector.TheVariants as selectors
-use Rattle.jsonb_functions.proofs.SelectLaws.{drop_take}
+use Rattle.jsonb_functions.proofs.SelectLaws.{drop_take, index_there, none_left}
 use Rattle.kohiblad.specs.declared.children.Child.{Child}
 use Rattle.kohiblad.specs.ChildWalks.{IsPlaceWithin}
 use Rattle.kohiblad.specs.Children.{child_of, layout_under, numbered_among, numbered_child}
 use Rattle.kohiblad.specs.PathPlaces.{HoldTrees, HoldsFound, HoldsTree, at_place, child_has_key}
 use Rattle.kohiblad.specs.PathPlaces.{child_places, children_from, chosen_children, chosen_items}
-use Rattle.kohiblad.specs.PathPlaces.{chosen_members, first_place, named_child, path_place}
-use Rattle.kohiblad.specs.PathPlaces.{place_from, places_at, selected_from, selected_places}
-use Rattle.kohiblad.specs.PathPlaces.{step_selector, value_at, whole_place, whole_under}
+use Rattle.kohiblad.specs.PathPlaces.{chosen_members, first_place, listed_places, named_child}
+use Rattle.kohiblad.specs.PathPlaces.{path_place, place_from, places_at, selected_from}
+use Rattle.kohiblad.specs.PathPlaces.{selected_places, step_place, step_selector, value_at}
+use Rattle.kohiblad.specs.PathPlaces.{whole_place, whole_under}
 use Rattle.kohiblad.specs.PathCalls.{found_answer}
 use Rattle.kohiblad.specs.declared.places.KohibladPlace.{KohibladPlace}
 use Rattle.kohiblad.specs.PlaceWalks.{AreAllParts, IsPart, filter_keeps, walk_places}
@@ -67,8 +70,9 @@ use Rattle.kohiblad.proofs.PartLaws.{EntriesMean, EntriesMean-items, entry_among
 use Rattle.kohiblad.proofs.PlaceLaws.{hold_items, member_key_at, member_value_at, part_at}
 use Rattle.kohiblad.proofs.PlaceLaws.{place_stored}
 
--- The selector is no filter.
+-- The selector is no filter, and no list of indexes.
 abbrev pub IsUnfiltered : Selector → Type 0
+IsUnfiltered (selectors.Indexes indexes) = ⊥
 IsUnfiltered (selectors.Filter condition) = ⊥
 IsUnfiltered s = ⊤
 
@@ -334,6 +338,7 @@ module _ (b : List ℕ) (ts : Trees) (h : Payload (array ts) b) where
       held_as (min 0 n) (n - 0 - min 0 n) (tree_list ts)
       (all_taken (tree_list ts) (min 0 n) (n - 0 - min 0 n) (omega arith) (omega arith))
   items_held selectors.AllMembers plain = refl
+  items_held (selectors.Indexes indexes) plain = absurd plain
   items_held (selectors.Filter condition) plain = absurd plain
   items_held (selectors.Range first last) plain =
       held_as (items_before first (count ts))
@@ -416,6 +421,7 @@ module _ (b : List ℕ) (ps : Pairs) (h : Payload (object ps) b) where
   members_held selectors.AllItems plain = refl
   members_held selectors.AllMembers plain =
       values_held (children_from b 0 (pair_count ps)) (pair_list ps) all_held
+  members_held (selectors.Indexes indexes) plain = absurd plain
   members_held (selectors.Filter condition) plain = absurd plain
   members_held (selectors.Range first last) plain =
       nothing_taken (items_before first 0) (items_through last 0)
@@ -469,6 +475,7 @@ none_at (selectors.FromEnd i) plain t none items members =
     sym (ap option_to_list (none (steps.FromEnd i)))
 none_at selectors.AllItems plain t none items members = sym (ap tree_list items)
 none_at selectors.AllMembers plain t none items members = sym members
+none_at (selectors.Indexes indexes) plain t none items members = absurd plain
 none_at (selectors.Filter condition) plain t none items members = absurd plain
 none_at (selectors.Range first last) plain t none items members =
     sym (ap (λ (us : Trees). trees_between first last (tree_list us)) items
@@ -536,9 +543,82 @@ filter_held condition bytes place t held =
 
 pub other_places : (s : Selector) (bytes : List ℕ) (place : PlacedEntry)
     → ((condition : Condition) → s ≡ selectors.Filter condition → ⊥)
+    → ((indexes : Vec Bound) → s ≡ selectors.Indexes indexes → ⊥)
     → child_places s bytes place ≡ places_at s bytes place
-other_places (selectors.Filter condition) bytes place other = absurd (other condition refl)
-other_places s bytes place other = refl
+other_places (selectors.Filter condition) bytes place other listed =
+    absurd (other condition refl)
+other_places (selectors.Indexes indexes) bytes place other listed =
+    absurd (listed indexes refl)
+other_places s bytes place other listed = refl
+
+-- A step is no filter.
+step_unfiltered : (s : Step) → IsUnfiltered (step_selector s)
+step_unfiltered (steps.Key k) = tt
+step_unfiltered (steps.Index i) = tt
+step_unfiltered (steps.FromEnd i) = tt
+
+single_child : (s : Step) (t : Tree)
+    → children_at (step_selector s) t ≡ option_to_list (child_at s t)
+single_child (steps.Key k) t = refl
+single_child (steps.Index i) t = refl
+single_child (steps.FromEnd i) t = refl
+
+step_places : (s : Step) (bytes : List ℕ) (place : PlacedEntry) (t : Tree) → Held bytes place t
+    → Pairwise (Held bytes) (child_places (step_selector s) bytes place)
+    (option_to_list (child_at s t))
+step_places s bytes place t held =
+    subst (Pairwise (Held bytes) (child_places (step_selector s) bytes place)) (single_child s t)
+    (step_held bytes place held.0 (step_selector s) (step_unfiltered s) t held.1)
+
+-- What is at the places of the items at indexes.
+one_held : (bytes : List ℕ) (places : List PlacedEntry) (o : Option Tree)
+    → Pairwise (Held bytes) places (option_to_list o)
+    → Pairwise (Held bytes) (option_to_list (first_place places)) (option_to_list o)
+one_held bytes [] None h = refl
+one_held bytes [] (Some u) h = absurd cc
+one_held bytes (p ∷ places) None h = absurd h
+one_held bytes (p ∷ places) (Some u) h = (h.0, refl)
+
+listed_held : (indexes : List Bound) (bytes : List ℕ) (place : PlacedEntry) (t : Tree)
+    → Held bytes place t
+    → Pairwise (Held bytes) (listed_places bytes place indexes) (trees_at indexes t)
+listed_held [] bytes place t held = refl
+listed_held (index ∷ indexes) bytes place t held =
+    let s = step_at index in
+    Pairwise-append (Held bytes) (option_to_list (step_place s bytes place))
+    (option_to_list (child_at s t)) (listed_places bytes place indexes) (trees_at indexes t)
+    (one_held bytes (child_places (step_selector s) bytes place) (child_at s t)
+    (step_places s bytes place t held))
+    (listed_held indexes bytes place t held)
+
+-- The first index that is left was passed, and there is an item or none.
+module _ (bytes : List ℕ) (place : PlacedEntry) (indexes : List Bound) (n : ℕ) (index : Bound)
+    (step : Step) (whole : List PlacedEntry) (low : n < length indexes)
+    (is : index ≡ slice_index_or indexes n index) (to : step ≡ step_at index)
+    (left : listed_places bytes place (drop n indexes) ≡ whole) where
+  abbrev places_after : List PlacedEntry
+  places_after = listed_places bytes place (drop (n + 1) indexes)
+
+  one_passed : whole ≡ option_to_list (step_place step bytes place) ++ places_after
+  one_passed =
+      sym left ∙ ap (listed_places bytes place) (index_there indexes n index low is)
+      ∙ ap (λ s. option_to_list (step_place s bytes place) ++ places_after) (sym to)
+
+  pub item_next : (item : PlacedEntry) → Some item ≡ step_place step bytes place
+      → whole ≡ item ∷ places_after
+  item_next item found = one_passed ∙ ap (λ o. option_to_list o ++ places_after) (sym found)
+
+  pub item_missing : None ≡ step_place step bytes place → places_after ≡ whole
+  item_missing none = sym (one_passed ∙ ap (λ o. option_to_list o ++ places_after) (sym none))
+
+pub none_listed : (bytes : List ℕ) (place : PlacedEntry) (indexes : List Bound) (n : ℕ)
+    (whole : List PlacedEntry) → length indexes ≤ n
+    → listed_places bytes place (drop n indexes) ≡ whole
+    → (whole ≡ []) × (listed_places bytes place (drop n indexes) ≡ [])
+none_listed bytes place indexes n whole past left =
+    let none : listed_places bytes place (drop n indexes) ≡ [] =
+    ap (listed_places bytes place) (none_left indexes n past) in
+    (sym left ∙ none, none)
 
 -- What is at the places to which a selector leads.
 selector_held : (s : Selector) (bytes : List ℕ) (place : PlacedEntry) (t : Tree)
@@ -546,6 +626,8 @@ selector_held : (s : Selector) (bytes : List ℕ) (place : PlacedEntry) (t : Tre
     → Pairwise (Held bytes) (places_at s bytes place) (children_at s t)
 selector_held (selectors.Filter condition) bytes place t held =
     filter_held condition bytes place t held
+selector_held (selectors.Indexes indexes) bytes place t held =
+    listed_held indexes.items bytes place t held
 selector_held s bytes place t held = step_held bytes place held.0 s tt t held.1
 
 -- What is at the places to which a path with wildcards leads.
@@ -573,18 +655,18 @@ parts_at s bytes place part =
     (selector_held s bytes place part.0 (part.1, part.2))
 
 pub walk_parts : (s : Selector) (bytes : List ℕ) (place : PlacedEntry) (walk : PlaceWalk)
-    → IsPart bytes place → walk_places bytes place walk ≡ places_at s bytes place
-    → AreAllParts bytes (walk_places bytes place walk)
+    → IsPart bytes place → walk_places (indexes_of s) bytes place walk ≡ places_at s bytes place
+    → AreAllParts bytes (walk_places (indexes_of s) bytes place walk)
 walk_parts s bytes place walk part e =
     subst (AreAllParts bytes) (sym e) (parts_at s bytes place part)
 
 -- The places to which the first step of a path leads are those from which the others go on.
 pub places_first : (path : List Selector) (s : Selector) (bytes : List ℕ) (place : PlacedEntry)
     (walk : PlaceWalk) (found : List KohibladPlace) → 1 ≤ length path → get_or path 0 s ≡ s
-    → walk_places bytes place walk ≡ places_at s bytes place
+    → walk_places (indexes_of s) bytes place walk ≡ places_at s bytes place
     → found ++ map found_answer
     (flat_map (λ next. selected_from (take (length path - 1) (drop 1 path)) bytes next)
-    (walk_places bytes place walk))
+    (walk_places (indexes_of s) bytes place walk))
     ≡ found ++ map found_answer (selected_from path bytes place)
 places_first [] s bytes place walk found some first e = absurd (omega (arith, some))
 places_first (x ∷ rest) s bytes place walk found some first e =
@@ -624,19 +706,7 @@ kept_on (x ∷ rest) s bytes place some first is =
     ∙ kept_first s (λ next. selected_from rest bytes next) bytes place is
     ∙ ap (λ later. selected_from later bytes place) (sym all)
 
--- A step is no filter.
-step_unfiltered : (s : Step) → IsUnfiltered (step_selector s)
-step_unfiltered (steps.Key k) = tt
-step_unfiltered (steps.Index i) = tt
-step_unfiltered (steps.FromEnd i) = tt
-
 -- What is at the place to which a path leads.
-single_child : (s : Step) (t : Tree)
-    → children_at (step_selector s) t ≡ option_to_list (child_at s t)
-single_child (steps.Key k) t = refl
-single_child (steps.Index i) t = refl
-single_child (steps.FromEnd i) t = refl
-
 first_held : (bytes : List ℕ) (places : List PlacedEntry) (o : Option Tree)
     (f : PlacedEntry → Option PlacedEntry) (g : Tree → Option Tree)
     → ((p : PlacedEntry) (u : Tree) → Held bytes p u → HoldsFound bytes (f p) (g u))
@@ -654,8 +724,7 @@ end_held (s ∷ path) bytes place t held =
     first_held bytes (child_places (step_selector s) bytes place) (child_at s t)
     (λ p. place_from path bytes p) (λ u. found_at path u)
     (λ p u h. end_held path bytes p u h)
-    (subst (Pairwise (Held bytes) (child_places (step_selector s) bytes place)) (single_child s t)
-    (step_held bytes place held.0 (step_selector s) (step_unfiltered s) t held.1))
+    (step_places s bytes place t held)
 
 -- The place of a whole document.
 abbrev IsWhole : List ℕ → Tree → Type 0

@@ -1,7 +1,7 @@
 -- The places of the values to which paths lead.
 use Rattle.std.specs.Prelude.{ℕ, zero, suc, ◌+◌, ◌-◌, ◌==◌, if◌then◌else◌, Bool, false}
 use Rattle.std.specs.Prelude.{List, [], ◌∷◌, length, map, flat_map, Option, None, Some, Result, Ok}
-use Rattle.std.specs.Prelude.{Err, ⊤}
+use Rattle.std.specs.Prelude.{Err, ⊤, option_to_list}
 use Rattle.jsonb_value.specs.declared.error.Error.{Error}
 use Rattle.jsonb_value.specs.Tree.{Tree}
 use Rattle.jsonb_codec.specs.declared.constants.TheConstants.{ARRAY_CONTAINER_TAG}
@@ -12,7 +12,7 @@ use Rattle.jsonb.specs.Children.{Pairwise}
 use Rattle.jsonb.specs.EntryTrees.{entry_tree}
 use Rattle.jsonb.specs.declared.entries.Entry.{Entry as PlacedEntry}
 use Rattle.jsonb_functions.specs.Filter.{holds}
-use Rattle.jsonb_functions.specs.Selected.{items_before, items_through}
+use Rattle.jsonb_functions.specs.Selected.{items_before, items_through, step_at}
 use Rattle.jsonb_functions.specs.declared.path.Step.{Step}
 use Rattle.jsonb_functions.specs.declared.path.Step.TheVariants as steps
 use Rattle.jsonb_functions.specs.declared.selection.Bound.{Bound}
@@ -52,7 +52,7 @@ abbrev pub items_between : List ℕ → ℕ → Bound → Bound → List Child
 items_between bytes n first last =
     children_from bytes (items_before first n) (items_through last n - items_before first n)
 
--- The items of an array of n items to which a selector leads; a filter leads to none.
+-- The items of an array of n items to which a selector leads; a list and a filter lead to none.
 abbrev pub chosen_items : Selector → List ℕ → ℕ → List Child
 chosen_items (selectors.Key k) bytes n = []
 chosen_items (selectors.Index i) bytes n = items_between bytes n (FromStart i) (FromStart i)
@@ -60,9 +60,11 @@ chosen_items (selectors.FromEnd i) bytes n = items_between bytes n (FromEnd i) (
 chosen_items selectors.AllItems bytes n = items_between bytes n (FromStart 0) (FromEnd 0)
 chosen_items selectors.AllMembers bytes n = []
 chosen_items (selectors.Range first last) bytes n = items_between bytes n first last
+chosen_items (selectors.Indexes indexes) bytes n = []
 chosen_items (selectors.Filter condition) bytes n = []
 
--- The members of an object of n members to which a selector leads; a filter leads to none.
+-- The members of an object of n members to which a selector leads; a list and a filter lead to
+-- none.
 abbrev pub chosen_members : Selector → List ℕ → ℕ → List Child
 chosen_members (selectors.Key k) bytes n = named_child k.now bytes (children_from bytes 0 n)
 chosen_members (selectors.Index i) bytes n = []
@@ -70,6 +72,7 @@ chosen_members (selectors.FromEnd i) bytes n = []
 chosen_members selectors.AllItems bytes n = []
 chosen_members selectors.AllMembers bytes n = children_from bytes 0 n
 chosen_members (selectors.Range first last) bytes n = []
+chosen_members (selectors.Indexes indexes) bytes n = []
 chosen_members (selectors.Filter condition) bytes n = []
 
 -- The children to which a selector leads, given the header of their array or object.
@@ -100,9 +103,30 @@ child_places selector bytes place =
     then map (value_at place.start) (chosen_children selector (entry_there bytes place).payload)
     else []
 
--- The places to which a selector leads from a place: those of children, or that place itself, if
--- the condition of a filter holds on the tree of its entry.
+-- A step as one of a path with wildcards.
+abbrev pub step_selector : Step → Selector
+step_selector (steps.Key k) = selectors.Key k
+step_selector (steps.Index i) = selectors.Index i
+step_selector (steps.FromEnd i) = selectors.FromEnd i
+
+-- The first place, if there is one.
+abbrev pub first_place : List PlacedEntry → Option PlacedEntry
+first_place [] = None
+first_place (place ∷ places) = Some place
+
+-- The place of the child to which a step leads from a place, if there is one.
+abbrev pub step_place : Step → List ℕ → PlacedEntry → Option PlacedEntry
+step_place s bytes place = first_place (child_places (step_selector s) bytes place)
+
+-- The places of the items at indexes, in the order of these.
+abbrev pub listed_places : List ℕ → PlacedEntry → List Bound → List PlacedEntry
+listed_places bytes place indexes =
+    flat_map (λ index. option_to_list (step_place (step_at index) bytes place)) indexes
+
+-- The places to which a selector leads from a place: those of children, those of the items at
+-- indexes, or that place itself, if the condition of a filter holds on the tree of its entry.
 abbrev pub places_at : Selector → List ℕ → PlacedEntry → List PlacedEntry
+places_at (selectors.Indexes indexes) bytes place = listed_places bytes place indexes.items
 places_at (selectors.Filter condition) bytes place =
     if holds condition (entry_tree (entry_there bytes place)) then place ∷ [] else []
 places_at selector bytes place = child_places selector bytes place
@@ -136,17 +160,6 @@ selected_in path bytes (Err e) = []
 abbrev pub selected_places : List Selector → List ℕ → List PlacedEntry
 selected_places path bytes = selected_in path bytes (whole_place bytes)
 
--- A step as one of a path with wildcards.
-abbrev pub step_selector : Step → Selector
-step_selector (steps.Key k) = selectors.Key k
-step_selector (steps.Index i) = selectors.Index i
-step_selector (steps.FromEnd i) = selectors.FromEnd i
-
--- The first place, if there is one.
-abbrev pub first_place : List PlacedEntry → Option PlacedEntry
-first_place [] = None
-first_place (place ∷ places) = Some place
-
 -- What a function answers at a place, if there is one.
 abbrev pub at_place : Option PlacedEntry → (PlacedEntry → Option PlacedEntry) → Option PlacedEntry
 at_place None f = None
@@ -156,8 +169,7 @@ at_place (Some place) f = f place
 abbrev pub place_from : List Step → List ℕ → PlacedEntry → Option PlacedEntry
 place_from [] bytes place = Some place
 place_from (s ∷ path) bytes place =
-    at_place (first_place (child_places (step_selector s) bytes place))
-    (λ child. place_from path bytes child)
+    at_place (step_place s bytes place) (λ child. place_from path bytes child)
 
 -- The place to which a path leads from the place of the whole document.
 abbrev pub path_place_in : List Step → List ℕ → Result PlacedEntry Error → Option PlacedEntry

@@ -1,7 +1,7 @@
 //! The positions of the values to which paths lead.
 
 ghost use Rattle.std.specs.Prelude.{◌≡◌, ◌++◌, ◌<◌, ◌≤◌, ◌^◌, [], IfErr, IfOk, IfSome, OnOk};
-ghost use Rattle.std.specs.Prelude.{Ok, length, map};
+ghost use Rattle.std.specs.Prelude.{Ok, drop, length, map};
 ghost use Rattle.std.specs.Iterator.{YieldsFirstBy};
 ghost use Rattle.jsonb_codec.specs.WordBytes.{header_at};
 ghost use Rattle.jsonb.specs.EntryTrees.{entry_tree};
@@ -9,10 +9,12 @@ ghost use Rattle.jsonb.specs.Node.{node_tree};
 ghost use Rattle.kohiblad.specs.ChildWalks.{IsPlaceWithin, children_left, found_child, places_left};
 ghost use Rattle.kohiblad.specs.PathPlaces.{child_has_key, child_places, children_from};
 ghost use Rattle.kohiblad.specs.PathPlaces.{chosen_children, chosen_items, chosen_members};
-ghost use Rattle.kohiblad.specs.PathPlaces.{items_between, named_child, place_from, places_at};
-ghost use Rattle.kohiblad.specs.PathPlaces.{selected_from, step_selector, whole_place};
+ghost use Rattle.kohiblad.specs.PathPlaces.{items_between, listed_places, named_child, place_from};
+ghost use Rattle.kohiblad.specs.PathPlaces.{places_at, selected_from, step_place, step_selector};
+ghost use Rattle.kohiblad.specs.PathPlaces.{whole_place};
 ghost use Rattle.kohiblad.specs.PlaceWalks.{IsPart, filter_keeps, walk_places};
 ghost use Rattle.kohiblad.specs.PathCalls.{found_answer};
+ghost use Rattle.jsonb_functions.specs.Selected.{indexes_of};
 ghost use Rattle.kohiblad.specs.Words.{CanMove, Error, IsChildIn, IsEntryIn, child_at_cursor};
 ghost use Rattle.kohiblad.specs.Words.{entry_there};
 
@@ -22,7 +24,7 @@ use jsonb::layer::{Entry, payloads_end};
 use jsonb::{Error, Node, read_header};
 use jsonb_codec::constants::{ARRAY_CONTAINER_TAG, CONTAINER_TAG, OBJECT_CONTAINER_TAG};
 use jsonb_codec::parts::Part;
-use jsonb_functions::{Bound, Selector, Step, count_before, count_through, holds};
+use jsonb_functions::{Bound, Selector, Step, count_before, count_through, holds, step_at};
 
 /// What is left in a walk over children: so many at most, from a cursor on.
 #[derive(Clone, Copy)]
@@ -31,12 +33,13 @@ pub struct ChildWalk {
     pub left: usize,
 }
 
-/// What is left of the positions to which a selector leads from a position: that itself, or not, or
-/// those of children.
+/// What is left of the positions to which a selector leads from a position: that itself, or not,
+/// those of children, or those of the items at the indexes of a list, of which so many were passed.
 #[derive(Clone, Copy)]
 pub enum PlaceWalk {
     Itself(bool),
     Children(ChildWalk),
+    Listed(usize),
 }
 
 /// The position of the whole array or object, or of the payload of a scalar. `InvalidEOF` if the
@@ -75,7 +78,7 @@ pub fn append_selected(
         return Ok(());
     };
     let mut walk = places_from(bytes, place, selector);
-    while let Some(next) = next_selected(bytes, place, &mut walk) {
+    while let Some(next) = next_selected(bytes, place, selector, &mut walk) {
         append_selected(bytes, next, rest, found)?;
     }
     Ok(())
@@ -114,20 +117,28 @@ fn keeps(bytes: &[u8], place: Entry, selector: &Selector<'_>) -> bool
 // The positions to which a selector leads from a position.
 fn places_from(bytes: &[u8], place: Entry, selector: &Selector<'_>) -> PlaceWalk
     requires { IsPart bytes.now place }
-    ensures { walk_places bytes.now place result ≡ places_at selector.now bytes.now place }
+    ensures { walk_places (indexes_of selector.now) bytes.now place result
+        ≡ places_at selector.now bytes.now place }
 {
     match selector {
         Selector::Filter(condition) => {
             PlaceWalk::Itself(holds(node_there(bytes, place), condition))
         }
+        Selector::Indexes(_) => PlaceWalk::Listed(0),
         _ => PlaceWalk::Children(walk_from(bytes, place, selector)),
     }
 }
 
 // The next of these positions.
-fn next_selected(bytes: &[u8], place: Entry, walk: &mut PlaceWalk) -> Option<Entry>
+fn next_selected(
+    bytes: &[u8],
+    place: Entry,
+    selector: &Selector<'_>,
+    walk: &mut PlaceWalk,
+) -> Option<Entry>
     requires { IsPlaceWithin bytes.now place }
-    ensures { YieldsFirstBy (λ it. it) (walk_places bytes.now place) walk.old result walk.new }
+    ensures { YieldsFirstBy (λ it. it) (walk_places (indexes_of selector.now) bytes.now place)
+        walk.old result walk.new }
 {
     match walk {
         PlaceWalk::Itself(is_left) => {
@@ -138,7 +149,26 @@ fn next_selected(bytes: &[u8], place: Entry, walk: &mut PlaceWalk) -> Option<Ent
             Some(place)
         }
         PlaceWalk::Children(children) => next_place(bytes, place, children),
+        PlaceWalk::Listed(passed) => match selector {
+            Selector::Indexes(indexes) => next_listed(bytes, place, indexes, passed),
+            _ => None,
+        },
     }
+}
+
+// The next of the positions of the items at indexes.
+fn next_listed(bytes: &[u8], place: Entry, indexes: &[Bound], passed: &mut usize) -> Option<Entry>
+    requires { IsPlaceWithin bytes.now place }
+    ensures { YieldsFirstBy (λ it. it) (λ n. listed_places bytes.now place (drop n indexes.now))
+        passed.old result passed.new }
+{
+    while let Some(index) = indexes.get(*passed) {
+        *passed += 1;
+        if let Some(item) = child_place(bytes, place, step_at(*index)) {
+            return Some(item);
+        }
+    }
+    None
 }
 
 // The value at a position.
@@ -161,11 +191,20 @@ pub fn place_at_end(bytes: &[u8], from: Entry, path: &[Step<'_>]) -> Option<Entr
     let mut place = from;
     let mut left = path;
     while let [step, rest @ ..] = left {
-        let mut walk = walk_from(bytes, place, &selector_of(*step));
-        place = next_place(bytes, place, &mut walk)?;
+        place = child_place(bytes, place, *step)?;
         left = rest;
     }
     Some(place)
+}
+
+// The position to which a step leads from a position. `None` if it leads nowhere.
+fn child_place(bytes: &[u8], place: Entry, step: Step<'_>) -> Option<Entry>
+    requires { IsPlaceWithin bytes.now place }
+    ensures value { result ≡ step_place step.entry bytes.now place }
+    ensures inside { IfSome result (IsPlaceWithin bytes.now) }
+{
+    let mut walk = walk_from(bytes, place, &selector_of(step));
+    next_place(bytes, place, &mut walk)
 }
 
 // A step as one of a path with wildcards.
@@ -270,7 +309,7 @@ fn chosen_items(bytes: &[u8], count: usize, selector: &Selector<'_>) -> ChildWal
         Selector::FromEnd(index) => (Bound::FromEnd(*index), Bound::FromEnd(*index)),
         Selector::AllItems => (Bound::FromStart(0), Bound::FromEnd(0)),
         Selector::Range { first, last } => (*first, *last),
-        Selector::Key(_) | Selector::AllMembers | Selector::Filter(_) => return no_children(),
+        _ => return no_children(),
     };
     items_between(bytes, count, first, last)
 }

@@ -24,15 +24,16 @@ use std::alloc::Global;
 /// Copies the document of the path that a text gives to `out`, and its length in bytes to `length`.
 /// The text is `$`, and then the steps: `.name` is the value of a key, and so is `."any name"`, if
 /// there are points, brackets or question marks in it; `[7]` is an item, also as `[007]`, `[#-1]`
-/// the last one, and `[#]`, or `[#-0]`, none, past the last one. The keys are the text's bytes,
-/// without escapes: `.a\b` has a backslash, and `.*a` is the key `*a`. The document is what
-/// `kohiblad_edit` and `kohiblad_get_path` take: an array with a text for each key and a whole
-/// number for each item, where -1 is the last one. An index past 2^64 - 1 is stored as that, and
-/// one from the end past 2^63 as -2^63. `InvalidUtf8` if the text is not UTF-8; `OTHER_KIND` if it
-/// is not a path, or one with wildcards, ranges or filters; `InvalidJsonb` if a key has 2^28 bytes
-/// or more, or the path 2^29 steps or more; `OutOfMemory` if an allocation fails; `NO_ROOM` if
-/// `out` is shorter than the document. If the status is not `OK`, `out` is unchanged, and `length`
-/// is 0, or for `NO_ROOM` the length of the document.
+/// the last one, and `[#]`, or `[#-0]`, none, past the last one. `[last]` is the last one too, and
+/// `[last - 1]`, or `[last-1]`, the one before it. The keys are the text's bytes, without escapes:
+/// `.a\b` has a backslash, and `.*a` is the key `*a`. The document is what `kohiblad_edit` and
+/// `kohiblad_get_path` take: an array with a text for each key and a whole number for each item,
+/// where -1 is the last one. An index past 2^64 - 1 is stored as that, and one from the end past
+/// 2^63 as -2^63. `InvalidUtf8` if the text is not UTF-8; `OTHER_KIND` if it is not a path, or one
+/// with wildcards, ranges, lists or filters; `InvalidJsonb` if a key has 2^28 bytes or more, or the
+/// path 2^29 steps or more; `OutOfMemory` if an allocation fails; `NO_ROOM` if `out` is shorter
+/// than the document. If the status is not `OK`, `out` is unchanged, and `length` is 0, or for
+/// `NO_ROOM` the length of the document.
 #[unsafe(no_mangle)]
 pub extern "C" fn kohiblad_path_of_text(
     alloc: Global,
@@ -117,20 +118,22 @@ fn path_place(alloc: Global, bytes: &[u8], path: Document<'_>) -> KohibladPlace
 }
 
 /// Copies the positions of the values that a path selects to `out`, in the order in which they are
-/// stored, and how many they are to `count`. The path is a text as `kohiblad_path_of_text` reads
-/// it, in which `[*]` is each item of an array, `[0 to #-2]` the items from one to another, as far
-/// as they are there (`[0 to #]` selects all, `[# to 1]` none), `.*` each member's value of an
-/// object, and `?(@.price < 3)` keeps a value if what is at the end of the path that begins with
-/// `@` compares so with a literal, by the order of documents. That path has no wildcards, ranges
-/// and filters, and a key with a space in it is written between quotes. The comparison is `==`,
-/// `!=` or `<>`, `<`, `<=`, `>` or `>=`, with one space before and after it, and the literal
-/// `null`, `true`, `false`, a JSON number, which is read exactly, or a string without quotes and
-/// escapes in it, in which a backslash is a backslash. `&&` and `||` join comparisons, in groups in
-/// parentheses, and `!` turns a group. `InvalidUtf8` if the text is not UTF-8;
-/// `InvalidJsonb` if the bytes are not a document of at most this depth; `OTHER_KIND` if the text
-/// is not a path; `OutOfMemory` if an allocation fails; `NO_ROOM` if `out` is too short. If the
-/// status is not `OK`, `out` is unchanged, and `count` is 0, or for `NO_ROOM` the number of
-/// positions. A scalar has depth 0, an array or object one more than its deepest child, and at
+/// stored, those at a list of indexes in the order of these, and how many they are to `count`. The
+/// path is a text as `kohiblad_path_of_text` reads it, in which `[*]` is each item of an array,
+/// `[0 to #-2]` the items from one to another, as far as they are there (`[0 to #]` selects all,
+/// `[# to 1]` none), `[0, 2, last]` the items at these indexes, as far as they are there, `.*` each
+/// member's value of an object, and `?(@.price < 3)` keeps a value if what is at the end of the
+/// path that begins with `@` compares so with a literal, by the order of documents. That path has
+/// no wildcards, ranges, lists and filters, and a key with a space in it is written between quotes.
+/// The comparison is `==`, `!=` or `<>`, `<`, `<=`, `>` or `>=`, with one space before and after
+/// it, and the literal `null`, `true`, `false`, a JSON number, which is read exactly, or a string
+/// without quotes and escapes in it, in which a backslash is a backslash. `&&` and `||` join
+/// comparisons, in groups in parentheses, and `!` turns a group. `InvalidUtf8` if the text is not
+/// UTF-8; `InvalidJsonb` if the bytes are not a document of at most this depth; `OTHER_KIND` if the
+/// text is not a path; `OutOfMemory` if an allocation fails; `NO_ROOM` if `out` is too short. If
+/// the status is not `OK`, `out` is unchanged, and `count` is 0, or for `NO_ROOM` the number of
+/// positions. Each list multiplies the time and the positions of what follows it by the number of
+/// its indexes. A scalar has depth 0, an array or object one more than its deepest child, and at
 /// least 1. Deeper levels are not examined.
 #[unsafe(no_mangle)]
 pub extern "C" fn kohiblad_select(

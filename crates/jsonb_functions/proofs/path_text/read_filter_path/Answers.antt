@@ -9,16 +9,18 @@ returns-in-Some-clause-ok c =
     filter_path_read c.args.text.now c.loop-rest.left.now c.in-Some.rest c.loop-rest.steps
     c.in-Some.ensures c.loop-rest.invariant.1
 
-pub returns-in_default-read_written-clause-ok : goal.returns-in_default-read_written-clause-ok
-returns-in_default-read_written-clause-ok c =
+pub returns-in_default-2-clause-ok : goal.returns-in_default-2-clause-ok
+returns-in_default-2-clause-ok c =
     filter_path_none c.args.text.now c.loop-rest.left.now c.loop-rest.steps.items
-    c.in_default.ensures c.in_default-read_written.ensures c.loop-rest.invariant.1
+    c.in_default.ensures (rw c.in_default-2.is at c.in_ok-selector.ensures.ok)
+    c.loop-rest.invariant.1
 
 pub loop-rest-preserved : goal.loop-rest-preserved
 loop-rest-preserved c = (
   search rules,
   read_on (BeginsWith true) true path_begins c.args.text.now c.loop-rest.left.now
-      c.in-Some-read_written.rest c.loop-rest.steps.items c.push.new.self.items
-      c.in-Some-read_written.selector (λ ends. c.in_default.ensures ends.0 ends.1)
-      c.in-Some-read_written.ensures c.in_ok-push.ensures.items c.loop-rest.invariant.1,
+      c.in-Some-2.rest c.loop-rest.steps.items c.push.new.self.items c.in-Some-2.selector
+      (λ ends. c.in_default.ensures ends.0 ends.1)
+      (rw c.in-Some-2.is at c.in_ok-selector.ensures.ok) c.in_ok-push.ensures.items
+      c.loop-rest.invariant.1,
 )

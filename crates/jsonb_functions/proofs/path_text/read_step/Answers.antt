@@ -10,4 +10,4 @@ returns-in-Some-clause-ok c =
 pub returns-in-None-clause-ok : goal.returns-in-None-clause-ok
 returns-in-None-clause-ok c =
     no_filter c.args.text.now c.read_written.result
-    (λ later e. c.in-None.ensures later (c.after_spaces.ensures ∙ e)) c.read_written.ensures
+    (λ later e. c.in-None.ensures later (c.after_spaces.ensures ∙ e)) c.read_written.ensures.ok
