@@ -20,7 +20,9 @@
  * `*length` is set to the number of bytes that the result has, also if they do not fit. Then the
  * status is KOHIBLAD_NO_ROOM and `out` is untouched, and the call can be repeated with more room;
  * `room` 0 gives the length alone. With every other status but KOHIBLAD_OK, `out` is untouched and
- * `*length` is 0. Texts are UTF-8, without a zero byte at the end.
+ * `*length` is 0. So it is with a `*count` of hashes or places. A struct whose status is not
+ * KOHIBLAD_OK has zeros beside it. The calls that differ say so. Texts are UTF-8, without a zero
+ * byte at the end.
  *
  * ORDER: if a call has several reasons to refuse, KOHIBLAD_OVERLAP comes first. Then come texts,
  * keys and names that are not UTF-8, in calls with a depth bytes that are not documents within it,
@@ -310,8 +312,8 @@ struct kohiblad_survey_counts {
  * version. */
 static inline uint32_t kohiblad_version(void) KOHIBLAD_INLINE("kohiblad_version");
 
-/* Copies the name of a status, or `Unknown` for other numbers, to `out`. NO_ROOM if `out` is
- * shorter. A name has at most 21 bytes. */
+/* Copies the name of a status, or `Unknown` for other numbers, to `out`. A name has at most 21
+ * bytes. */
 static inline uint32_t kohiblad_status_name(uint32_t status, uint8_t *out, size_t room,
     size_t *length) KOHIBLAD_INLINE("kohiblad_status_name");
 
@@ -411,30 +413,28 @@ static inline int32_t kohiblad_compare(const uint8_t *left, size_t left_size, co
 
 /* The kind of a value, read from the first two words, with the number of an array's items or an
  * object's pairs; nothing else is checked. INVALID_EOF if one of these words is cut off,
- * INVALID_JSONB if they are of no kind; kind and count are then 0. */
+ * INVALID_JSONB if they are of no kind. */
 static inline struct kohiblad_value_kind kohiblad_kind(const uint8_t *bytes, size_t size)
     KOHIBLAD_INLINE("kohiblad_kind");
 
 /* Copies the value of a key to `out`, as a document of its own. INVALID_UTF8 if the name is not
  * UTF-8; NONE if the object has no such key, or the bytes are not an object; for bytes that are not
- * a document, the error of looking up the key in them; NO_ROOM if `out` is shorter than the
- * document. Bytes that are not a document can also give some value. */
+ * a document, the error of looking up the key in them. Bytes that are not a document can also give
+ * some value. */
 static inline uint32_t kohiblad_get_key(const uint8_t *bytes, size_t size, const uint8_t *name,
     size_t name_size, uint8_t *out, size_t room, size_t *length)
     KOHIBLAD_INLINE("kohiblad_get_key");
 
 /* The place of the value of a key. INVALID_UTF8 if the name is not UTF-8; NONE if the object has no
  * such key, or the bytes are not an object; for bytes that are not a document, the error of looking
- * up the key in them. If the status is not OK, type, offset and length are 0. Bytes that are not a
- * document can also give some place. */
+ * up the key in them. Bytes that are not a document can also give some place. */
 static inline struct kohiblad_place kohiblad_find_key(const uint8_t *bytes, size_t size,
     const uint8_t *name, size_t name_size) KOHIBLAD_INLINE("kohiblad_find_key");
 
 /* The place of a part of an array or object, by number: the items of an array from 0; for an object
  * of n pairs the keys from 0 and the values from n. NONE if there is no such part; INVALID_EOF if
  * the header or an entry word that is read is cut off; INVALID_JSONB if the header is of no kind,
- * or the payload runs past the end. If the status is not OK, type, offset and length are 0. Reads
- * one word for each earlier part. */
+ * or the payload runs past the end. Reads one word for each earlier part. */
 static inline struct kohiblad_place kohiblad_find_index(const uint8_t *bytes, size_t size,
     size_t number) KOHIBLAD_INLINE("kohiblad_find_index");
 
@@ -466,15 +466,14 @@ static inline uint32_t kohiblad_next(const uint8_t *bytes, size_t size,
  * this is what kohiblad_get_index and kohiblad_get_key copy. The payload is not checked: null, true
  * and false are also written with the one that is given, which in a document has no bytes.
  * INVALID_JSONB_JENTRY if entries have no such type; INVALID_JSONB if the payload of a scalar has
- * 2^28 bytes or more; NO_ROOM if `out` is shorter than the document. A scalar's document has 8
- * bytes more than its payload. */
+ * 2^28 bytes or more. A scalar's document has 8 bytes more than its payload. */
 static inline uint32_t kohiblad_copy(uint32_t type, const uint8_t *payload, size_t size,
     uint8_t *out, size_t room, size_t *length) KOHIBLAD_INLINE("kohiblad_copy");
 
 /* Copies the item of an array at an index, counted from 0, to `out`, as a document of its own. NONE
  * if the index is not below the number of items, or the bytes are not an array; INVALID_EOF if the
  * header or an entry word that is read is cut off; INVALID_JSONB if the header is of no kind, or
- * the item runs past the end; NO_ROOM if `out` is shorter than the document. */
+ * the item runs past the end. */
 static inline uint32_t kohiblad_get_index(const uint8_t *bytes, size_t size, size_t index,
     uint8_t *out, size_t room, size_t *length) KOHIBLAD_INLINE("kohiblad_get_index");
 
@@ -496,67 +495,61 @@ static inline uint32_t kohiblad_get_member(const uint8_t *bytes, size_t size, si
 /* The number in the document of a number, as a whole number of 128 bits in two halves and a scale,
  * the count of its digits after the point. INVALID_EOF if one of the first two words is cut off;
  * INVALID_JSONB if these are of no kind, or the bytes begin like a number but are not a document;
- * OTHER_KIND if they begin like a value of another kind. If the status is not OK, the fields are
- * 0. */
+ * OTHER_KIND if they begin like a value of another kind. */
 static inline struct kohiblad_decimal kohiblad_as_decimal(const uint8_t *bytes, size_t size)
     KOHIBLAD_INLINE("kohiblad_as_decimal");
 
 /* The number in the document of a number, if it is a whole number of 64 bits, signed. PAST_RANGE if
  * it does not fit or has digits after its point, even zeros; INVALID_EOF if one of the first two
  * words is cut off; INVALID_JSONB if these are of no kind, or the bytes begin like a number but are
- * not a document; OTHER_KIND if they begin like a value of another kind. If the status is not OK,
- * the value is 0. */
+ * not a document; OTHER_KIND if they begin like a value of another kind. */
 static inline struct kohiblad_integer kohiblad_as_int64(const uint8_t *bytes, size_t size)
     KOHIBLAD_INLINE("kohiblad_as_int64");
 
 /* The place of the text in the document of a text: its bytes in UTF-8, without quotes and escapes.
  * INVALID_EOF if one of the first two words is cut off; INVALID_JSONB if these are of no kind, or
  * the bytes begin like a text but are not a document; OTHER_KIND if they begin like a value of
- * another kind. If the status is not OK, type, offset and length are 0. */
+ * another kind. */
 static inline struct kohiblad_place kohiblad_as_string(const uint8_t *bytes, size_t size)
     KOHIBLAD_INLINE("kohiblad_as_string");
 
 /* The truth value in the document of a truth value, as 0 or 1. INVALID_EOF if one of the first two
  * words is cut off; INVALID_JSONB if these are of no kind, or the bytes begin like a truth value
- * but are not a document; OTHER_KIND if they begin like a value of another kind. If the status is
- * not OK, the value is 0. */
+ * but are not a document; OTHER_KIND if they begin like a value of another kind. */
 static inline struct kohiblad_truth kohiblad_as_boolean(const uint8_t *bytes, size_t size)
     KOHIBLAD_INLINE("kohiblad_as_boolean");
 
 /* The tag and fields of the extension value in the document of one. INVALID_EOF if one of the first
  * two words is cut off; INVALID_JSONB if these are of no kind, or the bytes begin like an extension
- * value but are not a document; OTHER_KIND if they begin like a value of another kind. If the
- * status is not OK, the fields are 0. */
+ * value but are not a document; OTHER_KIND if they begin like a value of another kind. */
 static inline struct kohiblad_extension_value kohiblad_as_extension(const uint8_t *bytes,
     size_t size) KOHIBLAD_INLINE("kohiblad_as_extension");
 
 /* DOCUMENTS OF SCALARS. */
 
-/* Copies the canonical document of null to `out`. NO_ROOM if `out` is shorter than the document. */
+/* Copies the canonical document of null to `out`. */
 static inline uint32_t kohiblad_of_null(uint8_t *out, size_t room, size_t *length)
     KOHIBLAD_INLINE("kohiblad_of_null");
 
 /* Copies the canonical document of a truth value to `out`. The value is false if `value` is 0, and
- * true for every other number. NO_ROOM if `out` is shorter than the document. */
+ * true for every other number. */
 static inline uint32_t kohiblad_of_boolean(uint32_t value, uint8_t *out, size_t room,
     size_t *length) KOHIBLAD_INLINE("kohiblad_of_boolean");
 
 /* Copies the canonical document of a text, given as its bytes, to `out`. INVALID_UTF8 if the bytes
- * are not UTF-8; INVALID_JSONB if there are 2^28 or more; NO_ROOM if `out` is shorter than the
- * document. */
+ * are not UTF-8; INVALID_JSONB if there are 2^28 or more. */
 static inline uint32_t kohiblad_of_string(const uint8_t *text, size_t size, uint8_t *out,
     size_t room, size_t *length) KOHIBLAD_INLINE("kohiblad_of_string");
 
 /* Copies the canonical document of a whole number to `out`. It is the document that kohiblad_parse
- * makes of the number's digits. OUT_OF_MEMORY if an allocation fails; NO_ROOM if `out` is shorter
- * than the document. */
+ * makes of the number's digits. OUT_OF_MEMORY if an allocation fails. */
 static inline uint32_t kohiblad_of_int64(int64_t value, uint8_t *out, size_t room, size_t *length)
     KOHIBLAD_INLINE("kohiblad_of_int64");
 
 /* Copies the canonical document of the number `high` times 2 to the power of 64, plus `low`, with
  * `scale` of its digits after the point, to `out`. It is the document that kohiblad_parse makes of
  * the number: 150 with scale 2 is 1.50. INVALID_JSONB if the scale is above 255; OUT_OF_MEMORY if
- * an allocation fails; NO_ROOM if `out` is shorter than the document. */
+ * an allocation fails. */
 static inline uint32_t kohiblad_of_decimal(int64_t high, uint64_t low, uint32_t scale,
     uint8_t *out, size_t room, size_t *length) KOHIBLAD_INLINE("kohiblad_of_decimal");
 
@@ -564,8 +557,7 @@ static inline uint32_t kohiblad_of_decimal(int64_t high, uint64_t low, uint32_t 
  * fields as kohiblad_as_extension returns them, and by its data; fields that the tag does not have
  * must be 0, and the data empty. INVALID_JSONB_EXTENSION if no extension value has this tag, these
  * fields and this data, so also if a date does not fit in 32 bits; INVALID_JSONB if the data have
- * 2^28 - 1 bytes or more; OUT_OF_MEMORY if an allocation fails; NO_ROOM if `out` is shorter than
- * the document. */
+ * 2^28 - 1 bytes or more; OUT_OF_MEMORY if an allocation fails. */
 static inline uint32_t kohiblad_of_extension(uint32_t tag, int64_t value, int32_t months,
     int32_t days, int32_t seconds, const uint8_t *data, size_t size, uint8_t *out, size_t room,
     size_t *length) KOHIBLAD_INLINE("kohiblad_of_extension");
@@ -573,7 +565,7 @@ static inline uint32_t kohiblad_of_extension(uint32_t tag, int64_t value, int32_
 /* Copies the text of the bytes to `out`: the compact text of a document, `null` for no bytes, and
  * for all other bytes their own text, with U+FFFD in place of invalid UTF-8. A document that nests
  * deeper than `depth` levels counts as bytes that are not a document, so its text is that of its
- * bytes. OUT_OF_MEMORY if an allocation fails; NO_ROOM if `out` is shorter than the text. */
+ * bytes. OUT_OF_MEMORY if an allocation fails. */
 static inline uint32_t kohiblad_print(const uint8_t *bytes, size_t size, size_t depth, uint8_t *out,
     size_t room, size_t *length) KOHIBLAD_INLINE("kohiblad_print");
 
@@ -590,8 +582,7 @@ static inline uint32_t kohiblad_pretty(const uint8_t *bytes, size_t size, size_t
  * payload, as a place in a document says them, and is not copied: the text is that which
  * kohiblad_print makes of the document that kohiblad_copy makes of it. INVALID_JSONB_JENTRY if
  * entries have no such type; INVALID_JSONB if the payload is not that of a value which nests at
- * most `depth` deep. OUT_OF_MEMORY if an allocation fails; NO_ROOM if `out` is shorter than the
- * text. */
+ * most `depth` deep. OUT_OF_MEMORY if an allocation fails. */
 static inline uint32_t kohiblad_print_at(uint32_t type, const uint8_t *payload, size_t size,
     size_t depth, uint8_t *out, size_t room, size_t *length) KOHIBLAD_INLINE("kohiblad_print_at");
 
@@ -610,9 +601,8 @@ static inline uint32_t kohiblad_pretty_at(uint32_t type, const uint8_t *payload,
  * value, as `1e5` means 100000. TOO_DEEP if more than `depth` brackets outside strings are open at
  * once, before any other status; INVALID_UTF8 if the text is not UTF-8; INVALID_JSON if it is not
  * accepted JSON; INVALID_JSONB if a limit of the format is exceeded; OUT_OF_MEMORY if an allocation
- * fails; NO_ROOM if `out` is shorter than the document. The document is shorter than 4 times the
- * text plus 8 bytes, and with exponents than 5 times the text plus 8: 1e5 is 100000, 25e-1 is
- * 2.5. */
+ * fails. The document is shorter than 4 times the text plus 8 bytes, and with exponents than 5
+ * times the text plus 8: 1e5 is 100000, 25e-1 is 2.5. */
 static inline uint32_t kohiblad_parse(const uint8_t *text, size_t size, size_t depth,
     uint32_t exponents, uint8_t *out, size_t room, size_t *length)
     KOHIBLAD_INLINE("kohiblad_parse");
@@ -658,7 +648,7 @@ static inline struct kohiblad_fault kohiblad_fault_words(const uint8_t *text, si
 /* Builds the array of the documents in the rows, and copies it to `out`. INVALID_EOF if an offset
  * is below the previous one or beyond the bytes; then, before anything is built, INVALID_JSONB if a
  * row is not a document of at most this depth. INVALID_JSONB also if a limit of the format is
- * exceeded; OUT_OF_MEMORY if an allocation fails; NO_ROOM if `out` is shorter than the array. */
+ * exceeded; OUT_OF_MEMORY if an allocation fails. */
 static inline uint32_t kohiblad_build_array(const uint8_t *bytes, size_t size,
     const size_t *offsets, size_t count, size_t depth, uint8_t *out, size_t room, size_t *length)
     KOHIBLAD_INLINE("kohiblad_build_array");
@@ -668,7 +658,7 @@ static inline uint32_t kohiblad_build_array(const uint8_t *bytes, size_t size,
  * rows is odd; then, before the keys are looked at, INVALID_JSONB if a document is not one of at
  * most this depth; then, before keys are compared, INVALID_UTF8 if one is not UTF-8.
  * OBJECT_DUPLICATE_KEY if a key occurs twice; INVALID_JSONB also if a limit of the format is
- * exceeded; OUT_OF_MEMORY if an allocation fails; NO_ROOM if `out` is shorter than the object. */
+ * exceeded; OUT_OF_MEMORY if an allocation fails. */
 static inline uint32_t kohiblad_build_object(const uint8_t *bytes, size_t size,
     const size_t *offsets, size_t count, size_t depth, uint8_t *out, size_t room, size_t *length)
     KOHIBLAD_INLINE("kohiblad_build_object");
@@ -680,8 +670,7 @@ static inline bool kohiblad_is_canonical(const uint8_t *bytes, size_t size, size
 
 /* Copies the canonical document of the value that the bytes mean to `out`. INVALID_JSONB if the
  * bytes are not a document of at most this depth, or a payload in an older form exceeds its limit
- * in its newer form; OUT_OF_MEMORY if an allocation fails; NO_ROOM if `out` is shorter than the
- * document. */
+ * in its newer form; OUT_OF_MEMORY if an allocation fails. */
 static inline uint32_t kohiblad_canonical(const uint8_t *bytes, size_t size, size_t depth,
     uint8_t *out, size_t room, size_t *length) KOHIBLAD_INLINE("kohiblad_canonical");
 
@@ -693,8 +682,7 @@ static inline uint32_t kohiblad_key_layout(void) KOHIBLAD_INLINE("kohiblad_key_l
 /* Copies the comparable key of any bytes to `out`. Keys compare by their bytes, a prefix before
  * what continues it, as kohiblad_compare compares the bytes at this depth; no key begins another. A
  * document that nests deeper than `depth` levels counts as bytes that are not a document.
- * OUT_OF_MEMORY if an allocation fails; NO_ROOM if `out` is shorter than the key. Compare keys by
- * memcmp, and then the shorter first. */
+ * OUT_OF_MEMORY if an allocation fails. Compare keys by memcmp, and then the shorter first. */
 static inline uint32_t kohiblad_key(const uint8_t *bytes, size_t size, size_t depth, uint8_t *out,
     size_t room, size_t *length) KOHIBLAD_INLINE("kohiblad_key");
 
@@ -713,9 +701,7 @@ static inline uint32_t kohiblad_key_cut(const uint8_t *bytes, size_t size, size_
  * that is not an object has no members. No key begins another, so these keys compare by their bytes
  * as the lists of the members' values do. INVALID_JSONB if the bytes or the names are not a
  * document of at most this depth; OTHER_KIND if the names are not an array of texts; OUT_OF_MEMORY
- * if an allocation fails; NO_ROOM if `out` is shorter than the keys. If the status is not OK, `out`
- * is unchanged, and `*length` is 0, or for NO_ROOM the length of the keys, or `SIZE_MAX` if they
- * are longer. */
+ * if an allocation fails. The length is `SIZE_MAX` if the keys are longer. */
 static inline uint32_t kohiblad_member_key(const uint8_t *bytes, size_t size,
     const uint8_t *names, size_t names_size, size_t depth, uint8_t *out, size_t room,
     size_t *length) KOHIBLAD_INLINE("kohiblad_member_key");
@@ -857,15 +843,15 @@ static inline struct kohiblad_taken kohiblad_take_text_unchecked(const uint8_t *
  * that is looked for, and one for each of its bytes. `steps` suffice that are at least the product
  * of the weights of both, the numbers of their values and keys and of the bytes of texts, keys, and
  * binary and opaque values. INVALID_JSONB if `left` or `right` is not a document of at most this
- * depth; OUT_OF_MEMORY if an allocation fails, which only such a sort makes. If the status is not
- * OK, the value is 0. SIZE_MAX is no limit. */
+ * depth; OUT_OF_MEMORY if an allocation fails, which only such a sort makes. SIZE_MAX is no
+ * limit. */
 static inline struct kohiblad_truth kohiblad_contains(const uint8_t *left, size_t left_size,
     const uint8_t *right, size_t right_size, size_t depth, size_t steps)
     KOHIBLAD_INLINE("kohiblad_contains");
 
 /* Whether the document is an object with this key, an array with this text among its items, or the
  * text itself, as 0 or 1. INVALID_UTF8 if the key is not UTF-8; INVALID_JSONB if the bytes are not
- * a document of at most this depth; the value is then 0. */
+ * a document of at most this depth. */
 static inline struct kohiblad_truth kohiblad_exists(const uint8_t *bytes, size_t size,
     const uint8_t *key, size_t key_size, size_t depth) KOHIBLAD_INLINE("kohiblad_exists");
 
@@ -873,7 +859,7 @@ static inline struct kohiblad_truth kohiblad_exists(const uint8_t *bytes, size_t
  * keys none is. `names` is the document of an array of texts; it does not matter how often or in
  * which order they are listed. INVALID_JSONB if the bytes or the names are not a document of at
  * most this depth; OTHER_KIND if the names are not an array of texts; OUT_OF_MEMORY if an
- * allocation fails. If the status is not OK, the value is 0. */
+ * allocation fails. */
 static inline struct kohiblad_truth kohiblad_exists_any(const uint8_t *bytes, size_t size,
     const uint8_t *names, size_t names_size, size_t depth)
     KOHIBLAD_INLINE("kohiblad_exists_any");
@@ -882,7 +868,7 @@ static inline struct kohiblad_truth kohiblad_exists_any(const uint8_t *bytes, si
  * keys all are. `names` is the document of an array of texts; it does not matter how often or in
  * which order they are listed. INVALID_JSONB if the bytes or the names are not a document of at
  * most this depth; OTHER_KIND if the names are not an array of texts; OUT_OF_MEMORY if an
- * allocation fails. If the status is not OK, the value is 0. */
+ * allocation fails. */
 static inline struct kohiblad_truth kohiblad_exists_all(const uint8_t *bytes, size_t size,
     const uint8_t *names, size_t names_size, size_t depth)
     KOHIBLAD_INLINE("kohiblad_exists_all");
@@ -891,8 +877,7 @@ static inline struct kohiblad_truth kohiblad_exists_all(const uint8_t *bytes, si
  * of all members, with the value of `right` for a key of both; of all others the array of the items
  * of both, to which a value that is not an array adds itself. INVALID_JSONB if `left` or `right` is
  * not a document of at most this depth, or the result exceeds a limit of the format; OUT_OF_MEMORY
- * if an allocation fails; NO_ROOM if `out` is shorter than the document, which is at most 14 bytes
- * and a quarter longer than both. */
+ * if an allocation fails. The document is at most 14 bytes and a quarter longer than both. */
 static inline uint32_t kohiblad_concat(const uint8_t *left, size_t left_size,
     const uint8_t *right, size_t right_size, size_t depth, uint8_t *out, size_t room,
     size_t *length) KOHIBLAD_INLINE("kohiblad_concat");
@@ -902,8 +887,7 @@ static inline uint32_t kohiblad_concat(const uint8_t *left, size_t left_size,
  * object removes the member with its key if it is null, and else patches the value of that member,
  * or an empty object if there is no such member; a `target` that is not an object counts as an
  * empty one. INVALID_JSONB if `target` or `patch` is not a document of at most this depth, or the
- * result exceeds a limit of the format; OUT_OF_MEMORY if an allocation fails; NO_ROOM if `out` is
- * shorter than the document. */
+ * result exceeds a limit of the format; OUT_OF_MEMORY if an allocation fails. */
 static inline uint32_t kohiblad_merge_patch(const uint8_t *target, size_t target_size,
     const uint8_t *patch, size_t patch_size, size_t depth, uint8_t *out, size_t room,
     size_t *length) KOHIBLAD_INLINE("kohiblad_merge_patch");
@@ -911,7 +895,7 @@ static inline uint32_t kohiblad_merge_patch(const uint8_t *target, size_t target
 /* Copies the canonical document of a document without the members that are null, in each object in
  * it, to `out`. Items that are null stay, and so does a document that is null itself. INVALID_JSONB
  * if the bytes are not a document of at most this depth, or the result exceeds a limit of the
- * format; OUT_OF_MEMORY if an allocation fails; NO_ROOM if `out` is shorter than the document. */
+ * format; OUT_OF_MEMORY if an allocation fails. */
 static inline uint32_t kohiblad_strip_nulls(const uint8_t *bytes, size_t size, size_t depth,
     uint8_t *out, size_t room, size_t *length) KOHIBLAD_INLINE("kohiblad_strip_nulls");
 
@@ -920,8 +904,7 @@ static inline uint32_t kohiblad_strip_nulls(const uint8_t *bytes, size_t size, s
  * and otherwise the others; it does not matter how often or in which order they are listed. What is
  * not an object is kept whole. INVALID_JSONB if the bytes or the names are not a document of at
  * most this depth, or the result exceeds a limit of the format; OTHER_KIND if the names are not an
- * array of texts; OUT_OF_MEMORY if an allocation fails; NO_ROOM if `out` is shorter than the
- * document. */
+ * array of texts; OUT_OF_MEMORY if an allocation fails. */
 static inline uint32_t kohiblad_pick(const uint8_t *bytes, size_t size, const uint8_t *names,
     size_t names_size, uint32_t others, size_t depth, uint8_t *out, size_t room, size_t *length)
     KOHIBLAD_INLINE("kohiblad_pick");
@@ -929,23 +912,21 @@ static inline uint32_t kohiblad_pick(const uint8_t *bytes, size_t size, const ui
 /* Copies the canonical document of the array of an object's keys to `out`: texts in the order in
  * which the keys are stored, which is that of their bytes. INVALID_JSONB if the bytes are not a
  * document of at most this depth; NONE if the document is not an object; OUT_OF_MEMORY if an
- * allocation fails; NO_ROOM if `out` is shorter than the document of the array. If the status is
- * not OK, `out` is unchanged, and `*length` is 0, or for NO_ROOM the length of that document. */
+ * allocation fails. */
 static inline uint32_t kohiblad_object_keys(const uint8_t *bytes, size_t size, size_t depth,
     uint8_t *out, size_t room, size_t *length) KOHIBLAD_INLINE("kohiblad_object_keys");
 
 /* Copies the canonical document of an array's items without those that are equal to one before them
  * to `out`. A value that is not an array is the one item. INVALID_JSONB if the bytes are not a
  * document of at most this depth, or the result exceeds a limit of the format; OUT_OF_MEMORY if an
- * allocation fails; NO_ROOM if `out` is shorter than the document. */
+ * allocation fails. */
 static inline uint32_t kohiblad_array_distinct(const uint8_t *bytes, size_t size, size_t depth,
     uint8_t *out, size_t room, size_t *length) KOHIBLAD_INLINE("kohiblad_array_distinct");
 
 /* Copies the canonical document of the items that both arrays have to `out`, in the order of
  * `left`. Of equal items there are as many as both have: the first ones of `left`. A value that is
  * not an array is one item. INVALID_JSONB if `left` or `right` is not a document of at most this
- * depth, or the result exceeds a limit of the format; OUT_OF_MEMORY if an allocation fails; NO_ROOM
- * if `out` is shorter than the document. */
+ * depth, or the result exceeds a limit of the format; OUT_OF_MEMORY if an allocation fails. */
 static inline uint32_t kohiblad_array_intersection(const uint8_t *left, size_t left_size,
     const uint8_t *right, size_t right_size, size_t depth, uint8_t *out, size_t room,
     size_t *length) KOHIBLAD_INLINE("kohiblad_array_intersection");
@@ -953,15 +934,14 @@ static inline uint32_t kohiblad_array_intersection(const uint8_t *left, size_t l
 /* Copies the canonical document of the items of `left` without one for each equal item of `right`
  * to `out`. Of equal items the first ones go. A value that is not an array is one item.
  * INVALID_JSONB if `left` or `right` is not a document of at most this depth, or the result exceeds
- * a limit of the format; OUT_OF_MEMORY if an allocation fails; NO_ROOM if `out` is shorter than the
- * document. */
+ * a limit of the format; OUT_OF_MEMORY if an allocation fails. */
 static inline uint32_t kohiblad_array_except(const uint8_t *left, size_t left_size,
     const uint8_t *right, size_t right_size, size_t depth, uint8_t *out, size_t room,
     size_t *length) KOHIBLAD_INLINE("kohiblad_array_except");
 
 /* Whether some item of the array `left` is equal to one of `right`, as 0 or 1. A value that is not
  * an array is one item. INVALID_JSONB if `left` or `right` is not a document of at most this depth;
- * OUT_OF_MEMORY if an allocation fails. If the status is not OK, the value is 0. */
+ * OUT_OF_MEMORY if an allocation fails. */
 static inline struct kohiblad_truth kohiblad_array_overlap(const uint8_t *left,
     size_t left_size, const uint8_t *right, size_t right_size, size_t depth)
     KOHIBLAD_INLINE("kohiblad_array_overlap");
@@ -978,10 +958,10 @@ static inline struct kohiblad_truth kohiblad_array_overlap(const uint8_t *left,
  * 1; an item is added right after the last one only, at its index or at 2^64 - 1. INVALID_JSONB if
  * the bytes, the path or the value are not a document of at most this depth, or the result exceeds
  * a limit of the format; OTHER_KIND if there is no such edit, or the path is not an array of texts
- * and whole numbers of 64 bits; OUT_OF_MEMORY if an allocation fails; NO_ROOM if `out` is shorter
- * than the document, which has at most 5/4 of the bytes of the document and the value together, 3
- * times those of the path, and 2 more. `edit` is one of enum kohiblad_edit_kind. Where nothing is
- * edited, the result is the canonical form of the document. */
+ * and whole numbers of 64 bits; OUT_OF_MEMORY if an allocation fails. The document has at most 5/4
+ * of the bytes of the document and the value together, 3 times those of the path, and 2 more.
+ * `edit` is one of enum kohiblad_edit_kind. Where nothing is edited, the result is the canonical
+ * form of the document. */
 static inline uint32_t kohiblad_edit(const uint8_t *bytes, size_t size, const uint8_t *path,
     size_t path_size, uint32_t edit, const uint8_t *value, size_t value_size, size_t depth,
     uint8_t *out, size_t room, size_t *length) KOHIBLAD_INLINE("kohiblad_edit");
@@ -1017,8 +997,7 @@ static inline uint32_t kohiblad_path_of_text(const uint8_t *text, size_t size, u
  * every number past 2^64 - 2. kohiblad_edit and kohiblad_get_path take the result. INVALID_UTF8 if
  * the text is not UTF-8; INVALID_JSONB if the bytes are not a document of at most this depth, or as
  * for kohiblad_path_of_text; OTHER_KIND if the text is none of these, or a path with wildcards,
- * ranges or filters; OUT_OF_MEMORY if an allocation fails; NO_ROOM if `out` is shorter than the
- * path's document. */
+ * ranges or filters; OUT_OF_MEMORY if an allocation fails. */
 static inline uint32_t kohiblad_path_in(const uint8_t *bytes, size_t size, const uint8_t *text,
     size_t text_size, size_t depth, uint8_t *out, size_t room, size_t *length)
     KOHIBLAD_INLINE("kohiblad_path_in");
@@ -1054,24 +1033,21 @@ static inline uint32_t kohiblad_select(const uint8_t *bytes, size_t size, const 
     size_t path_size, size_t depth, struct kohiblad_place *out, size_t room, size_t *count)
     KOHIBLAD_INLINE("kohiblad_select");
 
-/* Copies the index keys of a document to `out`, and how many they are to `*count`: one for each
- * scalar, the FNV-1a hash of 64 bits of the keys of the objects around it, from the outermost, each
- * escaped and ended as in a comparable key, then a byte 0, and then the scalar's comparable key. A
- * document that contains another has each of its index keys, so an index over them misses no
- * document; two scalars may have the same key. There are at most as many as a quarter of `size`.
- * INVALID_JSONB if the bytes are not a document of at most this depth; OUT_OF_MEMORY if an
- * allocation fails; NO_ROOM if `out` is too short. If the status is not OK, `out` is unchanged, and
- * `*count` is 0, or for NO_ROOM the number of keys. */
+/* Copies the index keys of a document to `out`: one for each scalar, the FNV-1a hash of 64 bits of
+ * the keys of the objects around it, from the outermost, each escaped and ended as in a comparable
+ * key, then a byte 0, and then the scalar's comparable key. A document that contains another has
+ * each of its index keys, so an index over them misses no document; two scalars may have the same
+ * key. There are at most as many as a quarter of `size`. INVALID_JSONB if the bytes are not a
+ * document of at most this depth; OUT_OF_MEMORY if an allocation fails. */
 static inline uint32_t kohiblad_index_keys(const uint8_t *bytes, size_t size, size_t depth,
     uint64_t *out, size_t room, size_t *count) KOHIBLAD_INLINE("kohiblad_index_keys");
 
-/* Copies the top keys of a document to `out`, and how many they are to `*count`: the FNV-1a hash of
- * 64 bits of two bytes 0 and then each key of an object, each text among an array's items, or the
- * text itself. They are apart from the index keys, so one index holds both. If a key exists in a
- * document, the one top key of the key's own document is one of the document's. There are at most
- * as many as a quarter of `size`. INVALID_JSONB if the bytes are not a document of at most this
- * depth; OUT_OF_MEMORY if an allocation fails; NO_ROOM if `out` is too short. If the status is not
- * OK, `out` is unchanged, and `*count` is 0, or for NO_ROOM the number of keys. */
+/* Copies the top keys of a document to `out`: the FNV-1a hash of 64 bits of two bytes 0 and then
+ * each key of an object, each text among an array's items, or the text itself. They are apart from
+ * the index keys, so one index holds both. If a key exists in a document, the one top key of the
+ * key's own document is one of the document's. There are at most as many as a quarter of `size`.
+ * INVALID_JSONB if the bytes are not a document of at most this depth; OUT_OF_MEMORY if an
+ * allocation fails. */
 static inline uint32_t kohiblad_top_keys(const uint8_t *bytes, size_t size, size_t depth,
     uint64_t *out, size_t room, size_t *count) KOHIBLAD_INLINE("kohiblad_top_keys");
 

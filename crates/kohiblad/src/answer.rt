@@ -46,8 +46,7 @@ pub extern "C" fn kohiblad_version() -> u32
     VERSION
 }
 
-/// Copies the name of a status, or `Unknown` for other numbers, to `out`, and its length in bytes
-/// to `length`. `NO_ROOM` if `out` is shorter; it is then unchanged, and `length` is still set.
+/// Copies the name of a status, or `Unknown` for other numbers, to `out`.
 #[unsafe(no_mangle)]
 pub extern "C" fn kohiblad_status_name(status: u32, out: &mut [u8], length: &mut usize) -> u32
     ensures { IsHandedOver (status_name status) out.old out.new length.new result }

@@ -12,12 +12,9 @@ use jsonb_functions::{array_distinct, array_except, array_intersection, array_ov
 use std::alloc::Global;
 
 /// Copies the canonical document of an array's items without those that are equal to one before
-/// them to `out`, and its length in bytes to `length`. A value that is not an array is the one
-/// item. `InvalidJsonb` if the bytes are not a document of at most this depth, or the result
-/// exceeds a limit of the format; `OutOfMemory` if an allocation fails; `NO_ROOM` if `out` is
-/// shorter than the document. If the status is not `OK`, `out` is unchanged, and `length` is 0, or
-/// for `NO_ROOM` the length of the document. A scalar has depth 0, an array or object one more than
-/// its deepest child, and at least 1. Deeper levels are not examined.
+/// them to `out`. A value that is not an array is the one item. `InvalidJsonb` if the bytes are not
+/// a document of at most this depth, or the result exceeds a limit of the format; `OutOfMemory` if
+/// an allocation fails.
 #[unsafe(no_mangle)]
 pub extern "C" fn kohiblad_array_distinct(
     alloc: Global,
@@ -44,13 +41,9 @@ fn distinct_items(alloc: Global, bytes: SortKey<'_>) -> Result<OwnedJsonb, Error
 }
 
 /// Copies the canonical document of the items that both arrays have to `out`, in the order of
-/// `left`, and its length in bytes to `length`. Of equal items there are as many as both have: the
-/// first ones of `left`. A value that is not an array is one item. `InvalidJsonb` if `left` or
-/// `right` is not a document of at most this depth, or the result exceeds a limit of the format;
-/// `OutOfMemory` if an allocation fails; `NO_ROOM` if `out` is shorter than the document. If the
-/// status is not `OK`, `out` is unchanged, and `length` is 0, or for `NO_ROOM` the length of the
-/// document. A scalar has depth 0, an array or object one more than its deepest child, and at least
-/// 1. Deeper levels are not examined.
+/// `left`. Of equal items there are as many as both have: the first ones of `left`. A value that is
+/// not an array is one item. `InvalidJsonb` if `left` or `right` is not a document of at most this
+/// depth, or the result exceeds a limit of the format; `OutOfMemory` if an allocation fails.
 #[unsafe(no_mangle)]
 pub extern "C" fn kohiblad_array_intersection(
     alloc: Global,
@@ -82,12 +75,9 @@ fn common_items(alloc: Global, left: SortKey<'_>, right: SortKey<'_>) -> Result<
 }
 
 /// Copies the canonical document of the items of `left` without one for each equal item of `right`
-/// to `out`, and its length in bytes to `length`. Of equal items the first ones go. A value that is
-/// not an array is one item. `InvalidJsonb` if `left` or `right` is not a document of at most this
-/// depth, or the result exceeds a limit of the format; `OutOfMemory` if an allocation fails;
-/// `NO_ROOM` if `out` is shorter than the document. If the status is not `OK`, `out` is unchanged,
-/// and `length` is 0, or for `NO_ROOM` the length of the document. A scalar has depth 0, an array
-/// or object one more than its deepest child, and at least 1. Deeper levels are not examined.
+/// to `out`. Of equal items the first ones go. A value that is not an array is one item.
+/// `InvalidJsonb` if `left` or `right` is not a document of at most this depth, or the result
+/// exceeds a limit of the format; `OutOfMemory` if an allocation fails.
 #[unsafe(no_mangle)]
 pub extern "C" fn kohiblad_array_except(
     alloc: Global,
@@ -118,9 +108,7 @@ fn items_left(alloc: Global, left: SortKey<'_>, right: SortKey<'_>) -> Result<Ow
 
 /// Whether some item of the array `left` is equal to one of `right`, as 0 or 1. A value that is not
 /// an array is one item. `InvalidJsonb` if `left` or `right` is not a document of at most this
-/// depth; `OutOfMemory` if an allocation fails. If the status is not `OK`, the value is 0. A scalar
-/// has depth 0, an array or object one more than its deepest child, and at least 1. Deeper levels
-/// are not examined.
+/// depth; `OutOfMemory` if an allocation fails.
 #[unsafe(no_mangle)]
 pub extern "C" fn kohiblad_array_overlap(
     alloc: Global,

@@ -9,14 +9,10 @@ use crate::rows::Rows;
 use jsonb::{Error, OwnedJsonb};
 use std::alloc::Global;
 
-/// Builds the array of the documents in the rows, and copies it to `out` and its length in bytes to
-/// `length`. Row k begins at `offsets[k]` and ends at `offsets[k + 1]`. `InvalidEOF` if an offset
+/// Builds the array of the documents in the rows, and copies it to `out`. `InvalidEOF` if an offset
 /// is below the previous one or beyond the bytes; then, before anything is built, `InvalidJsonb` if
 /// a row is not a document of at most this depth. `InvalidJsonb` also if a limit of the format is
-/// exceeded; `OutOfMemory` if an allocation fails; `NO_ROOM` if `out` is shorter than the array. If
-/// the status is not `OK`, `out` is unchanged, and `length` is 0, or for `NO_ROOM` the length of
-/// the array. A scalar has depth 0, an array or object one more than its deepest child, and at
-/// least 1. Deeper levels are not examined.
+/// exceeded; `OutOfMemory` if an allocation fails.
 #[unsafe(no_mangle)]
 pub extern "C" fn kohiblad_build_array(
     alloc: Global,
@@ -43,15 +39,11 @@ fn array_of(alloc: Global, rows: Rows, depth: usize) -> Result<OwnedJsonb, Error
 }
 
 /// Builds the object of the pairs in the rows: a key, then its document, and so on. It is copied to
-/// `out` and its length in bytes to `length`. Row k begins at `offsets[k]` and ends at `offsets[k +
-/// 1]`. `InvalidEOF` if an offset is below the previous one or beyond the bytes, or the number of
+/// `out`. `InvalidEOF` if an offset is below the previous one or beyond the bytes, or the number of
 /// rows is odd; then, before the keys are looked at, `InvalidJsonb` if a document is not one of at
 /// most this depth; then, before keys are compared, `InvalidUtf8` if one is not UTF-8.
 /// `ObjectDuplicateKey` if a key occurs twice; `InvalidJsonb` also if a limit of the format is
-/// exceeded; `OutOfMemory` if an allocation fails; `NO_ROOM` if `out` is shorter than the object.
-/// If the status is not `OK`, `out` is unchanged, and `length` is 0, or for `NO_ROOM` the length of
-/// the object. A scalar has depth 0, an array or object one more than its deepest child, and at
-/// least 1. Deeper levels are not examined.
+/// exceeded; `OutOfMemory` if an allocation fails.
 #[unsafe(no_mangle)]
 pub extern "C" fn kohiblad_build_object(
     alloc: Global,

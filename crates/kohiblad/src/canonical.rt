@@ -8,8 +8,7 @@ use jsonb::{Document, Error};
 use std::alloc::Global;
 
 /// Whether the bytes are a document of at most this depth, and canonical: those that the encoder
-/// writes for some value. A scalar has depth 0, an array or object one more than its deepest child,
-/// and at least 1. Deeper levels are not examined.
+/// writes for some value.
 #[unsafe(no_mangle)]
 pub extern "C" fn kohiblad_is_canonical(bytes: &[u8], depth: usize) -> bool
     ensures { IsTrue result ↔ (IsDocumentWithin depth bytes.now × IsCanonical bytes.now) }
@@ -20,12 +19,9 @@ pub extern "C" fn kohiblad_is_canonical(bytes: &[u8], depth: usize) -> bool
     }
 }
 
-/// Copies the canonical document of the value that the bytes mean to `out`, and its length in bytes
-/// to `length`. `InvalidJsonb` if the bytes are not a document of at most this depth, or a payload
-/// in an older form exceeds its limit in its newer form; `OutOfMemory` if an allocation fails;
-/// `NO_ROOM` if `out` is shorter than the document. If the status is not `OK`, `out` is unchanged,
-/// and `length` is 0, or for `NO_ROOM` the length of the document. A scalar has depth 0, an array
-/// or object one more than its deepest child, and at least 1. Deeper levels are not examined.
+/// Copies the canonical document of the value that the bytes mean to `out`. `InvalidJsonb` if the
+/// bytes are not a document of at most this depth, or a payload in an older form exceeds its limit
+/// in its newer form; `OutOfMemory` if an allocation fails.
 #[unsafe(no_mangle)]
 pub extern "C" fn kohiblad_canonical(
     alloc: Global,

@@ -12,8 +12,7 @@ use std::cmp::Ordering;
 // Bytes of at most this length are compared by their meaning at once: checking takes few steps.
 const QUICK_TO_CHECK: usize = 128;
 
-/// Whether the bytes are a document of at most this depth: a scalar has depth 0, an array or object
-/// one more than its deepest child, and at least 1. Deeper levels are not examined.
+/// Whether the bytes are a document of at most this depth.
 #[unsafe(no_mangle)]
 pub extern "C" fn kohiblad_check(bytes: &[u8], depth: usize) -> bool
     ensures { IsTrue result ↔ IsDocumentWithin depth bytes.now }
@@ -23,8 +22,7 @@ pub extern "C" fn kohiblad_check(bytes: &[u8], depth: usize) -> bool
 
 /// Compares byte strings by their meaning, with the result -1, 0 or 1: documents of at most this
 /// depth compare by their values and are less than all other bytes, which compare as bytes. So a
-/// document that nests deeper than `depth` levels compares by its bytes. A scalar has depth 0, an
-/// array or object one more than its deepest child, and at least 1. Deeper levels are not examined.
+/// document that nests deeper than `depth` levels compares by its bytes.
 #[unsafe(no_mangle)]
 pub extern "C" fn kohiblad_compare(left: &[u8], right: &[u8], depth: usize) -> i32
     ensures { result ≡ sign (meaning_cmp (meaning_within depth left.now)
@@ -75,7 +73,7 @@ pub struct KohibladKind {
 
 /// The kind of a value, read from the first two words, with the number of an array's items or an
 /// object's pairs; nothing else is checked. `InvalidEOF` if one of these words is cut off,
-/// `InvalidJsonb` if they are of no kind; kind and count are then 0.
+/// `InvalidJsonb` if they are of no kind.
 #[unsafe(no_mangle)]
 pub extern "C" fn kohiblad_kind(bytes: &[u8]) -> KohibladKind
     ensures kind { result ≡ kind_answer (kind bytes.now) }

@@ -16,14 +16,11 @@ use jsonb_codec::constants::{
 use simdutf8::basic;
 use std::alloc::Global;
 
-/// Copies the compact text of an entry's value to `out`, and its length in bytes to `length`. The
-/// entry is given by its type and its payload, as a position in a document says them, and is not
-/// copied: the text is that which `kohiblad_print` makes of the document that `kohiblad_copy` makes
-/// of it. `InvalidJsonbJEntry` if entries have no such type; `InvalidJsonb` if the payload is not
-/// that of a value which nests at most `depth` deep. A scalar has depth 0, an array or object one
-/// more than its deepest child, and at least 1. Deeper levels are not examined. `OutOfMemory` if an
-/// allocation fails; `NO_ROOM` if `out` is shorter than the text. If the status is not `OK`, `out`
-/// is unchanged, and `length` is 0, or for `NO_ROOM` the length of the text.
+/// Copies the compact text of an entry's value to `out`. The entry is given by its type and its
+/// payload, as a position in a document says them, and is not copied: the text is that which
+/// `kohiblad_print` makes of the document that `kohiblad_copy` makes of it. `InvalidJsonbJEntry` if
+/// entries have no such type; `InvalidJsonb` if the payload is not that of a value which nests at
+/// most `depth` deep. `OutOfMemory` if an allocation fails.
 #[unsafe(no_mangle)]
 pub extern "C" fn kohiblad_print_at(
     alloc: Global,
@@ -51,16 +48,13 @@ pub extern "C" fn kohiblad_print_at(
     }
 }
 
-/// Copies the pretty text of an entry's value to `out`, and its length in bytes to `length`: that
-/// which `kohiblad_pretty` makes of the document that `kohiblad_copy` makes of the entry, which is
-/// given by its type and its payload, as a position in a document says them, and is not copied.
-/// `InvalidJsonbJEntry` if entries have no such type; `InvalidJsonb` if the payload is not that of
-/// a value which nests at most `depth` deep. A scalar has depth 0, an array or object one more than
-/// its deepest child, and at least 1. Deeper levels are not examined. `NO_ROOM` if `out` is shorter
-/// than the text, which is counted first, in one walk over the bytes and without memory; the length
-/// is `SIZE_MAX` if the text is longer. `OutOfMemory` if an allocation fails, which is asked for
-/// only if there is room. If the status is not `OK`, `out` is unchanged, and `length` is 0, or for
-/// `NO_ROOM` the length of the text.
+/// Copies the pretty text of an entry's value to `out`: that which `kohiblad_pretty` makes of the
+/// document that `kohiblad_copy` makes of the entry, which is given by its type and its payload, as
+/// a position in a document says them, and is not copied. `InvalidJsonbJEntry` if entries have no
+/// such type; `InvalidJsonb` if the payload is not that of a value which nests at most `depth`
+/// deep. `NO_ROOM` if `out` is shorter than the text, which is counted first, in one walk over the
+/// bytes and without memory; the length is `SIZE_MAX` if the text is longer. `OutOfMemory` if an
+/// allocation fails, which is asked for only if there is room.
 #[unsafe(no_mangle)]
 pub extern "C" fn kohiblad_pretty_at(
     alloc: Global,

@@ -32,8 +32,7 @@ use std::alloc::Global;
 /// at least the product of the weights of both, the numbers of their values and keys and of the
 /// bytes of texts, keys, and binary and opaque values. `InvalidJsonb` if `left` or `right` is not a
 /// document of at most this depth; `OutOfMemory` if an allocation fails, which only such a sort
-/// makes. If the status is not `OK`, the value is 0. A scalar has depth 0, an array or object one
-/// more than its deepest child, and at least 1. Deeper levels are not examined.
+/// makes.
 #[unsafe(no_mangle)]
 pub extern "C" fn kohiblad_contains(
     alloc: Global,
@@ -61,8 +60,7 @@ pub extern "C" fn kohiblad_contains(
 
 /// Whether the document is an object with this key, an array with this text among its items, or the
 /// text itself, as 0 or 1. `InvalidUtf8` if the key is not UTF-8; `InvalidJsonb` if the bytes are
-/// not a document of at most this depth; the value is then 0. A scalar has depth 0, an array or
-/// object one more than its deepest child, and at least 1. Deeper levels are not examined.
+/// not a document of at most this depth.
 #[unsafe(no_mangle)]
 pub extern "C" fn kohiblad_exists(bytes: &[u8], key: &[u8], depth: usize) -> KohibladTruth
     ensures utf8 { (IsUtf8 key.now → ⊥) → result ≡ no_truth (code Error.InvalidUtf8) }
@@ -78,15 +76,12 @@ pub extern "C" fn kohiblad_exists(bytes: &[u8], key: &[u8], depth: usize) -> Koh
     }
 }
 
-/// Copies the canonical document of two documents put together to `out`, and its length in bytes to
-/// `length`: of two objects the object of all members, with the value of `right` for a key of both;
-/// of all others the array of the items of both, to which a value that is not an array adds itself.
-/// `InvalidJsonb` if `left` or `right` is not a document of at most this depth, or the result
-/// exceeds a limit of the format; `OutOfMemory` if an allocation fails; `NO_ROOM` if `out` is
-/// shorter than the document, which is at most 14 bytes and a quarter longer than both. If the
-/// status is not `OK`, `out` is unchanged, and `length` is 0, or for `NO_ROOM` the length of the
-/// document. A scalar has depth 0, an array or object one more than its deepest child, and at least
-/// 1. Deeper levels are not examined.
+/// Copies the canonical document of two documents put together to `out`: of two objects the object
+/// of all members, with the value of `right` for a key of both; of all others the array of the
+/// items of both, to which a value that is not an array adds itself. `InvalidJsonb` if `left` or
+/// `right` is not a document of at most this depth, or the result exceeds a limit of the format;
+/// `OutOfMemory` if an allocation fails. The document is at most 14 bytes and a quarter longer than
+/// both.
 #[unsafe(no_mangle)]
 pub extern "C" fn kohiblad_concat(
     alloc: Global,
@@ -117,15 +112,11 @@ fn both_joined(alloc: Global, left: SortKey<'_>, right: SortKey<'_>) -> Result<O
 }
 
 /// Copies the canonical document of a document that is changed by a JSON Merge Patch (RFC 7396) to
-/// `out`, and its length in bytes to `length`. A `patch` that is not an object takes the place of
-/// `target`. Each member of one that is an object removes the member with its key if it is null,
-/// and else patches the value of that member, or an empty object if there is no such member; a
-/// `target` that is not an object counts as an empty one. `InvalidJsonb` if `target` or `patch` is
-/// not a document of at most this depth, or the result exceeds a limit of the format; `OutOfMemory`
-/// if an allocation fails; `NO_ROOM` if `out` is shorter than the document. If the status is not
-/// `OK`, `out` is unchanged, and `length` is 0, or for `NO_ROOM` the length of the document. A
-/// scalar has depth 0, an array or object one more than its deepest child, and at least 1. Deeper
-/// levels are not examined.
+/// `out`. A `patch` that is not an object takes the place of `target`. Each member of one that is
+/// an object removes the member with its key if it is null, and else patches the value of that
+/// member, or an empty object if there is no such member; a `target` that is not an object counts
+/// as an empty one. `InvalidJsonb` if `target` or `patch` is not a document of at most this depth,
+/// or the result exceeds a limit of the format; `OutOfMemory` if an allocation fails.
 #[unsafe(no_mangle)]
 pub extern "C" fn kohiblad_merge_patch(
     alloc: Global,
@@ -160,13 +151,10 @@ fn target_patched(
     }
 }
 
-/// Copies the canonical document of a document without the members that are null, in each object
-/// in it, to `out`, and its length in bytes to `length`. Items that are null stay, and so does a
-/// document that is null itself. `InvalidJsonb` if the bytes are not a document of at most this
-/// depth, or the result exceeds a limit of the format; `OutOfMemory` if an allocation fails;
-/// `NO_ROOM` if `out` is shorter than the document. If the status is not `OK`, `out` is unchanged,
-/// and `length` is 0, or for `NO_ROOM` the length of the document. A scalar has depth 0, an array
-/// or object one more than its deepest child, and at least 1. Deeper levels are not examined.
+/// Copies the canonical document of a document without the members that are null, in each object in
+/// it, to `out`. Items that are null stay, and so does a document that is null itself.
+/// `InvalidJsonb` if the bytes are not a document of at most this depth, or the result exceeds a
+/// limit of the format; `OutOfMemory` if an allocation fails.
 #[unsafe(no_mangle)]
 pub extern "C" fn kohiblad_strip_nulls(
     alloc: Global,
@@ -192,15 +180,12 @@ fn without_nulls(alloc: Global, bytes: SortKey<'_>) -> Result<OwnedJsonb, Error>
     }
 }
 
-/// Copies the index keys of a document to `out`, and how many they are to `count`: one for each
-/// scalar, the FNV-1a hash of 64 bits of the keys of the objects around it, from the outermost,
-/// each escaped and ended as in a comparable key, then a byte 0, and then the scalar's comparable
-/// key. A document that contains another has each of its index keys, so an index over them misses
-/// no document; two scalars may have the same key. There are at most as many as a quarter of
-/// `size`. `InvalidJsonb` if the bytes are not a document of at most this depth; `OutOfMemory` if
-/// an allocation fails; `NO_ROOM` if `out` is too short. If the status is not `OK`, `out` is
-/// unchanged, and `count` is 0, or for `NO_ROOM` the number of keys. A scalar has depth 0, an array
-/// or object one more than its deepest child, and at least 1. Deeper levels are not examined.
+/// Copies the index keys of a document to `out`: one for each scalar, the FNV-1a hash of 64 bits of
+/// the keys of the objects around it, from the outermost, each escaped and ended as in a comparable
+/// key, then a byte 0, and then the scalar's comparable key. A document that contains another has
+/// each of its index keys, so an index over them misses no document; two scalars may have the same
+/// key. There are at most as many as a quarter of `size`. `InvalidJsonb` if the bytes are not a
+/// document of at most this depth; `OutOfMemory` if an allocation fails.
 #[unsafe(no_mangle)]
 pub extern "C" fn kohiblad_index_keys(
     alloc: Global,
@@ -232,15 +217,12 @@ fn index_keys(alloc: Global, document: Document<'_>) -> Result<Vec<u64>, Error>
     Ok(keys)
 }
 
-/// Copies the top keys of a document to `out`, and how many they are to `count`: the FNV-1a hash of
-/// 64 bits of two bytes 0 and then each key of an object, each text among an array's items, or the
-/// text itself. They are apart from the index keys, so one index holds both. If a key exists in a
-/// document, the one top key of the key's own document is one of the document's. There are at most
-/// as many as a quarter of `size`. `InvalidJsonb` if the bytes are not a document of at most this
-/// depth; `OutOfMemory` if an allocation fails; `NO_ROOM` if `out` is too short. If the status is
-/// not `OK`, `out` is unchanged, and `count` is 0, or for `NO_ROOM` the number of keys. A scalar
-/// has depth 0, an array or object one more than its deepest child, and at least 1. Deeper levels
-/// are not examined.
+/// Copies the top keys of a document to `out`: the FNV-1a hash of 64 bits of two bytes 0 and then
+/// each key of an object, each text among an array's items, or the text itself. They are apart from
+/// the index keys, so one index holds both. If a key exists in a document, the one top key of the
+/// key's own document is one of the document's. There are at most as many as a quarter of `size`.
+/// `InvalidJsonb` if the bytes are not a document of at most this depth; `OutOfMemory` if an
+/// allocation fails.
 #[unsafe(no_mangle)]
 pub extern "C" fn kohiblad_top_keys(
     alloc: Global,
@@ -271,23 +253,20 @@ fn top_keys(alloc: Global, document: Document<'_>) -> Result<Vec<u64>, Error>
     Ok(keys)
 }
 
-/// Copies the canonical document of a document that is edited at the end of a path to `out`, and
-/// its length in bytes to `length`. `path` is the document of an array: a text is the key of a
-/// member, and a whole number the index of an item, counted from 0, or from -1 at the end; one that
-/// is stored as a decimal is none. With `edit` 0 the value is put there, in place of what is there;
-/// with 1 it is inserted before an item, or as a member whose key is not there; with 2 what is
-/// there is removed, and no value is read. Past the last item a value comes after it, and before
-/// the first one in front of it. If a step before the last leads nowhere nothing is edited, and
-/// neither is the whole document but by putting a value. With 3 the value is put there, and what
-/// the path lacks is made: an object for each missing key, an array for the index 0 or 2^64 - 1; an
-/// item is added right after the last one only, at its index or at 2^64 - 1. `InvalidJsonb` if the
-/// bytes, the path or the value are not a document of at most this depth, or the result exceeds a
-/// limit of the format; `OTHER_KIND` if there is no such edit, or the path is not an array of texts
-/// and whole numbers of 64 bits; `OutOfMemory` if an allocation fails; `NO_ROOM` if `out` is
-/// shorter than the document, which has at most 5/4 of the bytes of the document and the value
-/// together, 3 times those of the path, and 2 more. If the status is not `OK`, `out` is unchanged,
-/// and `length` is 0, or for `NO_ROOM` the length of the document. A scalar has depth 0, an array
-/// or object one more than its deepest child, and at least 1. Deeper levels are not examined.
+/// Copies the canonical document of a document that is edited at the end of a path to `out`. `path`
+/// is the document of an array: a text is the key of a member, and a whole number the index of an
+/// item, counted from 0, or from -1 at the end; one that is stored as a decimal is none. With
+/// `edit` 0 the value is put there, in place of what is there; with 1 it is inserted before an
+/// item, or as a member whose key is not there; with 2 what is there is removed, and no value is
+/// read. Past the last item a value comes after it, and before the first one in front of it. If a
+/// step before the last leads nowhere nothing is edited, and neither is the whole document but by
+/// putting a value. With 3 the value is put there, and what the path lacks is made: an object for
+/// each missing key, an array for the index 0 or 2^64 - 1; an item is added right after the last
+/// one only, at its index or at 2^64 - 1. `InvalidJsonb` if the bytes, the path or the value are
+/// not a document of at most this depth, or the result exceeds a limit of the format; `OTHER_KIND`
+/// if there is no such edit, or the path is not an array of texts and whole numbers of 64 bits;
+/// `OutOfMemory` if an allocation fails. The document has at most 5/4 of the bytes of the document
+/// and the value together, 3 times those of the path, and 2 more.
 #[unsafe(no_mangle)]
 pub extern "C" fn kohiblad_edit(
     alloc: Global,

@@ -18,13 +18,10 @@ pub extern "C" fn kohiblad_key_layout() -> u32
     KEY_LAYOUT
 }
 
-/// Copies the comparable key of any bytes to `out`, and its length in bytes to `length`. Keys
-/// compare by their bytes, a prefix before what continues it, as `kohiblad_compare` compares the
-/// bytes at this depth; no key begins another. A document that nests deeper than `depth` levels
-/// counts as bytes that are not a document. A scalar has depth 0, an array or object one more than
-/// its deepest child, and at least 1. Deeper levels are not examined. `OutOfMemory` if an
-/// allocation fails; `NO_ROOM` if `out` is shorter than the key. If the status is not `OK`, `out`
-/// is unchanged, and `length` is 0, or for `NO_ROOM` the length of the key.
+/// Copies the comparable key of any bytes to `out`. Keys compare by their bytes, a prefix before
+/// what continues it, as `kohiblad_compare` compares the bytes at this depth; no key begins
+/// another. A document that nests deeper than `depth` levels counts as bytes that are not a
+/// document. `OutOfMemory` if an allocation fails.
 #[unsafe(no_mangle)]
 pub extern "C" fn kohiblad_key(
     alloc: Global,

@@ -37,8 +37,6 @@ const FEW: usize = 8;
 /// bound: it is never above its key, and where two keys cut to one length differ, the keys compare
 /// as they do. The key is that of `kohiblad_key`. No memory is requested, and the status is always
 /// `OK`. A document that nests deeper than `depth` levels counts as bytes that are not a document.
-/// A scalar has depth 0, an array or object one more than its deepest child, and at least 1. Deeper
-/// levels are not examined.
 #[unsafe(no_mangle)]
 pub extern "C" fn kohiblad_key_cut(
     bytes: &[u8],
@@ -69,10 +67,7 @@ fn cut_key(key: SortKey<'_>, out: &mut [u8]) -> usize
 /// that is not an object has no members. No key begins another, so these keys compare by their
 /// bytes as the lists of the members' values do. `InvalidJsonb` if the bytes or the names are not a
 /// document of at most this depth; `OTHER_KIND` if the names are not an array of texts;
-/// `OutOfMemory` if an allocation fails; `NO_ROOM` if `out` is shorter than the keys. If the status
-/// is not `OK`, `out` is unchanged, and `length` is 0, or for `NO_ROOM` the length of the keys, or
-/// `SIZE_MAX` if they are longer. A scalar has depth 0, an array or object one more than its
-/// deepest child, and at least 1. Deeper levels are not examined.
+/// `OutOfMemory` if an allocation fails. The length is `SIZE_MAX` if the keys are longer.
 #[tactic(auto, using(crate::proofs::MemberKeyLaws::members_order))]
 #[unsafe(no_mangle)]
 pub extern "C" fn kohiblad_member_key(

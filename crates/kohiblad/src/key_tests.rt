@@ -15,8 +15,7 @@ use std::alloc::Global;
 /// keys none is. `names` is the document of an array of texts; it does not matter how often or in
 /// which order they are listed. `InvalidJsonb` if the bytes or the names are not a document of at
 /// most this depth; `OTHER_KIND` if the names are not an array of texts; `OutOfMemory` if an
-/// allocation fails. If the status is not `OK`, the value is 0. A scalar has depth 0, an array or
-/// object one more than its deepest child, and at least 1. Deeper levels are not examined.
+/// allocation fails.
 #[unsafe(no_mangle)]
 pub extern "C" fn kohiblad_exists_any(
     alloc: Global,
@@ -53,8 +52,7 @@ fn some_key(alloc: Global, document: Document<'_>, names: Document<'_>) -> Kohib
 /// keys all are. `names` is the document of an array of texts; it does not matter how often or in
 /// which order they are listed. `InvalidJsonb` if the bytes or the names are not a document of at
 /// most this depth; `OTHER_KIND` if the names are not an array of texts; `OutOfMemory` if an
-/// allocation fails. If the status is not `OK`, the value is 0. A scalar has depth 0, an array or
-/// object one more than its deepest child, and at least 1. Deeper levels are not examined.
+/// allocation fails.
 #[unsafe(no_mangle)]
 pub extern "C" fn kohiblad_exists_all(
     alloc: Global,

@@ -1,6 +1,15 @@
 //! The functions for callers in C, each a thin layer over one of the library's. Bytes are passed by
-//! pointer and length. Results are returned as by `snprintf`: a status, the bytes if the caller's
-//! buffer has room for them, and in any case their length.
+//! pointer and length. This is true of all of them:
+//!
+//! - Depth: a scalar has depth 0, an array or object one more than its deepest child, and at least
+//!   1. A call with a depth looks no deeper: to it a document that nests deeper is not a document.
+//! - Results: bytes, hashes and positions are copied to the start of `out` if they fit, and how
+//!   many they are is stored in `length` or `count`. `NO_ROOM` if `out` is shorter; it is then
+//!   unchanged. With every other status but `OK`, `out` is unchanged, and `length` or `count` is 0.
+//! - Structs: if the status is not `OK`, the other fields are 0.
+//! - Rows: row k begins at `offsets[k]` and ends at `offsets[k + 1]`.
+//!
+//! What differs, a call says itself.
 #![tactic(auto)]
 
 mod answer;

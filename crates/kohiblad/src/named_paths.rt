@@ -15,19 +15,15 @@ use jsonb_functions::{document_of_path, read_name_list, read_pointer, steps_of_n
 use simdutf8::basic;
 use std::alloc::Global;
 
-/// Copies the document of the path that a text gives in a document to `out`, and its length in
-/// bytes to `length`. The text is a path as `kohiblad_path_of_text` reads it, or names: a JSON
-/// pointer (RFC 6901) such as `/a/0`, or a list such as PostgreSQL's `{a,0,"b c"}`, in which a name
-/// with one of the six white space characters of ASCII is written between quotes. A name is a key,
-/// but in an array of the document `0`, and other digits that do not begin with `0`, are an index,
-/// `-1` is the last item, and `-` is past it, as is every number past 2^64 - 2. `kohiblad_edit` and
-/// `kohiblad_get_path` take the result. `InvalidUtf8` if the text is not UTF-8; `InvalidJsonb` if
-/// the bytes are not a document of at most this depth, or as for `kohiblad_path_of_text`;
-/// `OTHER_KIND` if the text is none of these, or a path with wildcards, ranges or filters;
-/// `OutOfMemory` if an allocation fails; `NO_ROOM` if `out` is shorter than the path's document. If
-/// the status is not `OK`, `out` is unchanged, and `length` is 0, or for `NO_ROOM` the length of
-/// the document. A scalar has depth 0, an array or object one more than its deepest child, and at
-/// least 1. Deeper levels are not examined.
+/// Copies the document of the path that a text gives in a document to `out`. The text is a path as
+/// `kohiblad_path_of_text` reads it, or names: a JSON pointer (RFC 6901) such as `/a/0`, or a list
+/// such as PostgreSQL's `{a,0,"b c"}`, in which a name with one of the six white space characters
+/// of ASCII is written between quotes. A name is a key, but in an array of the document `0`, and
+/// other digits that do not begin with `0`, are an index, `-1` is the last item, and `-` is past
+/// it, as is every number past 2^64 - 2. `kohiblad_edit` and `kohiblad_get_path` take the result.
+/// `InvalidUtf8` if the text is not UTF-8; `InvalidJsonb` if the bytes are not a document of at
+/// most this depth, or as for `kohiblad_path_of_text`; `OTHER_KIND` if the text is none of these,
+/// or a path with wildcards, ranges or filters; `OutOfMemory` if an allocation fails.
 #[unsafe(no_mangle)]
 pub extern "C" fn kohiblad_path_in(
     alloc: Global,

@@ -10,15 +10,12 @@ use jsonb::{Document, Error, SortKey};
 use jsonb_functions::{Kept, object_keys, pick};
 use std::alloc::Global;
 
-/// Copies the canonical document of an object with some of its members to `out`, and its length in
-/// bytes to `length`. `names` is the document of an array of texts. With `others` 0 the members
-/// whose keys are among them are kept, and otherwise the others; it does not matter how often or in
-/// which order they are listed. What is not an object is kept whole. `InvalidJsonb` if the bytes or
-/// the names are not a document of at most this depth, or the result exceeds a limit of the format;
-/// `OTHER_KIND` if the names are not an array of texts; `OutOfMemory` if an allocation fails;
-/// `NO_ROOM` if `out` is shorter than the document. If the status is not `OK`, `out` is unchanged,
-/// and `length` is 0, or for `NO_ROOM` the length of the document. A scalar has depth 0, an array
-/// or object one more than its deepest child, and at least 1. Deeper levels are not examined.
+/// Copies the canonical document of an object with some of its members to `out`. `names` is the
+/// document of an array of texts. With `others` 0 the members whose keys are among them are kept,
+/// and otherwise the others; it does not matter how often or in which order they are listed. What
+/// is not an object is kept whole. `InvalidJsonb` if the bytes or the names are not a document of
+/// at most this depth, or the result exceeds a limit of the format; `OTHER_KIND` if the names are
+/// not an array of texts; `OutOfMemory` if an allocation fails.
 #[unsafe(no_mangle)]
 pub extern "C" fn kohiblad_pick(
     alloc: Global,
@@ -71,13 +68,10 @@ fn write_picked(
     }
 }
 
-/// Copies the canonical document of the array of an object's keys to `out`, and its length in bytes
-/// to `length`: texts in the order in which the keys are stored, which is that of their bytes.
-/// `InvalidJsonb` if the bytes are not a document of at most this depth; `NONE` if the document is
-/// not an object; `OutOfMemory` if an allocation fails; `NO_ROOM` if `out` is shorter than the
-/// document of the array. If the status is not `OK`, `out` is unchanged, and `length` is 0, or for
-/// `NO_ROOM` the length of that document. A scalar has depth 0, an array or object one more than
-/// its deepest child, and at least 1. Deeper levels are not examined.
+/// Copies the canonical document of the array of an object's keys to `out`: texts in the order in
+/// which the keys are stored, which is that of their bytes. `InvalidJsonb` if the bytes are not a
+/// document of at most this depth; `NONE` if the document is not an object; `OutOfMemory` if an
+/// allocation fails.
 #[unsafe(no_mangle)]
 pub extern "C" fn kohiblad_object_keys(
     alloc: Global,

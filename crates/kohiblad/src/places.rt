@@ -34,8 +34,7 @@ pub struct KohibladPlace {
 /// The position of a part of an array or object, by number: the items of an array from 0; for an
 /// object of n pairs the keys from 0 and the values from n. `NONE` if there is no such part;
 /// `InvalidEOF` if the header or an entry word that is read is cut off; `InvalidJsonb` if the
-/// header is of no kind, or the payload runs past the end. If the status is not `OK`, type, offset
-/// and length are 0.
+/// header is of no kind, or the payload runs past the end.
 #[tactic(auto, using(crate::proofs::PlaceLaws::part_in_stored))]
 #[unsafe(no_mangle)]
 pub extern "C" fn kohiblad_find_index(bytes: &[u8], number: usize) -> KohibladPlace
@@ -48,7 +47,7 @@ pub extern "C" fn kohiblad_find_index(bytes: &[u8], number: usize) -> KohibladPl
 
 /// The position of the value of a key. `InvalidUtf8` if the name is not UTF-8; `NONE` if the object
 /// has no such key, or the bytes are not an object; for bytes that are not a document, the error of
-/// looking up the key in them. If the status is not `OK`, type, offset and length are 0.
+/// looking up the key in them.
 #[unsafe(no_mangle)]
 pub extern "C" fn kohiblad_find_key(bytes: &[u8], name: &[u8]) -> KohibladPlace
     ensures utf8 { (IsUtf8 name.now → ⊥) → result ≡ place_answer (Err Error.InvalidUtf8) }
@@ -61,11 +60,9 @@ pub extern "C" fn kohiblad_find_key(bytes: &[u8], name: &[u8]) -> KohibladPlace
     place_answer(place_of_key(bytes, name))
 }
 
-/// Copies the value of a key to `out`, as a document of its own, and its length in bytes to
-/// `length`. `InvalidUtf8` if the name is not UTF-8; `NONE` if the object has no such key, or the
-/// bytes are not an object; for bytes that are not a document, the error of looking up the key in
-/// them; `NO_ROOM` if `out` is shorter than the document. If the status is not `OK`, `out` is
-/// unchanged, and `length` is 0, or for `NO_ROOM` the length of the document.
+/// Copies the value of a key to `out`, as a document of its own. `InvalidUtf8` if the name is not
+/// UTF-8; `NONE` if the object has no such key, or the bytes are not an object; for bytes that are
+/// not a document, the error of looking up the key in them.
 #[unsafe(no_mangle)]
 pub extern "C" fn kohiblad_get_key(
     bytes: &[u8],
@@ -86,15 +83,13 @@ pub extern "C" fn kohiblad_get_key(
     hand_over_item(bytes, place_of_key(bytes, name), out, length)
 }
 
-/// Copies the document of a part to `out`, and its length in bytes to `length`. The part is given
-/// by the type of its entry and its payload: an array or object is copied as it is, and a scalar is
-/// written as a document of its own. At a position in a document, as `kohiblad_find_index`,
-/// `kohiblad_find_key` and `kohiblad_next` return it, this is what `kohiblad_get_index` and
-/// `kohiblad_get_key` copy. The payload is not checked: null, true and false are also written with
-/// the one that is given, which in a document has no bytes. `InvalidJsonbJEntry` if entries have no
-/// such type; `InvalidJsonb` if the payload of a scalar has 2^28 bytes or more; `NO_ROOM` if `out`
-/// is shorter than the document. If the status is not `OK`, `out` is unchanged, and `length` is 0,
-/// or for `NO_ROOM` the length of the document.
+/// Copies the document of a part to `out`. The part is given by the type of its entry and its
+/// payload: an array or object is copied as it is, and a scalar is written as a document of its
+/// own. At a position in a document, as `kohiblad_find_index`, `kohiblad_find_key` and
+/// `kohiblad_next` return it, this is what `kohiblad_get_index` and `kohiblad_get_key` copy. The
+/// payload is not checked: null, true and false are also written with the one that is given, which
+/// in a document has no bytes. `InvalidJsonbJEntry` if entries have no such type; `InvalidJsonb` if
+/// the payload of a scalar has 2^28 bytes or more.
 #[unsafe(no_mangle)]
 pub extern "C" fn kohiblad_copy(
     type_code: u32,
@@ -128,12 +123,10 @@ pub extern "C" fn kohiblad_copy(
     hand_over_entry(type_code, payload, out, length)
 }
 
-/// Copies the item of an array at an index, counted from 0, to `out`, as a document of its own, and
-/// its length in bytes to `length`. `NONE` if the index is not below the number of items, or the
-/// bytes are not an array; `InvalidEOF` if the header or an entry word that is read is cut off;
-/// `InvalidJsonb` if the header is of no kind, or the item runs past the end; `NO_ROOM` if `out` is
-/// shorter than the document. If the status is not `OK`, `out` is unchanged, and `length` is 0, or
-/// for `NO_ROOM` the length of the document.
+/// Copies the item of an array at an index, counted from 0, to `out`, as a document of its own.
+/// `NONE` if the index is not below the number of items, or the bytes are not an array;
+/// `InvalidEOF` if the header or an entry word that is read is cut off; `InvalidJsonb` if the
+/// header is of no kind, or the item runs past the end.
 #[unsafe(no_mangle)]
 pub extern "C" fn kohiblad_get_index(
     bytes: &[u8],

@@ -32,8 +32,7 @@ pub struct KohibladTruth {
     pub value: u32,
 }
 
-/// Copies the canonical document of null to `out`, and its length in bytes to `length`. `NO_ROOM`
-/// if `out` is shorter than the document; `out` is then unchanged, and `length` is still set.
+/// Copies the canonical document of null to `out`.
 #[unsafe(no_mangle)]
 pub extern "C" fn kohiblad_of_null(out: &mut [u8], length: &mut usize) -> u32
     ensures { IsHandedOver (canon null) out.old out.new length.new result }
@@ -41,9 +40,8 @@ pub extern "C" fn kohiblad_of_null(out: &mut [u8], length: &mut usize) -> u32
     hand_over_scalar(NULL_TAG, &[], out, length)
 }
 
-/// Copies the canonical document of a truth value to `out`, and its length in bytes to `length`.
-/// The value is false if `value` is 0, and true for every other number. `NO_ROOM` if `out` is
-/// shorter than the document; `out` is then unchanged, and `length` is still set.
+/// Copies the canonical document of a truth value to `out`. The value is false if `value` is 0, and
+/// true for every other number.
 #[unsafe(no_mangle)]
 pub extern "C" fn kohiblad_of_boolean(value: u32, out: &mut [u8], length: &mut usize) -> u32
     ensures { IsHandedOver (canon (boolean (is_true value))) out.old out.new length.new result }
@@ -57,8 +55,7 @@ pub extern "C" fn kohiblad_of_boolean(value: u32, out: &mut [u8], length: &mut u
 
 /// The truth value in the document of a truth value, as 0 or 1. `InvalidEOF` if one of the first
 /// two words is cut off; `InvalidJsonb` if these are of no kind, or the bytes begin like a truth
-/// value but are not a document; `OTHER_KIND` if they begin like a value of another kind. If the
-/// status is not `OK`, the value is 0.
+/// value but are not a document; `OTHER_KIND` if they begin like a value of another kind.
 #[unsafe(no_mangle)]
 pub extern "C" fn kohiblad_as_boolean(bytes: &[u8]) -> KohibladTruth
     ensures boolean { (b : Bool) → Doc bytes.now (boolean b) → result ≡ truth_of b }
@@ -115,10 +112,8 @@ pub fn no_truth(status: u32) -> KohibladTruth
     KohibladTruth { status, value: 0 }
 }
 
-/// Copies the canonical document of a text, given as its bytes, to `out`, and its length in bytes
-/// to `length`. `InvalidUtf8` if the bytes are not UTF-8; `InvalidJsonb` if there are 2^28 or more;
-/// `NO_ROOM` if `out` is shorter than the document. If the status is not `OK`, `out` is unchanged,
-/// and `length` is 0, or for `NO_ROOM` the length of the document.
+/// Copies the canonical document of a text, given as its bytes, to `out`. `InvalidUtf8` if the
+/// bytes are not UTF-8; `InvalidJsonb` if there are 2^28 or more.
 #[unsafe(no_mangle)]
 pub extern "C" fn kohiblad_of_string(bytes: &[u8], out: &mut [u8], length: &mut usize) -> u32
     ensures utf8 { (IsUtf8 bytes.now → ⊥)
@@ -140,7 +135,7 @@ pub extern "C" fn kohiblad_of_string(bytes: &[u8], out: &mut [u8], length: &mut 
 /// The position of the text in the document of a text: its bytes in UTF-8, without quotes and
 /// escapes. `InvalidEOF` if one of the first two words is cut off; `InvalidJsonb` if these are of
 /// no kind, or the bytes begin like a text but are not a document; `OTHER_KIND` if they begin like
-/// a value of another kind. If the status is not `OK`, type, offset and length are 0.
+/// a value of another kind.
 #[unsafe(no_mangle)]
 pub extern "C" fn kohiblad_as_string(bytes: &[u8]) -> KohibladPlace
     ensures text { (s : List ℕ) → Doc bytes.now (text s) → result ≡ text_place (length s) }

@@ -9,14 +9,12 @@ use jsonb::{Error, SortKey};
 use std::alloc::Global;
 
 /// Writes the numbers of the rows, counted from 0, to the start of `order`, sorted as
-/// `kohiblad_compare` compares the rows at this depth; equal rows keep their order. Row k begins at
-/// `offsets[k]` and ends at `offsets[k + 1]`. A document that nests deeper than `depth` levels
-/// counts as bytes that are not a document, and sorts by its bytes after all documents. A scalar
-/// has depth 0, an array or object one more than its deepest child, and at least 1. Each row is
-/// checked once, and deeper levels are not examined. `InvalidEOF` if an offset is below the
-/// previous one or beyond the bytes; then, before memory is requested, `NO_ROOM` if `order` has
-/// fewer numbers than there are rows; `OutOfMemory` if an allocation fails. If the status is not
-/// `OK`, `order` is unchanged.
+/// `kohiblad_compare` compares the rows at this depth; equal rows keep their order. A document that
+/// nests deeper than `depth` levels counts as bytes that are not a document, and sorts by its bytes
+/// after all documents. Each row is checked once, and deeper levels are not examined. `InvalidEOF`
+/// if an offset is below the previous one or beyond the bytes; then, before memory is requested,
+/// `NO_ROOM` if `order` has fewer numbers than there are rows; `OutOfMemory` if an allocation
+/// fails. If the status is not `OK`, `order` is unchanged.
 #[unsafe(no_mangle)]
 pub extern "C" fn kohiblad_sort(
     alloc: Global,

@@ -13,13 +13,10 @@ use jsonb::{Error, Node, OwnedJsonb, ParseError, SortKey};
 use simdutf8::basic;
 use std::alloc::Global;
 
-/// Copies the text of the bytes to `out`, and its length in bytes to `length`: the compact text of
-/// a document, `null` for no bytes, and for all other bytes their own text, with U+FFFD in place of
-/// invalid UTF-8. A document that nests deeper than `depth` levels counts as bytes that are not a
-/// document, so its text is that of its bytes. A scalar has depth 0, an array or object one more
-/// than its deepest child, and at least 1. Deeper levels are not examined. `OutOfMemory` if an
-/// allocation fails; `NO_ROOM` if `out` is shorter than the text. If the status is not `OK`, `out`
-/// is unchanged, and `length` is 0, or for `NO_ROOM` the length of the text.
+/// Copies the text of the bytes to `out`: the compact text of a document, `null` for no bytes, and
+/// for all other bytes their own text, with U+FFFD in place of invalid UTF-8. A document that nests
+/// deeper than `depth` levels counts as bytes that are not a document, so its text is that of its
+/// bytes. `OutOfMemory` if an allocation fails.
 #[unsafe(no_mangle)]
 pub extern "C" fn kohiblad_print(
     alloc: Global,
@@ -71,16 +68,12 @@ fn write_other(alloc: Global, bytes: &[u8], out: &mut [u8], length: &mut usize) 
     }
 }
 
-/// Copies the pretty text of the bytes to `out`, and its length in bytes to `length`: that of a
-/// document with each item or pair on its own line, indented by two spaces for each enclosing
-/// container, and `null` for all other bytes. A document that nests deeper than `depth` levels
-/// counts as bytes that are not a document, so its text is `null`. A scalar has depth 0, an array
-/// or object one more than its deepest child, and at least 1. Deeper levels are not examined.
-/// `NO_ROOM` if `out` is shorter than the text, which is counted first, in one walk over the bytes
-/// and without memory; the length is `SIZE_MAX` if the text is longer. `OutOfMemory` if an
-/// allocation fails, which is asked for only if there is room, and once, for the text. If the
-/// status is not `OK`, `out` is unchanged, and `length` is 0, or for `NO_ROOM` the length of the
-/// text.
+/// Copies the pretty text of the bytes to `out`: that of a document with each item or pair on its
+/// own line, indented by two spaces for each enclosing container, and `null` for all other bytes. A
+/// document that nests deeper than `depth` levels counts as bytes that are not a document, so its
+/// text is `null`. `NO_ROOM` if `out` is shorter than the text, which is counted first, in one walk
+/// over the bytes and without memory; the length is `SIZE_MAX` if the text is longer. `OutOfMemory`
+/// if an allocation fails, which is asked for only if there is room, and once, for the text.
 #[unsafe(no_mangle)]
 pub extern "C" fn kohiblad_pretty(
     alloc: Global,
@@ -137,14 +130,11 @@ fn pretty_len(value: Node<'_>) -> usize
     }
 }
 
-/// Parses a JSON text and copies the canonical document of its value to `out`, and its length in
-/// bytes to `length`. With `exponents` 0 a number with an exponent is refused; otherwise it means
-/// exactly its value, as `1e5` means 100000. `TOO_DEEP` if more than `depth` brackets outside
-/// strings are open at once, before any other status; `InvalidUtf8` if the text is not UTF-8;
-/// `InvalidJson` if it is not accepted JSON; `InvalidJsonb` if a limit of the format is exceeded;
-/// `OutOfMemory` if an allocation fails; `NO_ROOM` if `out` is shorter than the document. If the
-/// status is not `OK`, `out` is unchanged, and `length` is 0, or for `NO_ROOM` the length of the
-/// document.
+/// Parses a JSON text and copies the canonical document of its value to `out`. With `exponents` 0 a
+/// number with an exponent is refused; otherwise it means exactly its value, as `1e5` means 100000.
+/// `TOO_DEEP` if more than `depth` brackets outside strings are open at once, before any other
+/// status; `InvalidUtf8` if the text is not UTF-8; `InvalidJson` if it is not accepted JSON;
+/// `InvalidJsonb` if a limit of the format is exceeded; `OutOfMemory` if an allocation fails.
 #[unsafe(no_mangle)]
 pub extern "C" fn kohiblad_parse(
     alloc: Global,

@@ -40,14 +40,11 @@ pub struct KohibladExtension {
     pub length: u64,
 }
 
-/// Copies the canonical document of an extension value to `out`, and its length in bytes to
-/// `length`. The value is given by its tag and fields as `kohiblad_as_extension` returns them, and
-/// by its data; fields that the tag does not have must be 0, and the data empty.
-/// `InvalidJsonbExtension` if no extension value has this tag, these fields and this data, so also
-/// if a date does not fit in 32 bits; `InvalidJsonb` if the data have 2^28 - 1 bytes or more;
-/// `OutOfMemory` if an allocation fails; `NO_ROOM` if `out` is shorter than the document. If the
-/// status is not `OK`, `out` is unchanged, and `length` is 0, or for `NO_ROOM` the length of the
-/// document.
+/// Copies the canonical document of an extension value to `out`. The value is given by its tag and
+/// fields as `kohiblad_as_extension` returns them, and by its data; fields that the tag does not
+/// have must be 0, and the data empty. `InvalidJsonbExtension` if no extension value has this tag,
+/// these fields and this data, so also if a date does not fit in 32 bits; `InvalidJsonb` if the
+/// data have 2^28 - 1 bytes or more; `OutOfMemory` if an allocation fails.
 #[unsafe(no_mangle)]
 pub extern "C" fn kohiblad_of_extension(
     alloc: Global,
@@ -161,7 +158,6 @@ fn write_extension(alloc: Global, value: ExtensionValue, out: &mut [u8], length:
 /// The tag and fields of the extension value in the document of one. `InvalidEOF` if one of the
 /// first two words is cut off; `InvalidJsonb` if these are of no kind, or the bytes begin like an
 /// extension value but are not a document; `OTHER_KIND` if they begin like a value of another kind.
-/// If the status is not `OK`, the fields are 0.
 #[unsafe(no_mangle)]
 pub extern "C" fn kohiblad_as_extension(bytes: &[u8]) -> KohibladExtension
     ensures extension { (e : Extension) → Doc bytes.now (extension e)

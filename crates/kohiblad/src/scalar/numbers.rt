@@ -35,11 +35,9 @@ pub struct KohibladInteger {
 }
 
 /// Copies the canonical document of the number `high` times 2 to the power of 64, plus `low`, with
-/// `scale` of its digits after the point, to `out`, and its length in bytes to `length`. It is the
-/// document that `kohiblad_parse` makes of the number: 150 with scale 2 is 1.50. `InvalidJsonb` if
-/// the scale is above 255; `OutOfMemory` if an allocation fails; `NO_ROOM` if `out` is shorter than
-/// the document. If the status is not `OK`, `out` is unchanged, and `length` is 0, or for `NO_ROOM`
-/// the length of the document.
+/// `scale` of its digits after the point, to `out`. It is the document that `kohiblad_parse` makes
+/// of the number: 150 with scale 2 is 1.50. `InvalidJsonb` if the scale is above 255; `OutOfMemory`
+/// if an allocation fails.
 #[unsafe(no_mangle)]
 pub extern "C" fn kohiblad_of_decimal(
     alloc: Global,
@@ -70,8 +68,7 @@ fn whole_of(high: i64, low: u64) -> i128
 /// The number in the document of a number, as a whole number of 128 bits in two halves and a scale,
 /// the count of its digits after the point. `InvalidEOF` if one of the first two words is cut off;
 /// `InvalidJsonb` if these are of no kind, or the bytes begin like a number but are not a document;
-/// `OTHER_KIND` if they begin like a value of another kind. If the status is not `OK`, the fields
-/// are 0.
+/// `OTHER_KIND` if they begin like a value of another kind.
 #[unsafe(no_mangle)]
 pub extern "C" fn kohiblad_as_decimal(bytes: &[u8]) -> KohibladDecimal
     ensures number { (x : Number) → Doc bytes.now (number x) → IsDecimalOf x result }
@@ -103,10 +100,8 @@ fn decimal_of(number: Number) -> KohibladDecimal
     }
 }
 
-/// Copies the canonical document of a whole number to `out`, and its length in bytes to `length`.
-/// It is the document that `kohiblad_parse` makes of the number's digits. `OutOfMemory` if an
-/// allocation fails; `NO_ROOM` if `out` is shorter than the document. If the status is not `OK`,
-/// `out` is unchanged, and `length` is 0, or for `NO_ROOM` the length of the document.
+/// Copies the canonical document of a whole number to `out`. It is the document that
+/// `kohiblad_parse` makes of the number's digits. `OutOfMemory` if an allocation fails.
 #[unsafe(no_mangle)]
 pub extern "C" fn kohiblad_of_int64(
     alloc: Global,
@@ -125,8 +120,7 @@ pub extern "C" fn kohiblad_of_int64(
 /// The number in the document of a number, if it is a whole number of 64 bits, signed. `PAST_RANGE`
 /// if it does not fit or has digits after its point, even zeros; `InvalidEOF` if one of the first
 /// two words is cut off; `InvalidJsonb` if these are of no kind, or the bytes begin like a number
-/// but are not a document; `OTHER_KIND` if they begin like a value of another kind. If the status
-/// is not `OK`, the value is 0.
+/// but are not a document; `OTHER_KIND` if they begin like a value of another kind.
 #[unsafe(no_mangle)]
 pub extern "C" fn kohiblad_as_int64(bytes: &[u8]) -> KohibladInteger
     ensures number { (x : Number) → Doc bytes.now (number x) → result ≡ int64_answer x }
