@@ -5,9 +5,10 @@ use Rattle.std.specs.List.{list_all, list_any}
 use Rattle.std.proofs.lemmas.List.Folds.{list_all-map}
 use Rattle.jsonb_value.specs.declared.error.Error.{Error}
 use Rattle.jsonb_value.specs.declared.error.Error.TheVariants.{OutOfMemory}
+use Rattle.jsonb_value.specs.Meaning.{document}
 use Rattle.jsonb_value.specs.Tree.{Tree}
 use Rattle.jsonb_functions.specs.Contains.{has_top_key}
-use Rattle.kohiblad.specs.KeyTests.{IsTested, has_all_keys, has_some_key, keys_answer}
+use Rattle.kohiblad.specs.KeyTests.{AreKeysAnswered, has_all_keys, has_some_key, keys_answer}
 use Rattle.kohiblad.specs.Names.{names_in}
 use Rattle.kohiblad.specs.Scalars.{no_truth, truth_of}
 use Rattle.kohiblad.specs.Status.{code}
@@ -21,7 +22,7 @@ pub tested_by : (has : List (List ℕ) → Tree → Bool) (t u : Tree) (keys : L
     (r : Result Bool Error) (answer : KohibladTruth) → Some keys ≡ names_in u → b ≡ has keys t
     → IfOk r (λ found. found ≡ b) → IfErr r (λ e. e ≡ OutOfMemory)
     → IfOk r (λ found. answer ≡ truth_of found) → IfErr r (λ e. answer ≡ no_truth (code e))
-    → IsTested has t u answer
+    → AreKeysAnswered has (document t) (document u) answer
 tested_by has t u keys b (Ok found) answer e same ok memory answered refused =
     inl (answered ∙ ap truth_of (ok ∙ same)
     ∙ ap (λ (it : Option (List (List ℕ))). keys_answer has t it) e)

@@ -5,6 +5,7 @@ use Rattle.std.specs.Prelude.{◌↔◌, MatchOption, OnOk, String, Vec, option_
 use Rattle.std.specs.declared.alloc.Global.{Global}
 use Rattle.jsonb_value.specs.declared.error.Error.{Error}
 use Rattle.jsonb_value.specs.declared.error.Error.TheVariants.{InvalidJsonb, OutOfMemory}
+use Rattle.jsonb_value.specs.Meaning.{document}
 use Rattle.jsonb_value.specs.Tree.{Tree}
 use Rattle.jsonb_codec.specs.Canon.{Fits, canon}
 use Rattle.jsonb.specs.declared.owned.OwnedJsonb.{OwnedJsonb}
@@ -15,7 +16,7 @@ use Rattle.jsonb_functions.specs.Names.{names_of}
 use Rattle.jsonb_functions.specs.PathDocument.{path_tree}
 use Rattle.jsonb_functions.specs.Pointer.{pointer_of}
 use Rattle.jsonb_functions.specs.StoredPath.{StepView}
-use Rattle.kohiblad.specs.NamedPaths.{GivesNames, GivesStepsIn, IsPathInTree, IsPathMade}
+use Rattle.kohiblad.specs.NamedPaths.{GivesNames, GivesStepsIn, IsPathMade, IsPathOf}
 use Rattle.kohiblad.specs.PathCalls.{GivesSteps, IsPathTextRead}
 use Rattle.kohiblad.specs.Status.{IsAnswered}
 use Rattle.kohiblad.proofs.PathCallLaws.{none_some}
@@ -52,13 +53,14 @@ module _ (before after : List ℕ) (size status : ℕ) (path : List StepView) wh
 module _ (t : Tree) (text before after : List ℕ) (size status : ℕ) where
   pub named_path : (names : List (List ℕ)) → GivesNames text names
       → IsPathMade (steps_by names (Some t)) before after size status
-      → IsPathInTree t text before after size status
+      → IsPathOf (document t) text before after size status
   named_path names gives (inl answered) =
       inl (steps_by names (Some t), (inr (names, (gives, refl)), answered))
   named_path names gives (inr refused) = inr (inr refused)
 
   pub path_as_text : ((names : List (List ℕ)) → GivesNames text names → ⊥)
-      → IsPathTextRead text before after size status → IsPathInTree t text before after size status
+      → IsPathTextRead text before after size status
+      → IsPathOf (document t) text before after size status
   path_as_text none (inl found) = inl (found.0, (inl found.1.0, found.1.1))
   path_as_text none (inr (inl refused)) =
       inr (inl (

@@ -19,7 +19,7 @@ use Rattle.jsonb_functions.specs.Edited.{Operation, put, create, insert, remove,
 use Rattle.jsonb_functions.specs.Joined.{joined}
 use Rattle.jsonb_functions.specs.StoredPath.{StepView, path_in, step_view}
 use Rattle.jsonb_functions.specs.declared.path.Step.{Step}
-use Rattle.kohiblad.specs.Functions.{IsDocumentEdited, IsEdited, IsTreeEdited, MakesOfTwo, WritesTo}
+use Rattle.kohiblad.specs.Functions.{IsEdited, IsTreeEdited, MakesOfTwo, WritesTo}
 use Rattle.kohiblad.specs.Functions.{operation_asked, IsConcatLength, IsEditLength}
 use Rattle.kohiblad.specs.Status.{IsAnswered, IsOneAnswered}
 use Rattle.kohiblad.proofs.EditRooms.{whole_room}
@@ -108,13 +108,16 @@ document_len : (m o q : Meaning) (e : ℕ) (b p v : List ℕ)
     → ((t : Tree) → m ≡ document t → 4 * room t ≤ 5 * (4 + length b))
     → ((t : Tree) → q ≡ document t → Doc p t)
     → ((t : Tree) → o ≡ document t → 4 * room t ≤ 5 * (4 + length v))
-    → IsDocumentEdited m q (operation_asked e o) before after size status
+    → IsEdited m q (operation_asked e o) before after size status
     → 4 * size ≤ 5 * (length b + length v) + 12 * length p + 8
-document_len (document t) o (document u) e b p v before after size status tree path value edited =
+document_len (document t) o (document u) e b p v before after size status tree path value
+    (inl edited) =
     tree_len t (path_in u) (operation_asked e o) (length b) (length v) (length p) before after size
     status (tree t refl)
     (λ vs steps is viewed. given_path_room p u steps vs (path u refl) is viewed)
     (λ op asked. operation_len e o op (length v) asked value) edited
+document_len (document t) o (document u) e b p v before after size status tree path value
+    (inr (reason, (none, same))) = omega (arith, none)
 document_len (other_bytes x) o q e b p v before after size status tree path value
     (reason, (none, same)) = omega (arith, none)
 document_len (document t) o (other_bytes x) e b p v before after size status tree path value
@@ -125,17 +128,15 @@ pub edit_len : (d : ℕ) (b p v : List ℕ) (e : ℕ) (before after : List ℕ) 
     → IsEdited (meaning_within d b) (meaning_within d p) (operation_asked e (meaning_within d v))
     before after size status
     → IsEditLength b p v size
-edit_len d b p v e before after size status bytes values (inl edited) =
+edit_len d b p v e before after size status bytes values edited =
     document_len (meaning_within d b) (meaning_within d v) (meaning_within d p) e b p v before after
     size status (λ t is. meant_room d b t bytes is) (λ t is. meant d p t is)
     (λ t is. meant_room d v t values is) edited
-edit_len d b p v e before after size status bytes values (inr (reason, (none, same))) =
-    omega (arith, none)
 
 joined_len : (m o : Meaning) (b v : List ℕ) (before after : List ℕ) (size status : ℕ)
     → ((t : Tree) → m ≡ document t → 4 * room t ≤ 5 * (4 + length b))
     → ((t : Tree) → o ≡ document t → 4 * room t ≤ 5 * (4 + length v))
-    → IsOneAnswered (MakesOfTwo joined m o) before after size status
+    → IsOneAnswered (MakesOfTwo WritesTo joined m o) before after size status
     → 4 * size ≤ 5 * (length b + length v) + 56
 joined_len (document t) (document u) b v before after size status first second made =
     let most = answered (joined t u) (room t + room u + 4) before after size status
@@ -147,8 +148,8 @@ joined_len (document t) (other_bytes x) b v before after size status first secon
     omega (arith, refused r InvalidJsonb before after size status is made)
 
 pub concat_len : (d : ℕ) (b v before after : List ℕ) (size status : ℕ) → AreBytes b → AreBytes v
-    → IsOneAnswered (MakesOfTwo joined (meaning_within d b) (meaning_within d v)) before after size
-    status
+    → IsOneAnswered (MakesOfTwo WritesTo joined (meaning_within d b) (meaning_within d v))
+    before after size status
     → IsConcatLength b v size
 concat_len d b v before after size status bytes values made =
     joined_len (meaning_within d b) (meaning_within d v) b v before after size status

@@ -42,15 +42,19 @@ WritesTo t (Err InvalidJsonb) = Fits t → ⊥
 WritesTo t (Err OutOfMemory) = Fits t
 WritesTo t (Err e) = ⊥
 
--- The result of making a document of another one; bytes that are not a document are refused.
-abbrev pub MakesOfOne : (Tree → Tree) → Meaning → Result (List ℕ) Error → Type 0
-MakesOfOne f (document t) r = WritesTo (f t) r
-MakesOfOne f (other_bytes b) r = r ≡ Err InvalidJsonb
+-- The result of making a document of another one, by what its writer does; bytes that are not a
+-- document are refused.
+abbrev pub MakesOfOne : (Tree → Result (List ℕ) Error → Type 0) → (Tree → Tree) → Meaning
+    → Result (List ℕ) Error → Type 0
+MakesOfOne Writes f (document t) r = Writes (f t) r
+MakesOfOne Writes f (other_bytes b) r = r ≡ Err InvalidJsonb
 
--- The result of making a document of two; bytes that are not a document are refused.
-abbrev pub MakesOfTwo : (Tree → Tree → Tree) → Meaning → Meaning → Result (List ℕ) Error → Type 0
-MakesOfTwo f (document t) (document u) r = WritesTo (f t u) r
-MakesOfTwo f m n r = r ≡ Err InvalidJsonb
+-- The result of making a document of two, by what its writer does; bytes that are not a document
+-- are refused.
+abbrev pub MakesOfTwo : (Tree → Result (List ℕ) Error → Type 0) → (Tree → Tree → Tree) → Meaning
+    → Meaning → Result (List ℕ) Error → Type 0
+MakesOfTwo Writes f (document t) (document u) r = Writes (f t u) r
+MakesOfTwo Writes f m n r = r ≡ Err InvalidJsonb
 
 -- The index keys of a document are handed over, or there is not enough memory; bytes that are not a
 -- document are refused.
@@ -84,20 +88,14 @@ IsTreeEdited t (Some path) (Ok operation) before after size status =
     (steps : List Step) × ((map step_view steps ≡ path)
     × IsOneAnswered (WritesTo (edited_whole steps operation t)) before after size status)
 
--- The document is edited at the end of the path that a document gives; bytes that are not a
--- document are refused.
-abbrev pub IsDocumentEdited : Meaning → Meaning → Result Operation ℕ → List ℕ → List ℕ → ℕ → ℕ
-    → Type 0
-IsDocumentEdited (document t) (document p) operation before after size status =
-    IsTreeEdited t (path_in p) operation before after size status
-IsDocumentEdited m n operation before after size status =
-    IsRefused (code InvalidJsonb) before after size status
-
--- The document is edited, or there is not enough memory.
+-- The document is edited at the end of the path that another one gives, or there is not enough
+-- memory; bytes that are not a document are refused.
 abbrev pub IsEdited : Meaning → Meaning → Result Operation ℕ → List ℕ → List ℕ → ℕ → ℕ → Type 0
-IsEdited m n operation before after size status =
-    IsDocumentEdited m n operation before after size status
+IsEdited (document t) (document p) operation before after size status =
+    IsTreeEdited t (path_in p) operation before after size status
     ⊎ IsRefused (code OutOfMemory) before after size status
+IsEdited m n operation before after size status =
+    IsRefused (code InvalidJsonb) before after size status
 
 -- The result of an edit is at most a quarter longer than the document and the value together, and
 -- three times the path and 2 bytes more.

@@ -56,15 +56,10 @@ IsKeyOfNames t None before after size status = IsRefused other_kind before after
 IsKeyOfNames t (Some names) before after size status =
     IsLongHandedOver (keys_of_members names t) before after size status
 
--- The keys of the members with the names that a tree gives are copied, or there is not enough
--- memory.
-abbrev pub IsKeyOfMembers : Tree → Tree → List ℕ → List ℕ → ℕ → ℕ → Type 0
-IsKeyOfMembers t u before after size status =
-    IsKeyOfNames t (names_in u) before after size status
-    ⊎ IsRefused (code OutOfMemory) before after size status
-
--- The keys are copied as `IsKeyOfMembers` says; bytes that are not a document are refused.
+-- The keys of the members with the names that a document gives are copied, or there is not enough
+-- memory; bytes that are not a document are refused.
 abbrev pub IsMembersKey : Meaning → Meaning → List ℕ → List ℕ → ℕ → ℕ → Type 0
 IsMembersKey (document t) (document u) before after size status =
-    IsKeyOfMembers t u before after size status
+    IsKeyOfNames t (names_in u) before after size status
+    ⊎ IsRefused (code OutOfMemory) before after size status
 IsMembersKey m n before after size status = IsRefused (code InvalidJsonb) before after size status

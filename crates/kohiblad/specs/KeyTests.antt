@@ -24,13 +24,10 @@ abbrev pub keys_answer : (List (List ℕ) → Tree → Bool) → Tree → Option
 keys_answer has t None = no_truth other_kind
 keys_answer has t (Some keys) = truth_of (has keys t)
 
--- A tree is tested for the keys that another gives, or there is not enough memory.
-abbrev pub IsTested : (List (List ℕ) → Tree → Bool) → Tree → Tree → KohibladTruth → Type 0
-IsTested has t u answer =
-    (answer ≡ keys_answer has t (names_in u)) ⊎ (answer ≡ no_truth (code OutOfMemory))
-
--- A document is tested for the keys that another gives; bytes that are not a document are refused.
+-- A document is tested for the keys that another gives, or there is not enough memory; bytes that
+-- are not a document are refused.
 abbrev pub AreKeysAnswered : (List (List ℕ) → Tree → Bool) → Meaning → Meaning → KohibladTruth
     → Type 0
-AreKeysAnswered has (document t) (document u) answer = IsTested has t u answer
+AreKeysAnswered has (document t) (document u) answer =
+    (answer ≡ keys_answer has t (names_in u)) ⊎ (answer ≡ no_truth (code OutOfMemory))
 AreKeysAnswered has m n answer = answer ≡ no_truth (code InvalidJsonb)

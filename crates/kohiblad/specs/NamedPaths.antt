@@ -32,21 +32,16 @@ IsPathMade path before after size status =
     IsOneAnswered (WritesTo (path_tree path)) before after size status
     ⊎ IsRefused (code OutOfMemory) before after size status
 
--- The document of the path that a UTF-8 text gives in a tree is handed over; a text that gives none
--- is refused; or there is not enough memory.
-abbrev pub IsPathInTree : Tree → List ℕ → List ℕ → List ℕ → ℕ → ℕ → Type 0
-IsPathInTree t text before after size status =
+-- The document of the path that a UTF-8 text gives in a document is handed over; a text that gives
+-- none is refused; or there is not enough memory. Bytes that are not a document are refused.
+abbrev pub IsPathOf : Meaning → List ℕ → List ℕ → List ℕ → ℕ → ℕ → Type 0
+IsPathOf (document t) text before after size status =
     ((path : List StepView)
     × (GivesStepsIn t text path
     × IsOneAnswered (WritesTo (path_tree path)) before after size status))
     ⊎ ((((path : List StepView) → GivesStepsIn t text path → ⊥)
     × IsRefused other_kind before after size status)
     ⊎ IsRefused (code OutOfMemory) before after size status)
-
--- The text is read in a document; bytes that are not a document are refused.
-abbrev pub IsPathOf : Meaning → List ℕ → List ℕ → List ℕ → ℕ → ℕ → Type 0
-IsPathOf (document t) text before after size status =
-    IsPathInTree t text before after size status
 IsPathOf (other_bytes b) text before after size status =
     IsRefused (code InvalidJsonb) before after size status
 

@@ -24,34 +24,19 @@ IsLongWrittenOut text before after size status = IsLongHandedOver text before af
     ⊎ ((length text ≤ length before)
     × IsRefused (code errors.OutOfMemory) before after size status)
 
--- The bytes are brought to canonical form, as the library does it.
-abbrev pub IsRewritten : List ℕ → List ℕ → List ℕ → ℕ → ℕ → Type 0
-IsRewritten bytes before after size status =
-    IsOneAnswered (RewritesTo bytes) before after size status
-
--- Bytes that are no document of at most this depth are refused, and a document is rewritten as
--- `IsRewritten` says.
+-- Bytes that are no document of at most this depth are refused, and a document is brought to
+-- canonical form, as the library does it.
 abbrev pub IsRewrittenWithin : ℕ → List ℕ → List ℕ → List ℕ → ℕ → ℕ → Type 0
 IsRewrittenWithin depth bytes before after size status =
     ((IsDocumentWithin depth bytes → ⊥)
     × IsRefused (code errors.InvalidJsonb) before after size status)
-    ⊎ (IsDocumentWithin depth bytes × IsRewritten bytes before after size status)
+    ⊎ (IsDocumentWithin depth bytes
+    × IsOneAnswered (RewritesTo bytes) before after size status)
 
 -- The rule for exponents that a caller gives as a number: 0 forbids them.
 abbrev pub rule_of : ℕ → Exponents
 rule_of zero = Forbidden
 rule_of (suc n) = Allowed
-
--- The text is parsed under a rule for exponents, as the library does it.
-abbrev pub IsRead : Exponents → List ℕ → List ℕ → List ℕ → ℕ → ℕ → Type 0
-IsRead rule text before after size status =
-    IsOneAnswered (ParsesUnder rule text) before after size status
-
--- The text is refused if it is not UTF-8, and otherwise read as `IsRead` says.
-abbrev pub IsReadAsText : Exponents → List ℕ → List ℕ → List ℕ → ℕ → ℕ → Type 0
-IsReadAsText rule text before after size status =
-    ((IsUtf8 text → ⊥) × IsRefused (code errors.InvalidUtf8) before after size status)
-    ⊎ (IsUtf8 text × IsRead rule text before after size status)
 
 -- Bytes that are no UTF-8 are refused, by their depth first.
 abbrev pub IsNoText : ℕ → List ℕ → Result (List ℕ) ParseError → Type 0
@@ -64,8 +49,11 @@ abbrev pub ReadsAs : Exponents → ℕ → List ℕ → Result (List ℕ) ParseE
 ReadsAs rule depth text made = (IsUtf8 text × ParsesUnderWithin rule depth text made)
     ⊎ ((IsUtf8 text → ⊥) × IsNoText depth text made)
 
--- The text is refused if it nests deeper than `depth`, and otherwise read as `IsReadAsText` says.
+-- The text is refused if it nests deeper than `depth`, and then if it is not UTF-8, and otherwise
+-- parsed under a rule for exponents, as the library does it.
 abbrev pub IsReadWithin : Exponents → ℕ → List ℕ → List ℕ → List ℕ → ℕ → ℕ → Type 0
 IsReadWithin rule depth text before after size status =
     ((depth < text_depth text) × IsRefused too_deep before after size status)
-    ⊎ ((text_depth text ≤ depth) × IsReadAsText rule text before after size status)
+    ⊎ ((text_depth text ≤ depth)
+    × (((IsUtf8 text → ⊥) × IsRefused (code errors.InvalidUtf8) before after size status)
+    ⊎ (IsUtf8 text × IsOneAnswered (ParsesUnder rule text) before after size status)))

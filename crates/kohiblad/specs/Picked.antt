@@ -26,17 +26,12 @@ IsTreePicked which t (Some texts) before after size status =
     (names : List (Bor (List ℕ))) × ((map (λ name. name.now) names ≡ texts)
     × IsOneAnswered (WritesTo (picked names which t)) before after size status)
 
--- The object is copied with the members that are picked by the names that a tree gives, or there is
--- not enough memory.
-abbrev pub IsDocumentPicked : Kept → Tree → Tree → List ℕ → List ℕ → ℕ → ℕ → Type 0
-IsDocumentPicked which t u before after size status =
-    IsTreePicked which t (names_in u) before after size status
-    ⊎ IsRefused (code OutOfMemory) before after size status
-
--- The object is copied as `IsDocumentPicked` says; bytes that are not a document are refused.
+-- The object is copied with the members that are picked by the names that a document gives, or
+-- there is not enough memory; bytes that are not a document are refused.
 abbrev pub IsPicked : Kept → Meaning → Meaning → List ℕ → List ℕ → ℕ → ℕ → Type 0
 IsPicked which (document t) (document u) before after size status =
-    IsDocumentPicked which t u before after size status
+    IsTreePicked which t (names_in u) before after size status
+    ⊎ IsRefused (code OutOfMemory) before after size status
 IsPicked which m n before after size status =
     IsRefused (code InvalidJsonb) before after size status
 

@@ -14,7 +14,7 @@ use Rattle.jsonb.specs.Building.{AreTexts}
 use Rattle.jsonb.specs.Results.{AreWithinLimits, IsArrayOfDocuments, IsObjectOfDocuments}
 use Rattle.jsonb.specs.Results.{PairsExceedLimits}
 use Rattle.kohiblad.specs.Status.{code, IsOneAnswered, IsRefused}
-use Rattle.kohiblad.specs.Rows.{are_offsets, rows, row_pairs}
+use Rattle.kohiblad.specs.Rows.{are_offsets, rows}
 
 -- Each of these is a document of at most this depth.
 abbrev pub AreWithin : ℕ → List (List ℕ) → Type 0
@@ -52,24 +52,17 @@ BuildsObject depth pairs (Err OutOfMemory) =
     AreWithin depth (values_of pairs) × AreTexts (keys_of pairs)
 BuildsObject depth pairs (Err e) = ⊥
 
--- The rows are refused if an offset is below the previous one or beyond the bytes, and otherwise
--- built as `BuildsArray` says.
-abbrev pub IsArrayOfRows : ℕ → List ℕ → List ℕ → List ℕ → List ℕ → ℕ → ℕ → Type 0
-IsArrayOfRows depth bytes offsets before after size status =
-    ((are_offsets (length bytes) 0 offsets ≡ false)
-    × IsRefused (code InvalidEOF) before after size status)
-    ⊎ ((are_offsets (length bytes) 0 offsets ≡ true)
-    × IsOneAnswered (BuildsArray depth (rows bytes offsets)) before after size status)
+-- The rows are refused if they are not what is asked for, and otherwise one of these results is the
+-- answer.
+abbrev pub IsOneOfRows : Bool → (Result (List ℕ) Error → Type 0) → List ℕ → List ℕ → ℕ → ℕ → Type 0
+IsOneOfRows are Results before after size status =
+    ((are ≡ false) × IsRefused (code InvalidEOF) before after size status)
+    ⊎ ((are ≡ true) × IsOneAnswered Results before after size status)
 
--- The rows are pairs: no offset is below the previous one or beyond the bytes, and their number is
--- even.
+-- The offsets give rows: none is below the previous one or beyond the bytes.
+abbrev pub are_rows : List ℕ → List ℕ → Bool
+are_rows bytes offsets = are_offsets (length bytes) 0 offsets
+
+-- The rows are pairs: their number is even.
 abbrev pub are_pairs : List ℕ → List ℕ → Bool
-are_pairs bytes offsets =
-    are_offsets (length bytes) 0 offsets && (length (rows bytes offsets) % 2 == 0)
-
--- The rows are refused if they are not pairs, and otherwise built as `BuildsObject` says.
-abbrev pub IsObjectOfRows : ℕ → List ℕ → List ℕ → List ℕ → List ℕ → ℕ → ℕ → Type 0
-IsObjectOfRows depth bytes offsets before after size status =
-    ((are_pairs bytes offsets ≡ false) × IsRefused (code InvalidEOF) before after size status)
-    ⊎ ((are_pairs bytes offsets ≡ true)
-    × IsOneAnswered (BuildsObject depth (row_pairs (rows bytes offsets))) before after size status)
+are_pairs bytes offsets = are_rows bytes offsets && (length (rows bytes offsets) % 2 == 0)

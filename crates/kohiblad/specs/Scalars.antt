@@ -93,19 +93,6 @@ abbrev pub int64_number : ℤ → Number
 int64_number (pos n) = UInt64 n
 int64_number (negsuc n) = Int64 (negsuc n)
 
--- The answer for a value that has data. They follow the tag, which follows two words.
-abbrev pub data_answer : ℕ → ℕ → KohibladExtension
-data_answer tag n = record {
-  status = 0;
-  tag = tag;
-  value = pos 0;
-  months = pos 0;
-  days = pos 0;
-  seconds = pos 0;
-  offset = 9;
-  length = n;
-}
-
 -- An extension value with this status, and 0 in all fields.
 abbrev pub no_extension : ℕ → KohibladExtension
 no_extension status = record {
@@ -119,18 +106,14 @@ no_extension status = record {
   length = 0;
 }
 
+-- The answer for a value that has data. They follow the tag, which follows two words.
+abbrev pub data_answer : ℕ → ℕ → KohibladExtension
+data_answer tag n = record (no_extension 0) { tag = tag; offset = 9; length = n }
+
 -- The answer for a date or a timestamp, with the offset of its zone.
 abbrev pub time_answer : ℕ → ℤ → ℤ → KohibladExtension
-time_answer tag value seconds = record {
-  status = 0;
-  tag = tag;
-  value = value;
-  months = pos 0;
-  days = pos 0;
-  seconds = seconds;
-  offset = 0;
-  length = 0;
-}
+time_answer tag value seconds =
+    record (no_extension 0) { tag = tag; value = value; seconds = seconds }
 
 -- The tag of an extension value, the first byte of its payload, and its fields.
 abbrev pub extension_answer : Extension → KohibladExtension
@@ -138,16 +121,8 @@ extension_answer (binary bytes) = data_answer 0 (length bytes)
 extension_answer (date d) = time_answer 16 d.value (pos 0)
 extension_answer (timestamp t) = time_answer 32 t.value (pos 0)
 extension_answer (timestamp_tz t) = time_answer 48 t.value t.offset
-extension_answer (interval i) = record {
-  status = 0;
-  tag = 64;
-  value = i.micros;
-  months = i.months;
-  days = i.days;
-  seconds = pos 0;
-  offset = 0;
-  length = 0;
-}
+extension_answer (interval i) =
+    record (no_extension 0) { tag = 64; value = i.micros; months = i.months; days = i.days }
 extension_answer (opaque tag bytes) = data_answer tag (length bytes)
 
 -- The bytes are few enough for a payload.

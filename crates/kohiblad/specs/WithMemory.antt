@@ -2,7 +2,7 @@
 use Rattle.std.specs.Prelude.{◌≡◌, ◌⊎◌, ⊤, ℕ, List, Result, Ok, Err}
 use Rattle.jsonb_value.specs.declared.error.Error.{Error}
 use Rattle.jsonb_value.specs.declared.error.Error.TheVariants.{InvalidJsonb, OutOfMemory}
-use Rattle.jsonb_value.specs.Meaning.{Meaning, document, other_bytes}
+use Rattle.jsonb_value.specs.Meaning.{Meaning, document}
 use Rattle.jsonb_value.specs.Tree.{Tree}
 use Rattle.jsonb_codec.specs.Canon.{canon, Fits}
 use Rattle.jsonb_functions.specs.ArraySets.{overlaps}
@@ -17,17 +17,6 @@ WritesWithMemory t (Ok answer) = Fits t × (answer ≡ canon t)
 WritesWithMemory t (Err InvalidJsonb) = Fits t → ⊥
 WritesWithMemory t (Err OutOfMemory) = ⊤
 WritesWithMemory t (Err e) = ⊥
-
--- The result of making a document of another one; bytes that are not a document are refused.
-abbrev pub MakesOfOneWithMemory : (Tree → Tree) → Meaning → Result (List ℕ) Error → Type 0
-MakesOfOneWithMemory f (document t) r = WritesWithMemory (f t) r
-MakesOfOneWithMemory f (other_bytes b) r = r ≡ Err InvalidJsonb
-
--- The result of making a document of two; bytes that are not a document are refused.
-abbrev pub MakesOfTwoWithMemory : (Tree → Tree → Tree) → Meaning → Meaning
-    → Result (List ℕ) Error → Type 0
-MakesOfTwoWithMemory f (document t) (document u) r = WritesWithMemory (f t u) r
-MakesOfTwoWithMemory f m n r = r ≡ Err InvalidJsonb
 
 -- Whether two arrays have an item that is equal, or there is not enough memory; bytes that are not
 -- a document are refused.

@@ -2,7 +2,7 @@
 pub use Rattle.std.specs.Map.{keys_of, values_of}
 pub use Rattle.jsonb_value.specs.ExtCode.{extension_of}
 pub use Rattle.jsonb_value.specs.Json.Numeral.{number_of}
-pub use Rattle.jsonb_value.specs.Meaning.{Meaning, document, meaning_cmp}
+pub use Rattle.jsonb_value.specs.Meaning.{Meaning, document, meaning_cmp, other_bytes}
 pub use Rattle.jsonb_value.specs.Text.{compact, length_64, pretty}
 pub use Rattle.jsonb_value.specs.TextDepth.{text_depth}
 pub use Rattle.jsonb_value.specs.Tree.{Extension, Tree, boolean, extension, null, number, text}
@@ -43,7 +43,7 @@ pub use Rattle.kohiblad.specs.Children.{layout_in, numbered_child, value_answer}
 pub use Rattle.kohiblad.specs.EntryTexts.{IsPayloadWithin, IsPrintedPart, entry_fault}
 pub use Rattle.kohiblad.specs.Functions.{AreKeysWritten, IsConcatLength, IsContainedAnswer}
 pub use Rattle.kohiblad.specs.Functions.{IsEditLength, IsEdited}
-pub use Rattle.kohiblad.specs.Functions.{MakesOfOne, MakesOfTwo}
+pub use Rattle.kohiblad.specs.Functions.{MakesOfOne, MakesOfTwo, WritesTo}
 pub use Rattle.kohiblad.specs.Functions.{exists_answer, operation_in, operation_asked}
 pub use Rattle.kohiblad.specs.KindAnswer.{kind_answer}
 pub use Rattle.kohiblad.specs.Output.{IsLongWrittenOut, IsReadWithin, IsRewrittenWithin}
@@ -53,8 +53,8 @@ pub use Rattle.kohiblad.specs.Places.{AreBothInside, AreMemberPlaces, IsInside, 
 pub use Rattle.kohiblad.specs.Places.{IsMemberHandedOver, IsPartPlace, IsPlaceFound}
 pub use Rattle.kohiblad.specs.Places.{IsPlaceHandedOver, IsValuePlace, entry_document}
 pub use Rattle.kohiblad.specs.Places.{member_places, part_in, place_answer, place_of_item}
-pub use Rattle.kohiblad.specs.Results.{AreWithin, BuildsArray, BuildsObject, IsArrayOfRows}
-pub use Rattle.kohiblad.specs.Results.{IsMember, IsObjectOfRows}
+pub use Rattle.kohiblad.specs.Results.{AreWithin, BuildsArray, BuildsObject, IsMember}
+pub use Rattle.kohiblad.specs.Results.{IsOneOfRows, are_pairs, are_rows}
 pub use Rattle.kohiblad.specs.Rows.{are_offsets, row_pairs, rows, rows_from}
 pub use Rattle.kohiblad.specs.Scalars.{IsDecimalOf, IsGivenBy, IsShort, IsShortExtension}
 pub use Rattle.kohiblad.specs.Scalars.{coefficient, data_answer, data_of, extension_answer}

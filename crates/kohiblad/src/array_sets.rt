@@ -1,13 +1,14 @@
 //! Arrays as sets of values, in which equal values are counted.
 
 ghost use Rattle.jsonb_functions.specs.ArraySets.{difference, distinct, intersection};
-ghost use Rattle.kohiblad.specs.WithMemory.{IsOverlapAnswer, MakesOfOneWithMemory};
-ghost use Rattle.kohiblad.specs.WithMemory.{MakesOfTwoWithMemory};
-ghost use Rattle.kohiblad.specs.Words.{IsOneAnswered, result_bytes, key_meaning, meaning_within};
+ghost use Rattle.kohiblad.specs.WithMemory.{IsOverlapAnswer, WritesWithMemory};
+ghost use Rattle.kohiblad.specs.Words.{IsOneAnswered, MakesOfOne, MakesOfTwo, meaning_within};
+ghost use Rattle.kohiblad.specs.Words.{result_bytes};
 
 use crate::answer::{code, hand_over_made};
+use crate::checked::checked;
 use crate::scalar::{KohibladTruth, no_truth, truth_of};
-use jsonb::{Error, OwnedJsonb, SortKey};
+use jsonb::{Error, OwnedJsonb};
 use jsonb_functions::{array_distinct, array_except, array_intersection, array_overlap};
 use std::alloc::Global;
 
@@ -23,21 +24,18 @@ pub extern "C" fn kohiblad_array_distinct(
     out: &mut [u8],
     length: &mut usize,
 ) -> u32
-    ensures { IsOneAnswered (MakesOfOneWithMemory distinct (meaning_within depth bytes.now))
+    ensures { IsOneAnswered (MakesOfOne WritesWithMemory distinct (meaning_within depth bytes.now))
         out.old out.new length.new result }
 {
-    let bytes = SortKey::within(bytes, depth);
-    hand_over_made(distinct_items(alloc, bytes), out, length)
+    hand_over_made(distinct_items(alloc, bytes, depth), out, length)
 }
 
 // The items of an array without those that are equal to one before them.
-fn distinct_items(alloc: Global, bytes: SortKey<'_>) -> Result<OwnedJsonb, Error>
-    ensures { MakesOfOneWithMemory distinct (key_meaning bytes.entry) (result_bytes result) }
+fn distinct_items(alloc: Global, bytes: &[u8], depth: usize) -> Result<OwnedJsonb, Error>
+    ensures { MakesOfOne WritesWithMemory distinct (meaning_within depth bytes.now)
+        (result_bytes result) }
 {
-    match bytes {
-        SortKey::Document(document) => array_distinct(alloc, document),
-        SortKey::Other(_) => Err(Error::InvalidJsonb),
-    }
+    array_distinct(alloc, checked(bytes, depth)?)
 }
 
 /// Copies the canonical document of the items that both arrays have to `out`, in the order of
@@ -53,25 +51,19 @@ pub extern "C" fn kohiblad_array_intersection(
     out: &mut [u8],
     length: &mut usize,
 ) -> u32
-    ensures { IsOneAnswered (MakesOfTwoWithMemory intersection (meaning_within depth left.now)
-        (meaning_within depth right.now)) out.old out.new length.new result }
+    ensures { IsOneAnswered (MakesOfTwo WritesWithMemory intersection
+        (meaning_within depth left.now) (meaning_within depth right.now))
+        out.old out.new length.new result }
 {
-    let left = SortKey::within(left, depth);
-    let right = SortKey::within(right, depth);
-    hand_over_made(common_items(alloc, left, right), out, length)
+    hand_over_made(common_items(alloc, left, right, depth), out, length)
 }
 
 // The items that both arrays have.
-fn common_items(alloc: Global, left: SortKey<'_>, right: SortKey<'_>) -> Result<OwnedJsonb, Error>
-    ensures { MakesOfTwoWithMemory intersection (key_meaning left.entry)
-        (key_meaning right.entry) (result_bytes result) }
+fn common_items(alloc: Global, left: &[u8], right: &[u8], depth: usize) -> Result<OwnedJsonb, Error>
+    ensures { MakesOfTwo WritesWithMemory intersection (meaning_within depth left.now)
+        (meaning_within depth right.now) (result_bytes result) }
 {
-    match (left, right) {
-        (SortKey::Document(left), SortKey::Document(right)) => {
-            array_intersection(alloc, left, right)
-        }
-        _ => Err(Error::InvalidJsonb),
-    }
+    array_intersection(alloc, checked(left, depth)?, checked(right, depth)?)
 }
 
 /// Copies the canonical document of the items of `left` without one for each equal item of `right`
@@ -87,23 +79,18 @@ pub extern "C" fn kohiblad_array_except(
     out: &mut [u8],
     length: &mut usize,
 ) -> u32
-    ensures { IsOneAnswered (MakesOfTwoWithMemory difference (meaning_within depth left.now)
+    ensures { IsOneAnswered (MakesOfTwo WritesWithMemory difference (meaning_within depth left.now)
         (meaning_within depth right.now)) out.old out.new length.new result }
 {
-    let left = SortKey::within(left, depth);
-    let right = SortKey::within(right, depth);
-    hand_over_made(items_left(alloc, left, right), out, length)
+    hand_over_made(items_left(alloc, left, right, depth), out, length)
 }
 
 // The items of the one array without one for each equal item of the other.
-fn items_left(alloc: Global, left: SortKey<'_>, right: SortKey<'_>) -> Result<OwnedJsonb, Error>
-    ensures { MakesOfTwoWithMemory difference (key_meaning left.entry)
-        (key_meaning right.entry) (result_bytes result) }
+fn items_left(alloc: Global, left: &[u8], right: &[u8], depth: usize) -> Result<OwnedJsonb, Error>
+    ensures { MakesOfTwo WritesWithMemory difference (meaning_within depth left.now)
+        (meaning_within depth right.now) (result_bytes result) }
 {
-    match (left, right) {
-        (SortKey::Document(left), SortKey::Document(right)) => { array_except(alloc, left, right) }
-        _ => Err(Error::InvalidJsonb),
-    }
+    array_except(alloc, checked(left, depth)?, checked(right, depth)?)
 }
 
 /// Whether some item of the array `left` is equal to one of `right`, as 0 or 1. A value that is not
@@ -119,15 +106,11 @@ pub extern "C" fn kohiblad_array_overlap(
     ensures { IsOverlapAnswer (meaning_within depth left.now) (meaning_within depth right.now)
         result }
 {
-    let left = SortKey::within(left, depth);
-    let right = SortKey::within(right, depth);
-    match (left, right) {
-        (SortKey::Document(left), SortKey::Document(right)) => {
-            match array_overlap(alloc, left, right) {
-                Ok(overlap) => truth_of(overlap),
-                Err(error) => no_truth(code(error)),
-            }
-        }
-        _ => no_truth(code(Error::InvalidJsonb)),
+    let (Ok(left), Ok(right)) = (checked(left, depth), checked(right, depth)) else {
+        return no_truth(code(Error::InvalidJsonb));
+    };
+    match array_overlap(alloc, left, right) {
+        Ok(overlap) => truth_of(overlap),
+        Err(error) => no_truth(code(error)),
     }
 }

@@ -1,7 +1,7 @@
 //! Building arrays and objects from documents in consecutive rows.
 
-ghost use Rattle.kohiblad.specs.Words.{BuildsArray, BuildsObject, IsArrayOfRows, IsObjectOfRows};
-ghost use Rattle.kohiblad.specs.Words.{result_bytes, row_pairs};
+ghost use Rattle.kohiblad.specs.Words.{BuildsArray, BuildsObject, IsOneOfRows, are_pairs};
+ghost use Rattle.kohiblad.specs.Words.{are_rows, result_bytes, row_pairs, rows};
 
 use crate::answer::{code, hand_over_made, refuse};
 use crate::checked_rows::{Documents, Members};
@@ -22,7 +22,8 @@ pub extern "C" fn kohiblad_build_array(
     out: &mut [u8],
     length: &mut usize,
 ) -> u32
-    ensures { IsArrayOfRows depth bytes.now offsets.now out.old out.new length.new result }
+    ensures { IsOneOfRows (are_rows bytes.now offsets.now)
+        (BuildsArray depth (rows bytes.now offsets.now)) out.old out.new length.new result }
 {
     let Ok(rows) = Rows::new(bytes, offsets) else {
         return refuse(code(Error::InvalidEOF), out, length);
@@ -53,7 +54,9 @@ pub extern "C" fn kohiblad_build_object(
     out: &mut [u8],
     length: &mut usize,
 ) -> u32
-    ensures { IsObjectOfRows depth bytes.now offsets.now out.old out.new length.new result }
+    ensures { IsOneOfRows (are_pairs bytes.now offsets.now)
+        (BuildsObject depth (row_pairs (rows bytes.now offsets.now)))
+        out.old out.new length.new result }
 {
     let rows = match Rows::new(bytes, offsets) {
         Ok(rows) if rows.len() % 2 == 0 => rows,

@@ -8,16 +8,16 @@ ghost use Rattle.jsonb_value.specs.WellFormed.{IsTree};
 ghost use Rattle.jsonb.specs.Node.{node_tree, value_of_key};
 ghost use Rattle.jsonb_comparable.specs.Sink.{length_64};
 ghost use Rattle.jsonb_comparable.specs.TreeKey.{tree_key};
-ghost use Rattle.kohiblad.specs.KeyParts.{IsCutKey, IsKeyOfList, IsKeyOfMembers, IsMembersKey};
+ghost use Rattle.kohiblad.specs.KeyParts.{IsCutKey, IsKeyOfList, IsMembersKey};
 ghost use Rattle.kohiblad.specs.KeyParts.{keys_of_members, keys_of_parts, members_named};
 ghost use Rattle.kohiblad.specs.KeyParts.{part_cmp, part_key};
 ghost use Rattle.kohiblad.specs.KeySink.{cut_into};
 ghost use Rattle.kohiblad.specs.MemberTable.{IsTableOf};
-ghost use Rattle.kohiblad.specs.Words.{IsLongHandedOver, Tree, document_tree, key_meaning};
-ghost use Rattle.kohiblad.specs.Words.{meaning_key};
-ghost use Rattle.kohiblad.specs.Words.{meaning_within};
+ghost use Rattle.kohiblad.specs.Words.{IsLongHandedOver, Meaning, Tree, document_tree};
+ghost use Rattle.kohiblad.specs.Words.{key_meaning, meaning_key, meaning_within};
 
 use crate::answer::{NO_ROOM, OK, OTHER_KIND, code, refuse};
+use crate::checked::checked;
 use crate::key_sink::KeyWriter;
 use crate::member_table::MemberTable;
 use crate::names::read_names;
@@ -86,14 +86,10 @@ pub extern "C" fn kohiblad_member_key(
         → slice_cmp nat_cmp (keys_of_members names t) (keys_of_members names u)
         ≡ slice_cmp part_cmp (members_named names t) (members_named names u) }
 {
-    let document = SortKey::within(bytes, depth);
-    let names = SortKey::within(names, depth);
-    match (document, names) {
-        (SortKey::Document(document), SortKey::Document(names)) => {
-            write_member_keys(alloc, document, names, out, length)
-        }
-        _ => refuse(code(Error::InvalidJsonb), out, length),
-    }
+    let (Ok(document), Ok(names)) = (checked(bytes, depth), checked(names, depth)) else {
+        return refuse(code(Error::InvalidJsonb), out, length);
+    };
+    write_member_keys(alloc, document, names, out, length)
 }
 
 // Copies out the keys of the members with these names.
@@ -104,8 +100,8 @@ fn write_member_keys(
     out: &mut [u8],
     length: &mut usize,
 ) -> u32
-    ensures { IsKeyOfMembers (document_tree document.entry) (document_tree names.entry)
-        out.old out.new length.new result }
+    ensures { IsMembersKey (Meaning.document (document_tree document.entry))
+        (Meaning.document (document_tree names.entry)) out.old out.new length.new result }
 {
     match read_names(alloc, names) {
         Ok(Some(names)) => write_named_keys(alloc, document, &names, out, length),

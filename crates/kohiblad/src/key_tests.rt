@@ -1,13 +1,15 @@
 //! Whether some or all of several keys are in documents.
 
 ghost use Rattle.std.specs.Prelude.{◌≡◌, IfErr, IfOk};
-ghost use Rattle.kohiblad.specs.KeyTests.{AreKeysAnswered, IsTested, has_all_keys, has_some_key};
-ghost use Rattle.kohiblad.specs.Words.{code, document_tree, meaning_within, no_truth, truth_of};
+ghost use Rattle.kohiblad.specs.KeyTests.{AreKeysAnswered, has_all_keys, has_some_key};
+ghost use Rattle.kohiblad.specs.Words.{Meaning, code, document_tree, meaning_within};
+ghost use Rattle.kohiblad.specs.Words.{no_truth, truth_of};
 
 use crate::answer::{OTHER_KIND, code};
+use crate::checked::checked;
 use crate::names::read_names;
 use crate::scalar::{KohibladTruth, no_truth, truth_of};
-use jsonb::{Document, Error, SortKey};
+use jsonb::{Document, Error};
 use jsonb_functions::{exists_all, exists_any};
 use std::alloc::Global;
 
@@ -26,20 +28,16 @@ pub extern "C" fn kohiblad_exists_any(
     ensures { AreKeysAnswered has_some_key (meaning_within depth bytes.now)
         (meaning_within depth names.now) result }
 {
-    let document = SortKey::within(bytes, depth);
-    let names = SortKey::within(names, depth);
-    match (document, names) {
-        (SortKey::Document(document), SortKey::Document(names)) => {
-            some_key(alloc, document, names)
-        }
-        _ => no_truth(code(Error::InvalidJsonb)),
-    }
+    let (Ok(document), Ok(names)) = (checked(bytes, depth), checked(names, depth)) else {
+        return no_truth(code(Error::InvalidJsonb));
+    };
+    some_key(alloc, document, names)
 }
 
 // Whether some of the keys that a document gives is there.
 fn some_key(alloc: Global, document: Document<'_>, names: Document<'_>) -> KohibladTruth
-    ensures { IsTested has_some_key (document_tree document.entry) (document_tree names.entry)
-        result }
+    ensures { AreKeysAnswered has_some_key (Meaning.document (document_tree document.entry))
+        (Meaning.document (document_tree names.entry)) result }
 {
     match read_names(alloc, names) {
         Ok(Some(names)) => tested(exists_any(alloc, document, &names)),
@@ -63,20 +61,16 @@ pub extern "C" fn kohiblad_exists_all(
     ensures { AreKeysAnswered has_all_keys (meaning_within depth bytes.now)
         (meaning_within depth names.now) result }
 {
-    let document = SortKey::within(bytes, depth);
-    let names = SortKey::within(names, depth);
-    match (document, names) {
-        (SortKey::Document(document), SortKey::Document(names)) => {
-            all_keys(alloc, document, names)
-        }
-        _ => no_truth(code(Error::InvalidJsonb)),
-    }
+    let (Ok(document), Ok(names)) = (checked(bytes, depth), checked(names, depth)) else {
+        return no_truth(code(Error::InvalidJsonb));
+    };
+    all_keys(alloc, document, names)
 }
 
 // Whether all of the keys that a document gives are there.
 fn all_keys(alloc: Global, document: Document<'_>, names: Document<'_>) -> KohibladTruth
-    ensures { IsTested has_all_keys (document_tree document.entry) (document_tree names.entry)
-        result }
+    ensures { AreKeysAnswered has_all_keys (Meaning.document (document_tree document.entry))
+        (Meaning.document (document_tree names.entry)) result }
 {
     match read_names(alloc, names) {
         Ok(Some(names)) => tested(exists_all(alloc, document, &names)),

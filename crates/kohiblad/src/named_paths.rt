@@ -4,13 +4,13 @@ ghost use Rattle.std.specs.Prelude.{◌≡◌, IfErr, IfOk, List, MatchOption, S
 ghost use Rattle.std.specs.Prelude.{string_bytes};
 ghost use Rattle.jsonb_functions.specs.Names.{names_of};
 ghost use Rattle.jsonb_functions.specs.NamedSteps.{steps_by};
-ghost use Rattle.kohiblad.specs.NamedPaths.{GivesNames, IsPathIn, IsPathInTree, IsPathMade};
-ghost use Rattle.kohiblad.specs.NamedPaths.{IsPathOf};
-ghost use Rattle.kohiblad.specs.Words.{Error, document_tree, meaning_within};
+ghost use Rattle.kohiblad.specs.NamedPaths.{GivesNames, IsPathIn, IsPathMade, IsPathOf};
+ghost use Rattle.kohiblad.specs.Words.{Error, Meaning, document_tree, meaning_within};
 
 use crate::answer::{code, hand_over_made, refuse};
+use crate::checked::checked;
 use crate::paths::write_path;
-use jsonb::{Document, Error, SortKey};
+use jsonb::{Document, Error};
 use jsonb_functions::{document_of_path, read_name_list, read_pointer, steps_of_names};
 use simdutf8::basic;
 use std::alloc::Global;
@@ -52,9 +52,9 @@ fn write_path_within(
 ) -> u32
     ensures { IsPathOf (meaning_within depth bytes.now) text.now out.old out.new length.new result }
 {
-    match SortKey::within(bytes, depth) {
-        SortKey::Document(document) => write_path_in(alloc, document, text, out, length),
-        SortKey::Other(_) => refuse(code(Error::InvalidJsonb), out, length),
+    match checked(bytes, depth) {
+        Ok(document) => write_path_in(alloc, document, text, out, length),
+        Err(error) => refuse(code(error), out, length),
     }
 }
 
@@ -66,7 +66,7 @@ fn write_path_in(
     out: &mut [u8],
     length: &mut usize,
 ) -> u32
-    ensures { IsPathInTree (document_tree document.entry) text.now
+    ensures { IsPathOf (Meaning.document (document_tree document.entry)) text.now
         out.old out.new length.new result }
 {
     match names_of_text(alloc, text) {

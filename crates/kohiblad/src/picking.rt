@@ -1,12 +1,13 @@
 //! Copies of objects with some of their members, and the keys of objects.
 
 ghost use Rattle.std.specs.Prelude.{◌≡◌};
-ghost use Rattle.kohiblad.specs.Picked.{AreKeysCopied, IsDocumentPicked, IsPicked, kept_by};
-ghost use Rattle.kohiblad.specs.Words.{Meaning, document_tree, meaning_within};
+ghost use Rattle.kohiblad.specs.Picked.{AreKeysCopied, IsPicked, kept_by};
+ghost use Rattle.kohiblad.specs.Words.{meaning_within};
 
 use crate::answer::{NONE, OTHER_KIND, code, hand_over_made, refuse};
+use crate::checked::checked;
 use crate::names::read_names;
-use jsonb::{Document, Error, SortKey};
+use jsonb::Error;
 use jsonb_functions::{Kept, object_keys, pick};
 use std::alloc::Global;
 
@@ -29,13 +30,14 @@ pub extern "C" fn kohiblad_pick(
     ensures { IsPicked (kept_by others) (meaning_within depth bytes.now)
         (meaning_within depth names.now) out.old out.new length.new result }
 {
-    let document = SortKey::within(bytes, depth);
-    let names = SortKey::within(names, depth);
-    match (document, names) {
-        (SortKey::Document(document), SortKey::Document(names)) => {
-            write_picked(alloc, document, names, kept_by(others), out, length)
-        }
-        _ => refuse(code(Error::InvalidJsonb), out, length),
+    let (Ok(document), Ok(names)) = (checked(bytes, depth), checked(names, depth)) else {
+        return refuse(code(Error::InvalidJsonb), out, length);
+    };
+    let kept = kept_by(others);
+    match read_names(alloc, names) {
+        Ok(Some(names)) => hand_over_made(pick(alloc, document, &names, kept), out, length),
+        Ok(None) => refuse(OTHER_KIND, out, length),
+        Err(error) => refuse(code(error), out, length),
     }
 }
 
@@ -46,25 +48,6 @@ fn kept_by(others: u32) -> Kept
     match others {
         0 => Kept::Named,
         _ => Kept::Others,
-    }
-}
-
-// Copies out an object with some of its members.
-fn write_picked(
-    alloc: Global,
-    document: Document<'_>,
-    names: Document<'_>,
-    which: Kept,
-    out: &mut [u8],
-    length: &mut usize,
-) -> u32
-    ensures { IsDocumentPicked which (document_tree document.entry) (document_tree names.entry)
-        out.old out.new length.new result }
-{
-    match read_names(alloc, names) {
-        Ok(Some(names)) => hand_over_made(pick(alloc, document, &names, which), out, length),
-        Ok(None) => refuse(OTHER_KIND, out, length),
-        Err(error) => refuse(code(error), out, length),
     }
 }
 
@@ -82,17 +65,9 @@ pub extern "C" fn kohiblad_object_keys(
 ) -> u32
     ensures { AreKeysCopied (meaning_within depth bytes.now) out.old out.new length.new result }
 {
-    match SortKey::within(bytes, depth) {
-        SortKey::Document(document) => write_keys(alloc, document, out, length),
-        SortKey::Other(_) => refuse(code(Error::InvalidJsonb), out, length),
-    }
-}
-
-// Copies out the array of an object's keys.
-fn write_keys(alloc: Global, document: Document<'_>, out: &mut [u8], length: &mut usize) -> u32
-    ensures { AreKeysCopied (Meaning.document (document_tree document.entry))
-        out.old out.new length.new result }
-{
+    let Ok(document) = checked(bytes, depth) else {
+        return refuse(code(Error::InvalidJsonb), out, length);
+    };
     match object_keys(alloc, document) {
         Ok(Some(keys)) => hand_over_made(Ok(keys), out, length),
         Ok(None) => refuse(NONE, out, length),
