@@ -1,6 +1,5 @@
-pub mod LineLaws
+pub mod InputLaws
 pub mod RunLaws
 pub mod ValueLaws
-pub mod DecodeLaws
 pub mod SortLaws
 pub mod KeyLaws

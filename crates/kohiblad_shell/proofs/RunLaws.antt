@@ -1,24 +1,25 @@
--- The progress of a run over lines.
-use Rattle.std.proofs.Common.{◌≡◌, inl, inr, ℕ, suc, ◌+◌, ◌<◌, true, false, List, []}
-use Rattle.std.proofs.Common.{◌∷◌, ◌++◌, length, refl, sym, ap, ◌∙◌, subst, arith, append_assoc}
-use Rattle.std.proofs.Common.{Ok, Err}
+-- The progress of a run over the rows of an input.
+use Rattle.std.proofs.Common.{◌≡◌, ℕ, suc, ◌+◌, Bool, true, false, ◌||◌, List, [], Vec, Global}
+use Rattle.std.proofs.Common.{◌∷◌, ◌++◌, length, refl, sym, ap, ap₂, ◌∙◌, subst, arith}
+use Rattle.std.proofs.Common.{append_assoc, Ok, Err}
 use Rattle.std.proofs.lemmas.List.{append-nil, length-append}
-use Rattle.std.proofs.lemmas.List.Elements.{All-nil, All-cons}
 use Rattle.std.specs.Prelude.{Some, None, IfSome}
 use Rattle.std.specs.Io.KnownBytes.{Appends, Keeps}
-use Rattle.answer_lines.specs.Lines.{AreLines, IsLine}
 use Rattle.answer_lines.specs.Output.{AppendsPrefix}
 use Rattle.answer_lines.proofs.Output.{Known, appends_nothing, appends_both, prefix_of_all}
 use Rattle.answer_lines.proofs.Output.{prefix_after_all}
-use Rattle.answer_lines.proofs.Replies as replies
 use Rattle.std.proofs.KnownBytes.{Appends-kept}
+use Rattle.kohiblad_shell.specs.declared.input.Form.{Form}
 use Rattle.kohiblad_shell.specs.declared.outcome.LineFault.{LineFault}
+use Rattle.kohiblad_shell.specs.declared.run.Answer.TheVariants.{Rows, Wrong, End}
 use Rattle.kohiblad_shell.specs.declared.run.Plan.{Plan}
-use Rattle.kohiblad_shell.specs.Faults.{fault_line}
-use Rattle.kohiblad_shell.specs.Lines.{IsNextLine, ReadsLine}
-use Rattle.kohiblad_shell.specs.Outcomes.{Outcome, LineRule, Outcomes, none, more, output_of}
-use Rattle.kohiblad_shell.specs.Outcomes.{reports_of, row_count, fault_count}
-use Rattle.kohiblad_shell.specs.Runs.{BeginsRun, IsRun, IsSoundBeforeLast}
+use Rattle.kohiblad_shell.specs.declared.input.Found.TheVariants as found
+use Rattle.kohiblad_shell.specs.Faults.{cut_after, fault_line}
+use Rattle.kohiblad_shell.specs.Inputs.{ReadsRow}
+use Rattle.kohiblad_shell.specs.Outcomes.{Outcome, LineRule, Answers, none, more, cut, output_of}
+use Rattle.kohiblad_shell.specs.Outcomes.{AnswersNext, reports_of, row_count, fault_count}
+use Rattle.kohiblad_shell.specs.Outcomes.{stops_at, stops_in}
+use Rattle.kohiblad_shell.specs.Runs.{BeginsRun, GoesOnToLast, IsRun}
 
 -- ---- one more outcome
 
@@ -49,11 +50,52 @@ faults-append [] ps = omega arith
 faults-append (Ok text ∷ os) ps = faults-append os ps
 faults-append (Err fault ∷ os) ps = omega (arith, faults-append os ps)
 
-module _ {rule : LineRule} where
-  Outcomes-append : {xs ys : List (List ℕ)} {os ps : List Outcome} → Outcomes rule xs os
-      → Outcomes rule ys ps → Outcomes rule (xs ++ ys) (os ++ ps)
-  Outcomes-append none later = later
-  Outcomes-append (more first others) later = more first (Outcomes-append others later)
+module _ {rule : LineRule} {form : Form} where
+  Answers-append : {bytes mid end : List ℕ} {os ps : List Outcome}
+      → Answers rule form bytes os mid → Answers rule form mid ps end
+      → Answers rule form bytes (os ++ ps) end
+  Answers-append none later = later
+  Answers-append (more next answer others) later = more next answer (Answers-append others later)
+  Answers-append (cut part is others) later = cut part is (Answers-append others later)
+
+-- ---- where a run ends
+
+or_left : (a b : Bool) → (a || b) ≡ false → a ≡ false
+or_left false b is = refl
+or_left true b is = is
+
+or_right : (a b : Bool) → (a || b) ≡ false → b ≡ false
+or_right false b is = is
+or_right true b is = absurd cc
+
+or_true : (a b : Bool) → b ≡ true → (a || b) ≡ true
+or_true false b is = is
+or_true true b is = refl
+
+module _ (plan : Plan) where
+  -- one more outcome at which it goes on, or ends
+  goes_on_more : (os : List Outcome) (o : Outcome) → stops_in plan os ≡ false
+      → stops_at plan o ≡ false → stops_in plan (os ++ o ∷ []) ≡ false
+  goes_on_more [] o so_far is = ap (λ (t : Bool). t || false) is
+  goes_on_more (x ∷ os) o so_far is =
+      ap₂ (λ (a b : Bool). a || b) (or_left _ _ so_far)
+      (goes_on_more os o (or_right _ _ so_far) is)
+
+  stops_more : (os : List Outcome) (o : Outcome) → stops_at plan o ≡ true
+      → stops_in plan (os ++ o ∷ []) ≡ true
+  stops_more [] o is = ap (λ (t : Bool). t || false) is
+  stops_more (x ∷ os) o is = or_true _ _ (stops_more os o is)
+
+  front_goes_on : (before : List Outcome) (last : Outcome)
+      → stops_in plan (before ++ last ∷ []) ≡ false → stops_in plan before ≡ false
+  front_goes_on [] last is = refl
+  front_goes_on (o ∷ before) last is =
+      ap₂ (λ (a b : Bool). a || b) (or_left _ _ is)
+      (front_goes_on before last (or_right _ _ is))
+
+  all_go_on : (os : List Outcome) → stops_in plan os ≡ false → GoesOnToLast plan os
+  all_go_on os on before last is =
+      front_goes_on before last (subst (λ ps. stops_in plan ps ≡ false) is on)
 
 -- the last element and those before it are unique
 front_of : (before os : List Outcome) (last o : Outcome)
@@ -68,53 +110,10 @@ front_of (b ∷ before) (x ∷ os) last o same =
     let tails : os ++ o ∷ [] ≡ before ++ last ∷ [] = cc in
     let rest = front_of before os last o tails in cc
 
-one_more_sound : (os : List Outcome) (o : Outcome) → fault_count os ≡ 0
-    → IsSoundBeforeLast (os ++ o ∷ [])
-one_more_sound os o sound before last is =
-    let same = front_of before os last o is in rw same sound
-
-all_sound : (os : List Outcome) → fault_count os ≡ 0 → IsSoundBeforeLast os
-all_sound os sound before last is =
-    let counted = faults-append before (last ∷ []) in
-    let total : fault_count (before ++ last ∷ []) ≡ 0 = subst (λ ps. fault_count ps ≡ 0) is sound in
-    omega arith
-
--- ---- the lines of what is left
-
-no_lines : AreLines [] []
-no_lines = record {
-  whole = [];
-  rest = [];
-  parts = refl;
-  lines_are = refl;
-  whole_lines = All-nil IsLine;
-  rest_line = replies.no_line;
-}
-
-line_first : {bytes line rest : List ℕ} (lines : List (List ℕ)) → IsNextLine bytes line rest
-    → AreLines rest lines → AreLines bytes (line ∷ lines)
-line_first {line = line} lines (one, inl parts) are = record {
-  whole = line ∷ are.whole;
-  rest = are.rest;
-  parts = rw (parts, append_assoc, ← are.parts);
-  lines_are = rw are.lines_are;
-  whole_lines = All-cons IsLine line are.whole one are.whole_lines;
-  rest_line = are.rest_line;
-}
-line_first {bytes = bytes} {line = line} lines (one, inr (all, (some, empty))) are =
-    let only = replies.one_lines [] lines [] (rw empty at are) no_lines in
-    rw (all, only) (last_alone line one some)
-  where
-    last_alone : (line : List ℕ) → IsLine line → 0 < length line → AreLines line (line ∷ [])
-    last_alone [] one some = absurd (omega (arith, some))
-    last_alone (b ∷ line) one some = record {
-      whole = [];
-      rest = b ∷ line;
-      parts = refl;
-      lines_are = refl;
-      whole_lines = All-nil IsLine;
-      rest_line = one;
-    }
+one_more_goes_on : (plan : Plan) (os : List Outcome) (o : Outcome) → stops_in plan os ≡ false
+    → GoesOnToLast plan (os ++ o ∷ [])
+one_more_goes_on plan os o on before last is =
+    let same = front_of before os last o is in rw same on
 
 -- nothing was written yet
 pub prefix_of_none : (known : Known) (bytes : List ℕ) → AppendsPrefix known known bytes
@@ -123,19 +122,17 @@ prefix_of_none known bytes =
 
 -- ---- a run so far
 
--- The lines before those that are left were answered.
+-- The rows before those that are left were answered.
 pub record Taken (rule : LineRule) (plan : Plan) (input left : List ℕ)
     (old_output new_output old_errors new_errors : Known) (before rows faults : ℕ) : Type 0 where
-  pub lines : List (List ℕ)
   pub outcomes : List Outcome
-  pub of_input : (rest : List (List ℕ)) → AreLines left rest → AreLines input (lines ++ rest)
-  pub answered : Outcomes rule lines outcomes
+  pub answered : Answers rule plan.form input outcomes left
   pub output : Appends old_output new_output (output_of outcomes)
   pub errors : Appends old_errors new_errors (reports_of plan.name.now 0 outcomes)
   pub counted : length outcomes ≡ before
   pub rows_are : rows ≡ row_count outcomes
   pub faults_are : faults ≡ fault_count outcomes
-  pub goes_on : plan.stops_at_faults ≡ true → fault_count outcomes ≡ 0
+  pub goes_on : stops_in plan outcomes ≡ false
 
 -- The same where the bytes are known.
 abbrev pub IsSoFar : LineRule → Plan → (input left : Known)
@@ -149,34 +146,29 @@ pub run_begins : (rule : LineRule) (plan : Plan) (input o e : Known)
     → IsSoFar rule plan input input o o e e 0 0 0
 run_begins rule plan None o e = tt
 run_begins rule plan (Some input) o e = record {
-  lines = [];
   outcomes = [];
-  of_input = λ rest are. are;
   answered = none;
   output = appends_nothing o;
   errors = appends_nothing e;
   counted = refl;
   rows_are = refl;
   faults_are = refl;
-  goes_on = λ stops. refl;
+  goes_on = refl;
 }
 
 module _ (rule : LineRule) (plan : Plan) (o p e f : Known) (before rows faults : ℕ) where
   taken_begins : {input left : List ℕ} (q h : Known)
       → Taken rule plan input left o p e f before rows faults → Keeps p q → Keeps f h
       → BeginsRun rule plan input o q e h
-  taken_begins {left = left} q h t kept held =
-      let (later, are) = replies.lines_of left in record {
-        lines = t.lines;
-        later = later;
-        outcomes = t.outcomes;
-        of_input = t.of_input later are;
-        answered = t.answered;
-        output = prefix_of_all (Appends-kept o p q (output_of t.outcomes) t.output kept);
-        errors = prefix_of_all
-            (Appends-kept e f h (reports_of plan.name.now 0 t.outcomes) t.errors held);
-        stops = λ stops. all_sound t.outcomes (t.goes_on stops);
-      }
+  taken_begins {left = left} q h t kept held = record {
+    outcomes = t.outcomes;
+    rest = left;
+    answered = t.answered;
+    output = prefix_of_all (Appends-kept o p q (output_of t.outcomes) t.output kept);
+    errors = prefix_of_all
+        (Appends-kept e f h (reports_of plan.name.now 0 t.outcomes) t.errors held);
+    stops = all_go_on plan t.outcomes t.goes_on;
+  }
 
   -- a run that ends early, with nothing more written
   pub run_stops : (input left q h : Known)
@@ -187,79 +179,68 @@ module _ (rule : LineRule) (plan : Plan) (o p e f : Known) (before rows faults :
   run_stops (Some input) (Some left) q h so_far kept held = taken_begins q h so_far kept held
 
   -- nothing is left
-  pub run_ends : (input left new : Known) (line : List ℕ)
-      → IsSoFar rule plan input left o p e f before rows faults → ReadsLine left new line false
-      → IfSome input (λ i. IsRun rule plan i o p e f (record { rows = rows; faults = faults }))
-  run_ends None left new line so_far read = tt
-  run_ends (Some input) None new line so_far read = absurd so_far
-  run_ends (Some input) (Some left) None line so_far read = absurd read
-  run_ends (Some input) (Some left) (Some rest) line t empty = record {
-    lines = t.lines;
-    later = [];
+  pub run_ends : (input left new : Known)
+      → IsSoFar rule plan input left o p e f before rows faults
+      → AnswersNext rule plan.form left new End
+      → IfSome input (λ i. IsRun rule plan i o p e f
+      (record { rows = rows; faults = faults; is_stopped = false }))
+  run_ends None left new so_far read = tt
+  run_ends (Some input) None new so_far read = absurd so_far
+  run_ends (Some input) (Some left) None so_far read = absurd read
+  run_ends (Some input) (Some left) (Some rest) t empty = record {
     outcomes = t.outcomes;
-    of_input = t.of_input [] (rw empty no_lines);
+    rest = left;
     answered = t.answered;
     output = t.output;
     errors = t.errors;
-    stops = λ stops. all_sound t.outcomes (t.goes_on stops);
-    whole = λ sound. refl;
+    stops = all_go_on plan t.outcomes t.goes_on;
+    stopped = sym t.goes_on;
+    whole = λ on. empty;
     rows = t.rows_are;
     faults = t.faults_are;
   }
 
-  of_one_more : {input left rest line : List ℕ} (lines : List (List ℕ))
-      → ((later : List (List ℕ)) → AreLines left later → AreLines input (lines ++ later))
-      → IsNextLine left line rest → (later : List (List ℕ)) → AreLines rest later
-      → AreLines input ((lines ++ line ∷ []) ++ later)
-  of_one_more {line = line} lines of next later are =
-      rw append_assoc (of (line ∷ later) (line_first later next are))
-
-  -- a line gave rows, which were appended
-  pub run_answers : (input left new q : Known) (line text : List ℕ) (count : ℕ)
-      → IsSoFar rule plan input left o p e f before rows faults → ReadsLine left new line true
-      → rule line (Ok text) → Appends p q text → count ≡ row_count (Ok text ∷ [])
+  -- a row gave rows, which were appended
+  pub run_answers : (input left new q : Known) (lines : Vec ℕ Global) (count : ℕ)
+      → IsSoFar rule plan input left o p e f before rows faults
+      → AnswersNext rule plan.form left new (Rows lines) → Appends p q lines.items
+      → count ≡ row_count (Ok lines.items ∷ [])
       → IsSoFar rule plan input new o q e f (before + 1) (rows + count) faults
-  run_answers None left new q line text count so_far read answer appends is = tt
-  run_answers (Some input) None new q line text count so_far read answer appends is = absurd so_far
-  run_answers (Some input) (Some left) None q line text count so_far
-      read answer appends is = absurd read
-  run_answers (Some input) (Some left) (Some rest) q line text count t next answer appends is =
-      let more_output = output-append t.outcomes (Ok text ∷ []) in
-      let more_reports = reports-append plan.name.now 0 t.outcomes (Ok text ∷ []) in
-      let more_rows = rows-append t.outcomes (Ok text ∷ []) in
-      let more_faults = faults-append t.outcomes (Ok text ∷ []) in record {
-        lines = t.lines ++ line ∷ [];
-        outcomes = t.outcomes ++ Ok text ∷ [];
-        of_input = of_one_more t.lines t.of_input next;
-        answered = Outcomes-append t.answered (more answer none);
+  run_answers None left new q lines count so_far answer appends is = tt
+  run_answers (Some input) None new q lines count so_far answer appends is = absurd so_far
+  run_answers (Some input) (Some left) None q lines count so_far answer appends is = absurd answer
+  run_answers (Some input) (Some left) (Some rest) q lines count t answer appends is =
+      let more_output = output-append t.outcomes (Ok lines.items ∷ []) in
+      let more_reports = reports-append plan.name.now 0 t.outcomes (Ok lines.items ∷ []) in
+      let more_rows = rows-append t.outcomes (Ok lines.items ∷ []) in
+      let more_faults = faults-append t.outcomes (Ok lines.items ∷ []) in record {
+        outcomes = t.outcomes ++ Ok lines.items ∷ [];
+        answered = Answers-append t.answered answer;
         output = rw (more_output, append-nil) (appends_both o p q _ _ t.output appends);
         errors = rw (more_reports, append-nil) t.errors;
-        counted = omega (arith, t.counted, length-append t.outcomes (Ok text ∷ []));
+        counted = omega (arith, t.counted, length-append t.outcomes (Ok lines.items ∷ []));
         rows_are = omega (arith, t.rows_are, more_rows, is);
         faults_are = omega (arith, t.faults_are, more_faults);
-        goes_on = λ stops. omega (arith, t.goes_on stops, more_faults);
+        goes_on = goes_on_more plan t.outcomes (Ok lines.items) t.goes_on refl;
       }
 
   -- only a prefix of the rows was appended
-  pub run_breaks : (input left new q : Known) (line text : List ℕ)
-      → IsSoFar rule plan input left o p e f before rows faults → ReadsLine left new line true
-      → rule line (Ok text) → AppendsPrefix p q text
+  pub run_breaks : (input left new q : Known) (lines : Vec ℕ Global)
+      → IsSoFar rule plan input left o p e f before rows faults
+      → AnswersNext rule plan.form left new (Rows lines) → AppendsPrefix p q lines.items
       → IfSome input (λ i. BeginsRun rule plan i o q e f)
-  run_breaks None left new q line text so_far read answer appends = tt
-  run_breaks (Some input) None new q line text so_far read answer appends = absurd so_far
-  run_breaks (Some input) (Some left) None q line text so_far read answer appends = absurd read
-  run_breaks (Some input) (Some left) (Some rest) q line text t next answer appends =
-      let (later, are) = replies.lines_of rest in
-      let more_output = output-append t.outcomes (Ok text ∷ []) in
-      let more_reports = reports-append plan.name.now 0 t.outcomes (Ok text ∷ []) in record {
-        lines = t.lines ++ line ∷ [];
-        later = later;
-        outcomes = t.outcomes ++ Ok text ∷ [];
-        of_input = of_one_more t.lines t.of_input next later are;
-        answered = Outcomes-append t.answered (more answer none);
+  run_breaks None left new q lines so_far answer appends = tt
+  run_breaks (Some input) None new q lines so_far answer appends = absurd so_far
+  run_breaks (Some input) (Some left) None q lines so_far answer appends = absurd answer
+  run_breaks (Some input) (Some left) (Some rest) q lines t answer appends =
+      let more_output = output-append t.outcomes (Ok lines.items ∷ []) in
+      let more_reports = reports-append plan.name.now 0 t.outcomes (Ok lines.items ∷ []) in record {
+        outcomes = t.outcomes ++ Ok lines.items ∷ [];
+        rest = rest;
+        answered = Answers-append t.answered answer;
         output = rw (more_output, append-nil) (prefix_after_all _ t.output appends);
         errors = rw (more_reports, append-nil) (prefix_of_all t.errors);
-        stops = λ stops. one_more_sound t.outcomes (Ok text) (t.goes_on stops);
+        stops = one_more_goes_on plan t.outcomes (Ok lines.items) t.goes_on;
       }
 
   one_report : (os : List Outcome) (fault : LineFault) → length os ≡ before
@@ -273,28 +254,22 @@ module _ (rule : LineRule) (plan : Plan) (o p e f : Known) (before rows faults :
       reports-append plan.name.now 0 os (Err fault ∷ [])
       ∙ ap (λ r. reports_of plan.name.now 0 os ++ r) same
 
-  -- a line is wrong, and was reported
-  pub run_reports : (input left new q h : Known) (line : List ℕ) (fault : LineFault)
-      → IsSoFar rule plan input left o p e f before rows faults → ReadsLine left new line true
-      → rule line (Err fault) → Keeps p q
+  -- a row is wrong, and was reported
+  pub run_reports : (input left new q h : Known) (fault : LineFault)
+      → IsSoFar rule plan input left o p e f before rows faults
+      → AnswersNext rule plan.form left new (Wrong fault) → Keeps p q
       → Appends f h (fault_line plan.name.now (before + 1) fault)
-      → (plan.stops_at_faults ≡ true → ⊥)
+      → stops_at plan (Err fault) ≡ false
       → IsSoFar rule plan input new o q e h (before + 1) rows (faults + 1)
-  run_reports None left new q h line fault so_far read answer kept appends goes = tt
-  run_reports (Some input) None new q h line fault so_far read answer kept appends goes =
-      absurd so_far
-  run_reports (Some input) (Some left) None q h line fault t
-      read answer kept appends goes =
-      absurd read
-  run_reports (Some input) (Some left) (Some rest) q h line fault t next answer kept
-      appends goes =
+  run_reports None left new q h fault so_far answer kept appends goes = tt
+  run_reports (Some input) None new q h fault so_far answer kept appends goes = absurd so_far
+  run_reports (Some input) (Some left) None q h fault t answer kept appends goes = absurd answer
+  run_reports (Some input) (Some left) (Some rest) q h fault t answer kept appends goes =
       let more_output = output-append t.outcomes (Err fault ∷ []) in
       let more_rows = rows-append t.outcomes (Err fault ∷ []) in
       let more_faults = faults-append t.outcomes (Err fault ∷ []) in record {
-        lines = t.lines ++ line ∷ [];
         outcomes = t.outcomes ++ Err fault ∷ [];
-        of_input = of_one_more t.lines t.of_input next;
-        answered = Outcomes-append t.answered (more answer none);
+        answered = Answers-append t.answered answer;
         output = rw (more_output, append-nil)
             (Appends-kept o p q (output_of t.outcomes) t.output kept);
         errors = rw (one_report t.outcomes fault t.counted)
@@ -302,66 +277,84 @@ module _ (rule : LineRule) (plan : Plan) (o p e f : Known) (before rows faults :
         counted = omega (arith, t.counted, length-append t.outcomes (Err fault ∷ []));
         rows_are = omega (arith, t.rows_are, more_rows);
         faults_are = omega (arith, t.faults_are, more_faults);
-        goes_on = λ stops. absurd (goes stops);
+        goes_on = goes_on_more plan t.outcomes (Err fault) t.goes_on goes;
       }
 
-  -- the run stops at a line that is wrong, and was reported
-  pub run_halts : (input left new q h : Known) (line : List ℕ) (fault : LineFault)
-      → IsSoFar rule plan input left o p e f before rows faults → ReadsLine left new line true
-      → rule line (Err fault) → Keeps p q
-      → Appends f h (fault_line plan.name.now (before + 1) fault) → plan.stops_at_faults ≡ true
-      → IfSome input (λ i. IsRun rule plan i o q e h (record { rows = rows; faults = faults + 1 }))
-  run_halts None left new q h line fault so_far read answer kept appends stops = tt
-  run_halts (Some input) None new q h line fault so_far read answer kept appends stops =
-      absurd so_far
-  run_halts (Some input) (Some left) None q h line fault t
-      read answer kept appends stops =
-      absurd read
-  run_halts (Some input) (Some left) (Some rest) q h line fault t next answer kept
-      appends halts =
-      let (later, are) = replies.lines_of rest in
+  -- the run ends at a row that is wrong, and was reported
+  pub run_halts : (input left new q h : Known) (fault : LineFault)
+      → IsSoFar rule plan input left o p e f before rows faults
+      → AnswersNext rule plan.form left new (Wrong fault) → Keeps p q
+      → Appends f h (fault_line plan.name.now (before + 1) fault)
+      → stops_at plan (Err fault) ≡ true
+      → IfSome input (λ i. IsRun rule plan i o q e h
+      (record { rows = rows; faults = faults + 1; is_stopped = true }))
+  run_halts None left new q h fault so_far answer kept appends stops = tt
+  run_halts (Some input) None new q h fault so_far answer kept appends stops = absurd so_far
+  run_halts (Some input) (Some left) None q h fault t answer kept appends stops = absurd answer
+  run_halts (Some input) (Some left) (Some rest) q h fault t answer kept appends stops =
       let more_output = output-append t.outcomes (Err fault ∷ []) in
       let more_rows = rows-append t.outcomes (Err fault ∷ []) in
       let more_faults = faults-append t.outcomes (Err fault ∷ []) in record {
-        lines = t.lines ++ line ∷ [];
-        later = later;
         outcomes = t.outcomes ++ Err fault ∷ [];
-        of_input = of_one_more t.lines t.of_input next later are;
-        answered = Outcomes-append t.answered (more answer none);
+        rest = rest;
+        answered = Answers-append t.answered answer;
         output = rw (more_output, append-nil)
             (Appends-kept o p q (output_of t.outcomes) t.output kept);
         errors = rw (one_report t.outcomes fault t.counted)
             (appends_both e f h _ _ t.errors appends);
-        stops = λ stops. one_more_sound t.outcomes (Err fault) (t.goes_on stops);
-        whole = λ sound. absurd (omega (arith, sound halts, more_faults));
+        stops = one_more_goes_on plan t.outcomes (Err fault) t.goes_on;
+        stopped = sym (stops_more plan t.outcomes (Err fault) stops);
+        whole = λ on. absurd cc;
         rows = omega (arith, t.rows_are, more_rows);
         faults = omega (arith, t.faults_are, more_faults);
       }
 
   -- only a prefix of the report was appended
-  pub run_breaks_report : (input left new q h : Known) (line : List ℕ) (fault : LineFault)
-      → IsSoFar rule plan input left o p e f before rows faults → ReadsLine left new line true
-      → rule line (Err fault) → Keeps p q
+  pub run_breaks_report : (input left new q h : Known) (fault : LineFault)
+      → IsSoFar rule plan input left o p e f before rows faults
+      → AnswersNext rule plan.form left new (Wrong fault) → Keeps p q
       → AppendsPrefix f h (fault_line plan.name.now (before + 1) fault)
       → IfSome input (λ i. BeginsRun rule plan i o q e h)
-  run_breaks_report None left new q h line fault so_far read answer kept appends = tt
-  run_breaks_report (Some input) None new q h line fault so_far read answer kept appends =
-      absurd so_far
-  run_breaks_report (Some input) (Some left) None q h line fault t
-      read answer kept appends =
-      absurd read
-  run_breaks_report (Some input) (Some left) (Some rest) q h line fault t next answer kept
-      appends =
-      let (later, are) = replies.lines_of rest in
+  run_breaks_report None left new q h fault so_far answer kept appends = tt
+  run_breaks_report (Some input) None new q h fault so_far answer kept appends = absurd so_far
+  run_breaks_report (Some input) (Some left) None q h fault t answer kept appends = absurd answer
+  run_breaks_report (Some input) (Some left) (Some rest) q h fault t answer kept appends =
       let more_output = output-append t.outcomes (Err fault ∷ []) in record {
-        lines = t.lines ++ line ∷ [];
-        later = later;
         outcomes = t.outcomes ++ Err fault ∷ [];
-        of_input = of_one_more t.lines t.of_input next later are;
-        answered = Outcomes-append t.answered (more answer none);
+        rest = rest;
+        answered = Answers-append t.answered answer;
         output = rw (more_output, append-nil)
             (prefix_of_all (Appends-kept o p q (output_of t.outcomes) t.output kept));
         errors = rw (one_report t.outcomes fault t.counted)
             (prefix_after_all _ t.errors appends);
-        stops = λ stops. one_more_sound t.outcomes (Err fault) (t.goes_on stops);
+        stops = one_more_goes_on plan t.outcomes (Err fault) t.goes_on;
       }
+
+-- ---- the next row
+
+-- a row was read and answered, or is cut off
+pub next_rows : (rule : LineRule) (form : Form) (old new : Known) (row : List ℕ)
+    (lines : Vec ℕ Global) → ReadsRow form old new row found.Row → rule row (Ok lines.items)
+    → AnswersNext rule form old new (Rows lines)
+next_rows rule form None new row lines read answer = tt
+next_rows rule form (Some bytes) None row lines read answer = absurd read
+next_rows rule form (Some bytes) (Some rest) row lines read answer = more read answer none
+
+pub next_wrong : (rule : LineRule) (form : Form) (old new : Known) (row : List ℕ)
+    (fault : LineFault) → ReadsRow form old new row found.Row → rule row (Err fault)
+    → AnswersNext rule form old new (Wrong fault)
+next_wrong rule form None new row fault read answer = tt
+next_wrong rule form (Some bytes) None row fault read answer = absurd read
+next_wrong rule form (Some bytes) (Some rest) row fault read answer = more read answer none
+
+pub next_cut : (rule : LineRule) (form : Form) (old new : Known) (part : List ℕ)
+    → ReadsRow form old new part found.Cut → AnswersNext rule form old new (Wrong (cut_after part))
+next_cut rule form None new part read = tt
+next_cut rule form (Some bytes) None part read = absurd read
+next_cut rule form (Some bytes) (Some rest) part (is, ended) = rw ended (cut part is none)
+
+pub next_end : (rule : LineRule) (form : Form) (old new : Known) (part : List ℕ)
+    → ReadsRow form old new part found.End → AnswersNext rule form old new End
+next_end rule form None new part read = tt
+next_end rule form (Some bytes) None part read = absurd read
+next_end rule form (Some bytes) (Some rest) part read = read

@@ -1,10 +1,11 @@
 -- Faults of lines, and the lines that report them.
-use Rattle.std.specs.Prelude.{ℕ, suc, List, [], ◌∷◌, ◌++◌, codes}
+use Rattle.std.specs.Prelude.{ℕ, suc, Bool, true, false, List, [], ◌∷◌, ◌++◌, codes, length}
 use Rattle.std.specs.Fmt.{decimal}
 use Rattle.kohiblad_shell.specs.declared.outcome.LineFault.{LineFault}
 use Rattle.kohiblad_shell.specs.declared.outcome.Reason.{Reason}
 use Rattle.kohiblad_shell.specs.declared.outcome.Reason.TheVariants.{BadUtf8, BadSyntax, BadNumber}
 use Rattle.kohiblad_shell.specs.declared.outcome.Reason.TheVariants.{TooDeep, TooLarge}
+use Rattle.kohiblad_shell.specs.declared.outcome.Reason.TheVariants.{BadDocument, Cut}
 
 -- The word for a reason.
 abbrev pub reason_name : Reason → List ℕ
@@ -13,6 +14,21 @@ reason_name BadSyntax = codes "BadSyntax"
 reason_name BadNumber = codes "BadNumber"
 reason_name TooDeep = codes "TooDeep"
 reason_name TooLarge = codes "TooLarge"
+reason_name BadDocument = codes "InvalidJsonb"
+reason_name Cut = codes "InvalidEOF"
+
+-- Whether the row is cut off.
+abbrev pub is_cut : Reason → Bool
+is_cut Cut = true
+is_cut reason = false
+
+-- The fault of a row of documents that is no document, or nests too deep.
+abbrev pub bad_document : LineFault
+bad_document = record { offset = 0; reason = BadDocument }
+
+-- The fault of a row that is cut off after these bytes.
+abbrev pub cut_after : List ℕ → LineFault
+cut_after part = record { offset = length part; reason = Cut }
 
 -- The line that reports a fault, with its line feed: the name of the input, the number of the line
 -- and of the byte, both counted from 1, and the reason.

@@ -1,5 +1,5 @@
 -- Why a run ended early, and the status of the program.
-use Rattle.std.specs.Prelude.{◌≡◌, ◌⊎◌, ◌==◌, ◌||◌, ◌&&◌, ℕ, Bool, not, List, codes, Result, Ok}
+use Rattle.std.specs.Prelude.{◌≡◌, ◌⊎◌, ◌==◌, ◌||◌, ℕ, List, codes, Result, Ok}
 use Rattle.std.specs.Prelude.{◌+◌, ◌-◌, ◌^◌, Err, if◌then◌else◌, min}
 use Rattle.std.specs.declared.io.ErrorKind.{ErrorKind}
 use Rattle.std.specs.declared.io.ErrorKind.TheVariants.{BrokenPipe}
@@ -31,21 +31,20 @@ abbrev pub halt_status : Halt → ℕ
 halt_status Closed = 141
 halt_status halt = 3
 
--- The counts of two runs, up to the greatest.
+-- The counts of two runs, up to the greatest, and whether one of them ended at a fault.
 abbrev pub both : Summary → Summary → Summary
 both first second = record {
   rows = min (first.rows + second.rows) (2 ^ 64 - 1);
   faults = min (first.faults + second.faults) (2 ^ 64 - 1);
+  is_stopped = first.is_stopped || second.is_stopped;
 }
 
--- The status of a run that searched for rows, and of one that searched for faults; whether it stops
--- at faults.
-abbrev pub summary_status : Aim → Bool → Summary → ℕ
-summary_status Rows stops summary =
-    if summary.rows == 0 || stops && not (summary.faults == 0) then 1 else 0
-summary_status Faults stops summary = if summary.faults == 0 then 0 else 1
+-- The status of a run that searched for rows, and of one that searched for faults.
+abbrev pub summary_status : Aim → Summary → ℕ
+summary_status Rows summary = if summary.rows == 0 || summary.is_stopped then 1 else 0
+summary_status Faults summary = if summary.faults == 0 then 0 else 1
 
 -- The status of the program after a run.
-abbrev pub run_status : Aim → Bool → Result Summary Halt → ℕ
-run_status aim stops (Ok summary) = summary_status aim stops summary
-run_status aim stops (Err halt) = halt_status halt
+abbrev pub run_status : Aim → Result Summary Halt → ℕ
+run_status aim (Ok summary) = summary_status aim summary
+run_status aim (Err halt) = halt_status halt

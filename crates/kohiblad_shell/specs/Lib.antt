@@ -1,4 +1,4 @@
-pub mod Lines
+pub mod Inputs
 pub mod Faults
 pub mod Outcomes
 pub mod Runs
@@ -6,7 +6,6 @@ pub mod Halts
 pub mod Keys
 pub mod KeyProofs
 pub mod Sorts
-pub mod Decodes
 pub mod Rows
 pub mod Operations
 pub mod Words

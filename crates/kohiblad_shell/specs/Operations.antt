@@ -5,7 +5,7 @@ use Rattle.std.specs.declared.alloc.Global.{Global}
 use Rattle.std.specs.declared.vec.Vec.{Vec}
 use Rattle.jsonb_value.specs.declared.error.Error.{Error}
 use Rattle.jsonb_value.specs.declared.error.Error.TheVariants.{InvalidJsonb, OutOfMemory}
-use Rattle.jsonb_value.specs.Text.{compact}
+use Rattle.jsonb_value.specs.Text.{compact, pretty}
 use Rattle.jsonb_value.specs.Tree.{Tree, text}
 use Rattle.jsonb_codec.specs.Canon.{canon, Fits}
 use Rattle.jsonb.specs.Document.{document_tree, tree_in}
@@ -19,20 +19,28 @@ use Rattle.jsonb_functions.specs.Picked.{picked}
 use Rattle.jsonb_functions.specs.Selected.{selected, first_tree}
 use Rattle.jsonb_functions.specs.Stripped.{stripped}
 use Rattle.jsonb_functions.specs.declared.choice.Kept.TheVariants.{Named}
+use Rattle.kohiblad_shell.specs.declared.input.Form.{Form}
+use Rattle.kohiblad_shell.specs.declared.input.Form.TheVariants.{Lines, Documents}
+use Rattle.kohiblad_shell.specs.declared.operation.Job.{Job}
 use Rattle.kohiblad_shell.specs.declared.operation.Operation.{Operation}
 use Rattle.kohiblad_shell.specs.declared.operation.Operation.TheVariants.{Check, Canonical, Get}
 use Rattle.kohiblad_shell.specs.declared.operation.Operation.TheVariants.{Select, Filter, Contains}
-use Rattle.kohiblad_shell.specs.declared.operation.Operation.TheVariants.{Encode, Key, Sort}
+use Rattle.kohiblad_shell.specs.declared.operation.Operation.TheVariants.{Encode, Decode, Key}
+use Rattle.kohiblad_shell.specs.declared.operation.Operation.TheVariants.{Sort}
 use Rattle.kohiblad_shell.specs.declared.operation.Operation.TheVariants as operations
 use Rattle.kohiblad_shell.specs.declared.operation.Change.{Change}
 use Rattle.kohiblad_shell.specs.declared.operation.Change.TheVariants.{Set, Remove, Merge, Pick}
 use Rattle.kohiblad_shell.specs.declared.operation.Change.TheVariants.{StripNulls}
+use Rattle.kohiblad_shell.specs.declared.operation.TextLayout.{TextLayout}
+use Rattle.kohiblad_shell.specs.declared.operation.TextLayout.TheVariants.{Compact, Pretty}
 use Rattle.kohiblad_shell.specs.declared.operation.Style.{Style}
 use Rattle.kohiblad_shell.specs.declared.operation.Style.TheVariants.{Json, Raw}
 use Rattle.kohiblad_shell.specs.declared.outcome.Reason.TheVariants.{TooLarge}
+use Rattle.kohiblad_shell.specs.declared.outcome.Unanswered.{Unanswered}
 use Rattle.kohiblad_shell.specs.Outcomes.{Outcome}
 use Rattle.kohiblad_shell.specs.Keys.{row_key}
-use Rattle.kohiblad_shell.specs.Rows.{IsLineFault, IsRow}
+use Rattle.kohiblad_shell.specs.Inputs.{framed}
+use Rattle.kohiblad_shell.specs.Rows.{IsRow, IsRowFault, unanswered_of}
 use Rattle.kohiblad_shell.specs.Sorts.{key_and_line}
 
 -- The text of a string; none of every other value.
@@ -63,27 +71,35 @@ abbrev pub value_lines : Style → List Tree → List ℕ
 value_lines style [] = []
 value_lines style (t ∷ ts) = value_line style t ++ value_lines style ts
 
--- The line with its line feed, if it is kept.
-abbrev pub kept_line : Bool → List ℕ → List ℕ
-kept_line true line = line ++ 10 ∷ []
-kept_line false line = []
+-- The row as it stands, if it is kept.
+abbrev pub kept_row : Form → Bool → List ℕ → List ℕ
+kept_row form true row = framed form row
+kept_row form false row = []
 
--- The lines that an operation writes for a line and its document, if it does not change the value.
-abbrev pub row_lines : Operation → List ℕ → List ℕ → List ℕ
-row_lines Check line bytes = []
-row_lines Canonical line bytes = row_line (tree_in bytes)
-row_lines (Get path style) line bytes =
+-- The text of a value with its line feed.
+abbrev pub document_line : TextLayout → Tree → List ℕ
+document_line Compact t = row_line t
+document_line Pretty t = pretty t ++ 10 ∷ []
+
+-- What an operation writes for a row and its document, if it makes no value.
+abbrev pub row_lines : Operation → Form → List ℕ → List ℕ → List ℕ
+row_lines Check form row bytes = []
+row_lines Canonical form row bytes = []
+row_lines (Get path style) form row bytes =
     value_lines style (option_to_list (first_tree (selected path.now (tree_in bytes))))
-row_lines (Select path style) line bytes = value_lines style (selected path.now (tree_in bytes))
-row_lines (Filter path) line bytes =
-    kept_line (is_some (first_tree (selected path.now (tree_in bytes)))) line
-row_lines (Contains part) line bytes =
-    kept_line (contains_whole (tree_in bytes) (document_tree part)) line
-row_lines (operations.Change change) line bytes = []
-row_lines Encode line bytes = row_bytes bytes
-row_lines (Key paths) line bytes = encode_lower (row_key paths.now (tree_in bytes)) ++ 10 ∷ []
-row_lines (Sort paths) line bytes =
-    key_and_line (row_key paths.now (tree_in bytes)) (line ++ 10 ∷ [])
+row_lines (Select path style) form row bytes =
+    value_lines style (selected path.now (tree_in bytes))
+row_lines (Filter path) form row bytes =
+    kept_row form (is_some (first_tree (selected path.now (tree_in bytes)))) row
+row_lines (Contains part) form row bytes =
+    kept_row form (contains_whole (tree_in bytes) (document_tree part)) row
+row_lines (operations.Change change) form row bytes = []
+row_lines Encode form row bytes = row_bytes bytes
+row_lines (Decode layout) form row bytes = document_line layout (tree_in bytes)
+row_lines (Key paths) form row bytes =
+    encode_lower (row_key paths.now (tree_in bytes)) ++ 10 ∷ []
+row_lines (Sort paths) form row bytes =
+    key_and_line (row_key paths.now (tree_in bytes)) (framed form row)
 
 -- The changed value.
 abbrev pub changed : Change → Tree → Tree
@@ -93,24 +109,36 @@ changed (Merge patch) t = patched t (document_tree patch)
 changed (Pick names) t = picked names.now Named t
 changed StripNulls t = stripped t
 
--- The line of a changed value, as its canonical document prints it, unless it is too large for one.
-abbrev pub IsMade : Tree → Outcome → Type 0
-IsMade u (Ok lines) = Fits u × (lines ≡ display_text (canon u) ++ 10 ∷ [])
-IsMade u (Err fault) = (Fits u → ⊥) × (fault ≡ record { offset = 0; reason = TooLarge })
+-- The row of a document that was made: its text with a line feed, or itself after its length.
+abbrev pub made_row : Form → List ℕ → List ℕ
+made_row Lines bytes = display_text bytes ++ 10 ∷ []
+made_row Documents bytes = row_bytes bytes
 
--- What an operation gives for a row: its line and its document.
-abbrev pub IsRowAnswer : Operation → List ℕ → List ℕ → Outcome → Type 0
-IsRowAnswer (operations.Change change) line bytes outcome =
-    IsMade (changed change (tree_in bytes)) outcome
-IsRowAnswer operation line bytes (Ok lines) = lines ≡ row_lines operation line bytes
-IsRowAnswer operation line bytes (Err fault) = ⊥
+-- The row of a value that was made, by its canonical document, unless it is too large for one.
+abbrev pub IsMade : Form → Tree → Outcome → Type 0
+IsMade form u (Ok lines) = Fits u × (lines ≡ made_row form (canon u))
+IsMade form u (Err fault) = (Fits u → ⊥) × (fault ≡ record { offset = 0; reason = TooLarge })
 
--- What an operation gives for a line: for its value, or its fault.
-abbrev pub row_rule : Operation → List ℕ → Outcome → Type 0
-row_rule operation line (Ok lines) =
-    (bytes : List ℕ) × (IsRow line bytes × IsRowAnswer operation line bytes (Ok lines))
-row_rule operation line (Err fault) = IsLineFault line fault ⊎ ((bytes : List ℕ)
-    × (IsRow line bytes × IsRowAnswer operation line bytes (Err fault)))
+-- The row of a value in canonical form.
+abbrev pub IsCanonicalRow : Form → Tree → Outcome → Type 0
+IsCanonicalRow Documents t outcome = IsMade Documents t outcome
+IsCanonicalRow Lines t (Ok lines) = lines ≡ row_line t
+IsCanonicalRow Lines t (Err fault) = ⊥
+
+-- What an operation gives for a row and its document.
+abbrev pub IsRowAnswer : Operation → Form → List ℕ → List ℕ → Outcome → Type 0
+IsRowAnswer (operations.Change change) form row bytes outcome =
+    IsMade form (changed change (tree_in bytes)) outcome
+IsRowAnswer Canonical form row bytes outcome = IsCanonicalRow form (tree_in bytes) outcome
+IsRowAnswer operation form row bytes (Ok lines) = lines ≡ row_lines operation form row bytes
+IsRowAnswer operation form row bytes (Err fault) = ⊥
+
+-- What a job gives for a row: for its document, or its fault.
+abbrev pub row_rule : Job → List ℕ → Outcome → Type 0
+row_rule job row (Ok lines) = (bytes : List ℕ) × (IsRow job.form row bytes
+    × IsRowAnswer job.operation job.form row bytes (Ok lines))
+row_rule job row (Err fault) = IsRowFault job.form row fault ⊎ ((bytes : List ℕ)
+    × (IsRow job.form row bytes × IsRowAnswer job.operation job.form row bytes (Err fault)))
 
 -- The same of the library's results: `InvalidJsonb` is the fault of a value that is too large.
 abbrev pub IsResultOf : (Outcome → Type 0) → Result (Vec ℕ Global) Error → Type 0
@@ -119,3 +147,8 @@ IsResultOf IsOutcome (Err InvalidJsonb) =
     IsOutcome (Err (record { offset = 0; reason = TooLarge }))
 IsResultOf IsOutcome (Err OutOfMemory) = ⊤
 IsResultOf IsOutcome (Err error) = ⊥
+
+-- The same lines, or the library's error as a reason why there are none.
+abbrev pub IsAnswered : Result (Vec ℕ Global) Error → Result (Vec ℕ Global) Unanswered → Type 0
+IsAnswered (Ok lines) result = result ≡ Ok lines
+IsAnswered (Err error) result = result ≡ Err (unanswered_of error)

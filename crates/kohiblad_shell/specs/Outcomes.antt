@@ -1,17 +1,23 @@
--- What lines give.
-use Rattle.std.specs.Prelude.{ℕ, suc, List, [], ◌∷◌, ◌++◌, Result, Ok, Err, ⊤}
+-- What rows give.
+use Rattle.std.specs.Prelude.{◌≡◌, ◌||◌, ℕ, suc, Bool, false, List, [], ◌∷◌, ◌++◌, Result, Ok}
+use Rattle.std.specs.Prelude.{Err, Option, None, Some, ⊤}
 use Rattle.std.specs.declared.alloc.Global.{Global}
 use Rattle.std.specs.declared.vec.Vec.{Vec}
 use Rattle.kohiblad_shell.specs.declared.outcome.LineFault.{LineFault}
 use Rattle.kohiblad_shell.specs.declared.outcome.Unanswered.{Unanswered}
 use Rattle.kohiblad_shell.specs.declared.outcome.Unanswered.TheVariants.{Wrong, OutOfMemory}
-use Rattle.kohiblad_shell.specs.Faults.{fault_line}
+use Rattle.kohiblad_shell.specs.declared.input.Form.{Form}
+use Rattle.kohiblad_shell.specs.declared.run.Answer.{Answer}
+use Rattle.kohiblad_shell.specs.declared.run.Answer.TheVariants as answer
+use Rattle.kohiblad_shell.specs.declared.run.Plan.{Plan}
+use Rattle.kohiblad_shell.specs.Faults.{cut_after, fault_line, is_cut}
+use Rattle.kohiblad_shell.specs.Inputs.{IsCut, IsNextRow}
 
--- What a line gives: rows, each with its line feed, or a fault.
+-- What a row of an input gives: rows, each with its line feed, or a fault.
 abbrev pub Outcome : Type 0
 Outcome = Result (List ℕ) LineFault
 
--- What a line may give.
+-- What a row of an input may give.
 abbrev pub LineRule : Type 1
 LineRule = List ℕ → Outcome → Type 0
 
@@ -21,12 +27,30 @@ IsAnswer rule line (Ok rows) = rule line (Ok rows.items)
 IsAnswer rule line (Err (Wrong fault)) = rule line (Err fault)
 IsAnswer rule line (Err OutOfMemory) = ⊤
 
--- One outcome of each line, in order.
-pub data Outcomes (rule : LineRule) : List (List ℕ) → List Outcome → Type 0 where
-  none : Outcomes rule [] []
-  more : {line : List ℕ} {outcome : Outcome} {lines : List (List ℕ)} {outcomes : List Outcome}
-      → rule line outcome → Outcomes rule lines outcomes
-      → Outcomes rule (line ∷ lines) (outcome ∷ outcomes)
+-- What the rows at the beginning of the bytes give, in order, up to the rest: by the rule, or the
+-- fault of a row that is cut off, after which nothing is left.
+pub data Answers (rule : LineRule) (form : Form) : List ℕ → List Outcome → List ℕ → Type 0 where
+  none : {bytes : List ℕ} → Answers rule form bytes [] bytes
+  more : {bytes row rest end : List ℕ} {outcome : Outcome} {outcomes : List Outcome}
+      → IsNextRow form bytes row rest → rule row outcome → Answers rule form rest outcomes end
+      → Answers rule form bytes (outcome ∷ outcomes) end
+  cut : {bytes end : List ℕ} {outcomes : List Outcome} (part : List ℕ) → IsCut form bytes part
+      → Answers rule form [] outcomes end
+      → Answers rule form bytes (Err (cut_after part) ∷ outcomes) end
+
+-- What the first row of the bytes gives, if there is one, and what follows it.
+abbrev pub AnswersFirst : LineRule → Form → List ℕ → List ℕ → Answer → Type 0
+AnswersFirst rule form bytes rest (answer.Rows rows) =
+    Answers rule form bytes (Ok rows.items ∷ []) rest
+AnswersFirst rule form bytes rest (answer.Wrong fault) =
+    Answers rule form bytes (Err fault ∷ []) rest
+AnswersFirst rule form bytes rest answer.End = bytes ≡ []
+
+-- The same where the bytes are known.
+abbrev pub AnswersNext : LineRule → Form → Option (List ℕ) → Option (List ℕ) → Answer → Type 0
+AnswersNext rule form None new next = ⊤
+AnswersNext rule form (Some bytes) None next = ⊥
+AnswersNext rule form (Some bytes) (Some rest) next = AnswersFirst rule form bytes rest next
 
 -- The rows, one after another.
 abbrev pub output_of : List Outcome → List ℕ
@@ -34,22 +58,32 @@ output_of [] = []
 output_of (Ok text ∷ outcomes) = text ++ output_of outcomes
 output_of (Err fault ∷ outcomes) = output_of outcomes
 
--- The reports of the faults; so many lines are before these.
+-- The reports of the faults; so many rows are before these.
 abbrev pub reports_of : List ℕ → ℕ → List Outcome → List ℕ
 reports_of name before [] = []
 reports_of name before (Ok text ∷ outcomes) = reports_of name (suc before) outcomes
 reports_of name before (Err fault ∷ outcomes) =
     fault_line name (suc before) fault ++ reports_of name (suc before) outcomes
 
--- How many lines give a row.
+-- How many rows of the input give a row.
 abbrev pub row_count : List Outcome → ℕ
 row_count [] = 0
 row_count (Ok [] ∷ outcomes) = row_count outcomes
 row_count (Ok (b ∷ text) ∷ outcomes) = suc (row_count outcomes)
 row_count (Err fault ∷ outcomes) = row_count outcomes
 
--- How many lines are wrong.
+-- How many rows are wrong.
 abbrev pub fault_count : List Outcome → ℕ
 fault_count [] = 0
 fault_count (Ok text ∷ outcomes) = fault_count outcomes
 fault_count (Err fault ∷ outcomes) = suc (fault_count outcomes)
+
+-- Whether a run ends at an outcome: at a fault, if the plan stops there or the row is cut off.
+abbrev pub stops_at : Plan → Outcome → Bool
+stops_at plan (Ok text) = false
+stops_at plan (Err fault) = plan.stops_at_faults || is_cut fault.reason
+
+-- Whether it ends at one of these.
+abbrev pub stops_in : Plan → List Outcome → Bool
+stops_in plan [] = false
+stops_in plan (outcome ∷ outcomes) = stops_at plan outcome || stops_in plan outcomes

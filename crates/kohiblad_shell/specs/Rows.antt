@@ -1,4 +1,4 @@
--- The document of a line, and why a line has none.
+-- The document of a row, and why a row has none.
 use Rattle.std.specs.Prelude.{◌≡◌, ◌≤◌, ℕ, List, chars, Ok, Err, ⊤, IsUtf8}
 use Rattle.std.specs.Str.{IsValidUpTo}
 use Rattle.jsonb_value.specs.TextDepth.{text_depth}
@@ -9,6 +9,9 @@ use Rattle.jsonb.specs.Parsing.{ParsesWithExponentsWithin}
 use Rattle.json_fault.specs.Fault.{IsFaultAtWithExponents}
 use Rattle.json_fault.specs.declared.fault.FaultReason.{FaultReason}
 use Rattle.json_fault.specs.declared.fault.FaultReason.TheVariants.{Syntax, Number}
+use Rattle.jsonb_codec.specs.Depth.{IsDocumentWithin}
+use Rattle.kohiblad_shell.specs.declared.input.Form.{Form}
+use Rattle.kohiblad_shell.specs.declared.input.Form.TheVariants.{Lines, Documents}
 use Rattle.kohiblad_shell.specs.declared.outcome.LineFault.{LineFault}
 use Rattle.kohiblad_shell.specs.declared.outcome.Reason.{Reason}
 use Rattle.kohiblad_shell.specs.declared.outcome.Reason.TheVariants.{BadUtf8, BadSyntax, BadNumber}
@@ -16,11 +19,12 @@ use Rattle.kohiblad_shell.specs.declared.outcome.Reason.TheVariants.{TooDeep, To
 use Rattle.kohiblad_shell.specs.declared.outcome.Unanswered.{Unanswered}
 use Rattle.kohiblad_shell.specs.declared.outcome.Unanswered.TheVariants.{Wrong, OutOfMemory}
 use Rattle.kohiblad_shell.specs.declared.row.TheConstants.{MAX_ROW_DEPTH}
+use Rattle.kohiblad_shell.specs.Faults.{bad_document}
 
 -- The line is a JSON text that nests at most so deep, with or without exponents, and the bytes are
 -- the canonical document of its value.
-abbrev pub IsRow : List ℕ → List ℕ → Type 0
-IsRow line bytes = IsUtf8 line × ParsesWithExponentsWithin MAX_ROW_DEPTH line (Ok bytes)
+abbrev pub IsParsed : List ℕ → List ℕ → Type 0
+IsParsed line bytes = IsUtf8 line × ParsesWithExponentsWithin MAX_ROW_DEPTH line (Ok bytes)
 
 -- The line is no row, for this reason, and these many of its bytes are before the fault: those that
 -- are UTF-8, those that begin some JSON text, or none.
@@ -35,10 +39,23 @@ IsFaultFor TooDeep line offset = IsUtf8 line
 IsFaultFor TooLarge line offset = IsUtf8 line
     × (ParsesWithExponentsWithin MAX_ROW_DEPTH line (Err (parsing.Refused errors.InvalidJsonb))
     × (offset ≡ 0))
+IsFaultFor reason line offset = ⊥
 
 -- The line is no row, for the reason of the fault.
 abbrev pub IsLineFault : List ℕ → LineFault → Type 0
 IsLineFault line fault = IsFaultFor fault.reason line fault.offset
+
+-- The bytes are the document of a row: that of the text of a line, or the row itself, which nests
+-- at most so deep.
+abbrev pub IsRow : Form → List ℕ → List ℕ → Type 0
+IsRow Lines row bytes = IsParsed row bytes
+IsRow Documents row bytes = (bytes ≡ row) × IsDocumentWithin MAX_ROW_DEPTH row
+
+-- The row has no document, for the reason of the fault.
+abbrev pub IsRowFault : Form → List ℕ → LineFault → Type 0
+IsRowFault Lines row fault = IsLineFault row fault
+IsRowFault Documents row fault =
+    (IsDocumentWithin MAX_ROW_DEPTH row → ⊥) × (fault ≡ bad_document)
 
 -- The line is no row, or there is not enough memory.
 abbrev pub IsRefusedLine : List ℕ → Unanswered → Type 0

@@ -1,44 +1,40 @@
--- What a run over lines reads and writes.
-use Rattle.std.specs.Prelude.{◌≡◌, ℕ, List, [], ◌∷◌, ◌++◌, true, Option}
+-- What a run over the rows of an input reads and writes.
+use Rattle.std.specs.Prelude.{◌≡◌, ℕ, List, [], ◌∷◌, ◌++◌, false, Option}
 use Rattle.std.specs.Io.KnownBytes.{Appends}
-use Rattle.answer_lines.specs.Lines.{AreLines}
 use Rattle.answer_lines.specs.Output.{AppendsPrefix}
 use Rattle.kohiblad_shell.specs.declared.run.Plan.{Plan}
 use Rattle.kohiblad_shell.specs.declared.run.Summary.{Summary}
-use Rattle.kohiblad_shell.specs.Outcomes.{Outcome, LineRule, Outcomes, output_of, reports_of}
-use Rattle.kohiblad_shell.specs.Outcomes.{row_count, fault_count}
+use Rattle.kohiblad_shell.specs.Outcomes.{Answers, Outcome, LineRule, output_of, reports_of}
+use Rattle.kohiblad_shell.specs.Outcomes.{row_count, fault_count, stops_in}
 
--- No line but the last is wrong.
-abbrev pub IsSoundBeforeLast : List Outcome → Type 0
-IsSoundBeforeLast outcomes = (before : List Outcome) (last : Outcome)
-    → outcomes ≡ before ++ last ∷ [] → fault_count before ≡ 0
+-- A run ends at none of the outcomes before the last one.
+abbrev pub GoesOnToLast : Plan → List Outcome → Type 0
+GoesOnToLast plan outcomes = (before : List Outcome) (last : Outcome)
+    → outcomes ≡ before ++ last ∷ [] → stops_in plan before ≡ false
 
--- The lines of the input were answered, in order, up to the last one, or up to the first that is
--- wrong if the plan stops there; their rows and the reports of their faults were appended.
+-- The rows of the input were answered, in order, up to the end, or up to the first fault at which
+-- the run ends; what they gave and the reports of their faults were appended.
 pub record IsRun (rule : LineRule) (plan : Plan) (input : List ℕ)
     (old_output new_output old_errors new_errors : Option (List ℕ)) (summary : Summary) : Type 0
   where
-    pub lines : List (List ℕ)
-    pub later : List (List ℕ)
     pub outcomes : List Outcome
-    pub of_input : AreLines input (lines ++ later)
-    pub answered : Outcomes rule lines outcomes
+    pub rest : List ℕ
+    pub answered : Answers rule plan.form input outcomes rest
     pub output : Appends old_output new_output (output_of outcomes)
     pub errors : Appends old_errors new_errors (reports_of plan.name.now 0 outcomes)
-    pub stops : plan.stops_at_faults ≡ true → IsSoundBeforeLast outcomes
-    pub whole : (plan.stops_at_faults ≡ true → fault_count outcomes ≡ 0) → later ≡ []
+    pub stops : GoesOnToLast plan outcomes
+    pub stopped : summary.is_stopped ≡ stops_in plan outcomes
+    pub whole : summary.is_stopped ≡ false → rest ≡ []
     pub rows : summary.rows ≡ row_count outcomes
     pub faults : summary.faults ≡ fault_count outcomes
 
--- Some lines of the input were answered, in order, none after the first that is wrong if the plan
--- stops there; a prefix of their rows and one of their reports were appended.
+-- Some rows of the input were answered, in order, none after a fault at which the run ends; a
+-- prefix of what they gave and one of their reports were appended.
 pub record BeginsRun (rule : LineRule) (plan : Plan) (input : List ℕ)
     (old_output new_output old_errors new_errors : Option (List ℕ)) : Type 0 where
-  pub lines : List (List ℕ)
-  pub later : List (List ℕ)
   pub outcomes : List Outcome
-  pub of_input : AreLines input (lines ++ later)
-  pub answered : Outcomes rule lines outcomes
+  pub rest : List ℕ
+  pub answered : Answers rule plan.form input outcomes rest
   pub output : AppendsPrefix old_output new_output (output_of outcomes)
   pub errors : AppendsPrefix old_errors new_errors (reports_of plan.name.now 0 outcomes)
-  pub stops : plan.stops_at_faults ≡ true → IsSoundBeforeLast outcomes
+  pub stops : GoesOnToLast plan outcomes

@@ -7,32 +7,33 @@ pub use Rattle.std.specs.Cmp.{on_equiv, on_per, on_po, on_total, partial_equiv_f
 pub use Rattle.std.specs.Cmp.Lexicographic.{nat_list_cmp_total, nat_list_eq_equiv, pointwise}
 pub use Rattle.std.specs.Cmp.Lexicographic.{slice_cmp, texts_po, texts_ties}
 pub use Rattle.std.specs.Ordering.{nat_cmp}
-pub use Rattle.jsonb_column.specs.Storage.{row_bytes}
 pub use Rattle.jsonb_comparable.specs.TreeKey.{tree_key}
 pub use Rattle.kohiblad_shell.specs.Keys.{AppendsKey, path_key, path_keys, row_key}
 pub use Rattle.kohiblad_shell.specs.KeyProofs.{key_laws}
 pub use Rattle.kohiblad_shell.specs.Sorts.{AreSorted, arranged, distinct, has_key, key_and_line}
 pub use Rattle.kohiblad_shell.specs.Sorts.{keyed_bytes, keyed_key, keyed_line, turned}
 pub use Rattle.kohiblad_shell.specs.Halts.{IsWriteHalt, halt_of_write, halt_reason, halt_status}
-pub use Rattle.kohiblad_shell.specs.Decodes.{BeginsDecoding, IsDecoding, document_line}
 pub use Rattle.kohiblad_shell.specs.Halts.{both, run_status, summary_status}
 pub use Rattle.kohiblad_shell.specs.declared.halt.Halt.TheVariants.{Memory}
 pub use Rattle.jsonb_codec.specs.Canon.{canon, Fits}
+pub use Rattle.jsonb_codec.specs.Depth.{IsDocumentWithin}
 pub use Rattle.jsonb_codec.specs.Doc.{IsDocument}
 pub use Rattle.json_fault.specs.Fault.{IsJsonWithExponents}
 pub use Rattle.jsonb.specs.Owned.{owned_bytes}
 pub use Rattle.jsonb_functions.specs.MadeWithMemory.{MadeWithMemory}
-pub use Rattle.kohiblad_shell.specs.Faults.{fault_line, reason_name}
-pub use Rattle.kohiblad_shell.specs.Lines.{ReadsLine}
-pub use Rattle.kohiblad_shell.specs.Outcomes.{IsAnswer, LineRule, row_count}
-pub use Rattle.kohiblad_shell.specs.Rows.{IsNotJson, IsRefusedLine, IsRow, line_reason}
+pub use Rattle.kohiblad_shell.specs.Faults.{bad_document, fault_line, is_cut, reason_name}
+pub use Rattle.kohiblad_shell.specs.Inputs.{AppendsHeld, ReadsLine, ReadsPart, ReadsRow, framed}
+pub use Rattle.kohiblad_shell.specs.Outcomes.{AnswersNext, IsAnswer, LineRule, row_count}
+pub use Rattle.kohiblad_shell.specs.Outcomes.{stops_at}
+pub use Rattle.kohiblad_shell.specs.Rows.{IsNotJson, IsParsed, IsRefusedLine, line_reason}
 pub use Rattle.kohiblad_shell.specs.Rows.{unanswered_of}
 pub use Rattle.kohiblad_shell.specs.Runs.{BeginsRun, IsRun}
-pub use Rattle.kohiblad_shell.specs.declared.outcome.Unanswered.TheVariants.{OutOfMemory}
+pub use Rattle.kohiblad_shell.specs.declared.input.Form.TheVariants.{Documents}
+pub use Rattle.kohiblad_shell.specs.declared.outcome.Unanswered.TheVariants.{OutOfMemory, Wrong}
 pub use Rattle.hex.specs.Hex.{encode_lower}
 pub use Rattle.jsonb.specs.Document.{document_bytes, document_tree}
 pub use Rattle.jsonb.specs.Node.{HoldsNoScalar, node_tree}
-pub use Rattle.kohiblad_shell.specs.Operations.{IsMade, IsResultOf, IsRowAnswer}
-pub use Rattle.kohiblad_shell.specs.Operations.{changed, kept_line}
-pub use Rattle.kohiblad_shell.specs.Operations.{raw_text, row_rule, text_of}
+pub use Rattle.kohiblad_shell.specs.Operations.{IsAnswered, IsCanonicalRow, IsResultOf}
+pub use Rattle.kohiblad_shell.specs.Operations.{IsRowAnswer, changed, document_line, kept_row}
+pub use Rattle.kohiblad_shell.specs.Operations.{made_row, raw_text, row_rule, text_of}
 pub use Rattle.kohiblad_shell.specs.Operations.{value_line, value_lines}

@@ -1,7 +1,7 @@
 //! The commands of the program, and their arguments.
 
-use crate::decode::TextLayout;
-use crate::operation::Style;
+use crate::input::Form;
+use crate::operation::{Style, TextLayout};
 use crate::sort::Arrangement;
 use clap::{Arg, ArgAction, ArgMatches, Command};
 use std::alloc::{AllocError, Global};
@@ -23,6 +23,7 @@ enum CommandOption {
     By,
     Reverse,
     Unique,
+    Documents,
 }
 
 /// The operand of a command.
@@ -62,84 +63,84 @@ const COMMANDS: [CommandRow; 16] = [
         about: "Report the lines that are not JSON",
         operand: None,
         value: None,
-        options: &[],
+        options: &[CommandOption::Documents],
     },
     CommandRow {
         name: "canonical",
         about: "Write each value as compact JSON, with its keys in order",
         operand: None,
         value: None,
-        options: &[],
+        options: &[CommandOption::Documents],
     },
     CommandRow {
         name: "get",
         about: "Write the first value to which a path leads, of each line",
         operand: Some(PATH),
         value: None,
-        options: &[CommandOption::Raw],
+        options: &[CommandOption::Documents, CommandOption::Raw],
     },
     CommandRow {
         name: "select",
         about: "Write all values to which a path leads, of each line",
         operand: Some(PATH),
         value: None,
-        options: &[CommandOption::Raw],
+        options: &[CommandOption::Documents, CommandOption::Raw],
     },
     CommandRow {
         name: "filter",
         about: "Write the lines in which a path leads to some value",
         operand: Some(CONDITION),
         value: None,
-        options: &[],
+        options: &[CommandOption::Documents],
     },
     CommandRow {
         name: "count",
         about: "Count the lines in which a path leads to some value",
         operand: Some(CONDITION),
         value: None,
-        options: &[],
+        options: &[CommandOption::Documents],
     },
     CommandRow {
         name: "contains",
         about: "Write the lines whose value contains another",
         operand: Some(VALUE),
         value: None,
-        options: &[],
+        options: &[CommandOption::Documents],
     },
     CommandRow {
         name: "set",
         about: "Put a value at the end of a path, of each line",
         operand: Some(STEPS),
         value: Some(VALUE),
-        options: &[],
+        options: &[CommandOption::Documents],
     },
     CommandRow {
         name: "remove",
         about: "Remove what is at the end of a path, of each line",
         operand: Some(STEPS),
         value: None,
-        options: &[],
+        options: &[CommandOption::Documents],
     },
     CommandRow {
         name: "merge",
         about: "Apply a JSON Merge Patch to each line",
         operand: Some(VALUE),
         value: None,
-        options: &[],
+        options: &[CommandOption::Documents],
     },
     CommandRow {
         name: "pick",
         about: "Keep the members of these names, of each line",
         operand: Some(NAMES),
         value: None,
-        options: &[],
+        options: &[CommandOption::Documents],
     },
     CommandRow {
         name: "strip-nulls",
         about: "Remove members that are null, of each line",
         operand: None,
         value: None,
-        options: &[],
+        options: &[CommandOption::Documents],
     },
     CommandRow {
         name: "sort",
@@ -147,6 +148,7 @@ const COMMANDS: [CommandRow; 16] = [
         operand: None,
         value: None,
         options: &[
+            CommandOption::Documents,
             CommandOption::By,
             CommandOption::Reverse,
             CommandOption::Unique,
@@ -157,7 +159,7 @@ const COMMANDS: [CommandRow; 16] = [
         about: "Write the comparable key of each line in hexadecimal",
         operand: None,
         value: None,
-        options: &[CommandOption::By],
+        options: &[CommandOption::Documents, CommandOption::By],
     },
     CommandRow {
         name: "encode",
@@ -240,6 +242,10 @@ fn option_of<'a>(alloc: Global, option: CommandOption) -> Arg<'a> {
             .long("unique")
             .help("Write only the first of several lines that are equal")
             .action(ArgAction::SetTrue),
+        CommandOption::Documents => Arg::new(alloc, "documents")
+            .long("documents")
+            .help("Read documents as a column stores them, and write rows as such")
+            .action(ArgAction::SetTrue),
     }
 }
 
@@ -256,7 +262,7 @@ fn on_error<'a>(alloc: Global) -> Arg<'a> {
 fn files<'a>(alloc: Global) -> Arg<'a> {
     Arg::new(alloc, "file")
         .value_name("FILE")
-        .help("Files of JSON lines; standard input if none is named")
+        .help("Files to read; standard input if none is named")
         .action(ArgAction::Append)
         .num_args(0..)
 }
@@ -292,6 +298,15 @@ pub fn layout_in(arguments: &ArgMatches<'_>) -> TextLayout {
         TextLayout::Pretty
     } else {
         TextLayout::Compact
+    }
+}
+
+/// In which form rows are read and written.
+pub fn form_in(arguments: &ArgMatches<'_>) -> Form {
+    if arguments.get_flag("documents") {
+        Form::Documents
+    } else {
+        Form::Lines
     }
 }
 

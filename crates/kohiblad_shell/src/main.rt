@@ -1,14 +1,13 @@
-//! A program for people at the shell: files of JSON lines, row by row.
+//! A program for people at the shell: files of JSON lines, or of documents, row by row.
 #![tactic(auto)]
 
 ghost use Rattle.std.specs.Prelude.{◌≡◌, IfOk};
 ghost use Rattle.kohiblad_shell.specs.Words.{IsDocument, halt_status, owned_bytes, run_status};
 
 mod arguments;
-mod decode;
 mod halt;
+mod input;
 mod key;
-mod line;
 mod operation;
 mod outcome;
 mod row;
@@ -17,13 +16,15 @@ mod sort;
 mod status;
 mod write;
 
-use arguments::{arrangement_in, commands, layout_in, operand_in, stops_in, style_in, value_in};
+use arguments::{
+    arrangement_in, commands, form_in, layout_in, operand_in, stops_in, style_in, value_in,
+};
 use clap::ArgMatches;
-use decode::{Decoded, Ending, decode};
 use halt::{Halt, halt_of_write};
+use input::Form;
 use jsonb::{Document, OwnedJsonb};
 use jsonb_functions::{Selector, read_path_text, steps_of_path};
-use operation::{Change, Operation};
+use operation::{Change, Job, Operation};
 use outcome::Unanswered;
 use row::parse_line;
 use run::{Plan, Summary};
@@ -97,7 +98,7 @@ fn run_command(rt: &HostRuntime, name: &str, arguments: &ArgMatches<'_>) -> u8 {
     } else if name == "encode" {
         write_rows(rt, Operation::Encode, arguments)
     } else if name == "decode" {
-        write_texts(rt, arguments)
+        decode(rt, arguments)
     } else if name == "sort" || name == "keys" {
         with_paths(rt, name, arguments)
     } else {
@@ -172,12 +173,12 @@ fn with_paths(rt: &HostRuntime, name: &str, arguments: &ArgMatches<'_>) -> u8 {
 // Sorts the lines by these paths, in memory.
 fn write_in_order(rt: &HostRuntime, paths: &[Vec<Selector<'_>>], arguments: &ArgMatches<'_>) -> u8 {
     let stops = stops_in(arguments, true);
+    let job = job_of(Operation::Sort(paths), arguments);
     let mut kept = Vec::new(rt.alloc());
-    let outcome = run_files(rt, Operation::Sort(paths), arguments, stops, &mut kept);
-    match outcome {
-        Ok(summary) if stops && summary.faults > 0 => NOT_FOUND,
+    match run_files(rt, job, arguments, stops, &mut kept) {
+        Ok(summary) if summary.is_stopped => NOT_FOUND,
         Ok(summary) => match write_sorted(rt, &kept, arrangement_in(arguments)) {
-            Ok(()) => run_status(Aim::Rows, stops, Ok(summary)),
+            Ok(()) => run_status(Aim::Rows, Ok(summary)),
             Err(halt) => failure(rt, halt),
         },
         Err(halt) => failure(rt, halt),
@@ -194,59 +195,21 @@ fn write_sorted(rt: &HostRuntime, kept: &[u8], arrangement: Arrangement) -> Resu
     sort::write_rows(&mut writer, &rows)
 }
 
-// Writes the texts of the documents of each file, which is read whole.
-fn write_texts(rt: &HostRuntime, arguments: &ArgMatches<'_>) -> u8 {
-    let outcome = decode_files(rt, arguments);
-    ended(rt, Aim::Rows, true, outcome)
-}
-
-// Writes the texts of the documents of each file, or of standard input if none is named.
-fn decode_files(rt: &HostRuntime, arguments: &ArgMatches<'_>) -> Result<Summary, Halt> {
-    let alloc = rt.alloc();
-    let layout = layout_in(arguments);
-    let Ok(mut writer) = BufWriter::with_capacity(alloc, BUFFER_LEN, io::writer(rt)) else {
-        return Err(Halt::Memory);
-    };
-    let mut total = Summary { rows: 0, faults: 0 };
-    let Some(names) = arguments.get_strs("file") else {
-        let bytes = read_whole(rt, &mut rt.reader())?;
-        return Ok(report_end(rt, "-", decode(alloc, &bytes, layout, &mut writer)?));
-    };
-    for name in names {
-        let Ok(mut file) = File::open(rt, *name) else {
-            let _ = eprintln!(rt; "kohiblad: cannot open {name}");
-            return Err(Halt::Read);
-        };
-        let bytes = read_whole(rt, &mut file)?;
-        let summary = report_end(rt, name, decode(alloc, &bytes, layout, &mut writer)?);
-        total = total.with(summary);
-        if summary.faults > 0 {
-            break;
-        }
-    }
-    Ok(total)
-}
-
-// All bytes of a reader.
-fn read_whole<R: Read>(rt: &HostRuntime, reader: &mut R) -> Result<Vec<u8>, Halt> {
-    let mut bytes = Vec::new(rt.alloc());
-    match reader.read_to_end(&mut bytes) {
-        Ok(_) => Ok(bytes),
-        Err(_) => Err(Halt::Read),
+// What an operation does in the form that the arguments name.
+fn job_of<'a>(operation: Operation<'a>, arguments: &ArgMatches<'_>) -> Job<'a> {
+    Job {
+        operation,
+        form: form_in(arguments),
     }
 }
 
-// Reports the row after the last one that was read, if there is one.
-fn report_end(rt: &HostRuntime, name: &str, decoded: Decoded) -> Summary {
-    let rows = decoded.rows;
-    let reason = match decoded.ending {
-        Ending::Whole => return Summary { rows, faults: 0 },
-        Ending::Cut => "InvalidEOF",
-        Ending::BadRow => "InvalidJsonb",
+// Writes the texts of documents.
+fn decode(rt: &HostRuntime, arguments: &ArgMatches<'_>) -> u8 {
+    let job = Job {
+        operation: Operation::Decode(layout_in(arguments)),
+        form: Form::Documents,
     };
-    let number = u128::from(rows) + 1;
-    let _ = eprintln!(rt; "{name}:{number}: {reason}");
-    Summary { rows, faults: 1 }
+    write_job(rt, job, arguments)
 }
 
 // Runs a command whose operand is a path.
@@ -297,34 +260,35 @@ fn with_steps(
 // Reports all lines that are wrong.
 fn check(rt: &HostRuntime, arguments: &ArgMatches<'_>) -> u8 {
     let stops = stops_in(arguments, false);
-    let outcome = run_files(rt, Operation::Check, arguments, stops, &mut io::sink());
-    ended(rt, Aim::Faults, stops, outcome)
+    let job = job_of(Operation::Check, arguments);
+    let outcome = run_files(rt, job, arguments, stops, &mut io::sink());
+    ended(rt, Aim::Faults, outcome)
 }
 
 // Writes the rows of an operation.
 fn write_rows(rt: &HostRuntime, operation: Operation<'_>, arguments: &ArgMatches<'_>) -> u8 {
+    write_job(rt, job_of(operation, arguments), arguments)
+}
+
+// Writes the rows of a job.
+fn write_job(rt: &HostRuntime, job: Job<'_>, arguments: &ArgMatches<'_>) -> u8 {
     let stops = stops_in(arguments, true);
     let Ok(mut writer) = BufWriter::with_capacity(rt.alloc(), BUFFER_LEN, io::writer(rt)) else {
         return failure(rt, Halt::Memory);
     };
-    let outcome = run_files(rt, operation, arguments, stops, &mut writer);
-    ended(rt, Aim::Rows, stops, outcome)
+    let outcome = run_files(rt, job, arguments, stops, &mut writer);
+    ended(rt, Aim::Rows, outcome)
 }
 
-// Counts the lines in which a path leads to some value. After a wrong line at which the run stops
-// no number is written.
+// Counts the rows in which a path leads to some value. After a wrong row at which the run stops no
+// number is written.
 fn count(rt: &HostRuntime, path: &[Selector<'_>], arguments: &ArgMatches<'_>) -> u8 {
     let stops = stops_in(arguments, true);
-    match run_files(
-        rt,
-        Operation::Filter(path),
-        arguments,
-        stops,
-        &mut io::sink(),
-    ) {
-        Ok(summary) if stops && summary.faults > 0 => NOT_FOUND,
+    let job = job_of(Operation::Filter(path), arguments);
+    match run_files(rt, job, arguments, stops, &mut io::sink()) {
+        Ok(summary) if summary.is_stopped => NOT_FOUND,
         Ok(summary) => match println!(rt; "{}", summary.rows) {
-            Ok(()) => run_status(Aim::Rows, stops, Ok(summary)),
+            Ok(()) => run_status(Aim::Rows, Ok(summary)),
             Err(error) => failure(rt, halt_of_write(&error)),
         },
         Err(halt) => failure(rt, halt),
@@ -332,64 +296,64 @@ fn count(rt: &HostRuntime, path: &[Selector<'_>], arguments: &ArgMatches<'_>) ->
 }
 
 // The status after a run, whose early end is reported.
-fn ended(rt: &HostRuntime, aim: Aim, stops: bool, outcome: Result<Summary, Halt>) -> u8
-    ensures { result ≡ run_status aim stops outcome }
+fn ended(rt: &HostRuntime, aim: Aim, outcome: Result<Summary, Halt>) -> u8
+    ensures { result ≡ run_status aim outcome }
 {
     if let Err(halt) = outcome {
         let _ = failure(rt, halt);
     }
-    run_status(aim, stops, outcome)
+    run_status(aim, outcome)
 }
 
-// Runs an operation on the lines of each file, or of standard input if none is named.
+// Runs a job on the rows of each file, or of standard input if none is named, up to a fault at
+// which the run ends. A search for faults goes on with the next file after a row that is cut off.
 fn run_files<W: Write>(
     rt: &HostRuntime,
-    operation: Operation<'_>,
+    job: Job<'_>,
     arguments: &ArgMatches<'_>,
-    stops: bool,
+    stops_at_faults: bool,
     writer: &mut W,
 ) -> Result<Summary, Halt> {
-    let mut total = Summary { rows: 0, faults: 0 };
+    let mut total = Summary {
+        rows: 0,
+        faults: 0,
+        is_stopped: false,
+    };
+    let mut plan = Plan {
+        name: "-",
+        form: job.form,
+        stops_at_faults,
+    };
+    let goes_on = !stops_at_faults && matches!(job.operation, Operation::Check);
     let Some(names) = arguments.get_strs("file") else {
-        return run_reader(rt, operation, "-", stops, rt.reader(), writer);
+        return run_reader(rt, job, plan, rt.reader(), writer);
     };
     for name in names {
         let Ok(file) = File::open(rt, *name) else {
             let _ = eprintln!(rt; "kohiblad: cannot open {name}");
             return Err(Halt::Read);
         };
-        let summary = run_reader(rt, operation, name, stops, file, writer)?;
-        total = total.with(summary);
-        if stops && summary.faults > 0 {
+        plan.name = name;
+        total = total.with(run_reader(rt, job, plan, file, writer)?);
+        if total.is_stopped && !goes_on {
             break;
         }
     }
     Ok(total)
 }
 
-// Runs an operation on the lines of a reader.
+// Runs a job on the rows of a reader.
 fn run_reader<R: Read + Drop, W: Write>(
     rt: &HostRuntime,
-    operation: Operation<'_>,
-    name: &str,
-    stops_at_faults: bool,
+    job: Job<'_>,
+    plan: Plan<'_>,
     reader: R,
     writer: &mut W,
 ) -> Result<Summary, Halt> {
     let alloc = rt.alloc();
-    let plan = Plan {
-        name,
-        stops_at_faults,
-    };
     let Ok(mut reader) = BufReader::with_capacity(alloc, BUFFER_LEN, reader) else {
         return Err(Halt::Memory);
     };
-    run::run(
-        alloc,
-        &operation,
-        &plan,
-        &mut reader,
-        writer,
-        &mut rt.stderr(),
-    )
+    let mut errors = rt.stderr();
+    run::run(alloc, &job, &plan, &mut reader, writer, &mut errors)
 }

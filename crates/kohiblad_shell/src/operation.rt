@@ -2,17 +2,18 @@
 
 ghost use Rattle.std.specs.Prelude.{◌≡◌, ◌++◌, ◌∷◌, [], IfOk, IfErr, map, string_bytes};
 ghost use Rattle.std.specs.Prelude.{option_map, option_to_list};
-ghost use Rattle.kohiblad_shell.specs.Words.{Fits, HoldsNoScalar, IsMade, IsResultOf, IsRowAnswer};
-ghost use Rattle.kohiblad_shell.specs.Words.{MadeWithMemory, raw_text};
-ghost use Rattle.kohiblad_shell.specs.Words.{canon, changed, document_bytes, document_tree};
-ghost use Rattle.kohiblad_shell.specs.Words.{kept_line, node_tree};
-ghost use Rattle.kohiblad_shell.specs.Words.{encode_lower, key_and_line, owned_bytes, row_bytes};
-ghost use Rattle.kohiblad_shell.specs.Words.{row_key};
-ghost use Rattle.kohiblad_shell.specs.Words.{row_rule, text_of, value_line, value_lines};
+ghost use Rattle.kohiblad_shell.specs.Words.{Fits, HoldsNoScalar, IsAnswered, IsCanonicalRow};
+ghost use Rattle.kohiblad_shell.specs.Words.{IsResultOf, IsRowAnswer, MadeWithMemory, canon};
+ghost use Rattle.kohiblad_shell.specs.Words.{changed, document_bytes, document_line};
+ghost use Rattle.kohiblad_shell.specs.Words.{document_tree, encode_lower, framed, kept_row};
+ghost use Rattle.kohiblad_shell.specs.Words.{key_and_line, made_row, node_tree, owned_bytes};
+ghost use Rattle.kohiblad_shell.specs.Words.{raw_text, row_key, row_rule, text_of, value_line};
+ghost use Rattle.kohiblad_shell.specs.Words.{value_lines};
 
+use crate::input::Form;
 use crate::key::row_key;
 use crate::outcome::{LineWorker, Unanswered};
-use crate::row::parse_line;
+use crate::row::{check_document, parse_line};
 use jsonb::{Document, Error, Node, OwnedJsonb};
 use jsonb_column::append_row;
 use jsonb_functions::{
@@ -30,28 +31,46 @@ pub enum Style {
     Raw,
 }
 
+/// How the text of a document is laid out.
+#[derive(Clone, Copy, Debug, PartialEq, Eq)]
+pub enum TextLayout {
+    /// On one line, without white space.
+    Compact,
+    /// Each item or member on a line of its own.
+    Pretty,
+}
+
+/// What a command does with each row, and in which form it reads rows and writes them.
+#[derive(Clone, Copy)]
+pub struct Job<'a> {
+    pub operation: Operation<'a>,
+    pub form: Form,
+}
+
 /// What a command does with each row.
 #[derive(Clone, Copy)]
 pub enum Operation<'a> {
-    /// Writes nothing: only lines that are wrong are reported.
+    /// Writes nothing: only rows that are wrong are reported.
     Check,
-    /// Writes the value of the row as a compact text.
+    /// Writes the value of the row as a compact text, or as its canonical document.
     Canonical,
     /// Writes the first value to which a path leads.
     Get(&'a [Selector<'a>], Style),
     /// Writes all values to which a path leads.
     Select(&'a [Selector<'a>], Style),
-    /// Writes the line if a path leads to some value.
+    /// Writes the row if a path leads to some value.
     Filter(&'a [Selector<'a>]),
-    /// Writes the line if its value contains another.
+    /// Writes the row if its value contains another.
     Contains(Document<'a>),
-    /// Writes the changed value as a compact text.
+    /// Writes the changed value as a compact text, or as its canonical document.
     Change(Change<'a>),
     /// Writes the document of the row, after its length, as a column stores it.
     Encode,
+    /// Writes the text of the document.
+    Decode(TextLayout),
     /// Writes the key of the row by these paths in hexadecimal.
     Key(&'a [Vec<Selector<'a>>]),
-    /// Keeps the key of the row by these paths and the line, each after its length.
+    /// Keeps the key of the row by these paths and the row as it stands, each after its length.
     Sort(&'a [Vec<Selector<'a>>]),
 }
 
@@ -70,50 +89,97 @@ pub enum Change<'a> {
     StripNulls,
 }
 
-impl LineWorker for Operation<'_> {
+impl LineWorker for Job<'_> {
     ghost rule = { row_rule };
 
-    fn answer(&self, alloc: Global, line: &[u8]) -> Result<Vec<u8>, Unanswered> {
-        let row = parse_line(alloc, line)?;
-        let document = Document::new_unchecked(row.as_bytes());
-        match row_lines(alloc, *self, line, document) {
-            Ok(lines) => Ok(lines),
-            Err(error) => Err(Unanswered::from(error)),
+    fn answer(&self, alloc: Global, row: &[u8]) -> Result<Vec<u8>, Unanswered> {
+        match self.form {
+            Form::Lines => {
+                let owned = parse_line(alloc, row)?;
+                let document = Document::new_unchecked(owned.as_bytes());
+                answered(row_lines(alloc, *self, row, document))
+            }
+            Form::Documents => {
+                let document = check_document(row)?;
+                answered(row_lines(alloc, *self, row, document))
+            }
         }
     }
 }
 
-// The lines that an operation writes for a line and its document. `InvalidJsonb` if the changed
-// value is too large.
-fn row_lines(
-    alloc: Global,
-    operation: Operation<'_>,
-    line: &[u8],
-    document: Document<'_>,
-) -> Result<Vec<u8>, Error>
-    ensures { IsResultOf
-        (IsRowAnswer operation.entry line.now (document_bytes document.entry)) result }
+// The lines, or why there are none.
+fn answered(lines: Result<Vec<u8>, Error>) -> Result<Vec<u8>, Unanswered>
+    ensures { IsAnswered lines result }
 {
-    match operation {
-        Operation::Check => Ok(Vec::new(alloc)),
-        Operation::Canonical => text_line(document.to_string(alloc)?),
-        Operation::Get(path, style) => first_line(alloc, select_first(document, path), style),
-        Operation::Select(path, style) => all_lines(alloc, &select(alloc, document, path)?, style),
-        Operation::Filter(path) => kept_line(alloc, line, exists_path(document, path)),
-        Operation::Contains(part) => kept_line(alloc, line, contains(alloc, document, part)?),
-        Operation::Change(change) => changed_line(alloc, change, document),
-        Operation::Encode => stored_row(alloc, document.as_bytes()),
-        Operation::Key(paths) => key_line(alloc, document, paths),
-        Operation::Sort(paths) => keyed_line(alloc, document, paths, line),
+    match lines {
+        Ok(lines) => Ok(lines),
+        Err(error) => Err(Unanswered::from(error)),
     }
 }
 
-// The line of the changed value.
-fn changed_line(alloc: Global, change: Change<'_>, document: Document<'_>) -> Result<Vec<u8>, Error>
-    ensures { IsResultOf (IsMade (changed change.entry (document_tree document.entry))) result }
+// The lines that a job writes for a row and its document. `InvalidJsonb` if the changed value is
+// too large.
+fn row_lines(
+    alloc: Global,
+    job: Job<'_>,
+    row: &[u8],
+    document: Document<'_>,
+) -> Result<Vec<u8>, Error>
+    ensures { IsResultOf (IsRowAnswer job.entry.operation job.entry.form row.now
+        (document_bytes document.entry)) result }
 {
-    let made = changed(alloc, change, document)?;
-    text_line(made.as_raw().to_string(alloc)?)
+    let form = job.form;
+    match job.operation {
+        Operation::Check => Ok(Vec::new(alloc)),
+        Operation::Canonical => canonical_row(alloc, form, document),
+        Operation::Get(path, style) => first_line(alloc, select_first(document, path), style),
+        Operation::Select(path, style) => all_lines(alloc, &select(alloc, document, path)?, style),
+        Operation::Filter(path) => kept_row(alloc, form, row, exists_path(document, path)),
+        Operation::Contains(part) => kept_row(alloc, form, row, contains(alloc, document, part)?),
+        Operation::Change(change) => made_row(alloc, form, changed(alloc, change, document)?),
+        Operation::Encode => framed_row(alloc, Form::Documents, document.as_bytes()),
+        Operation::Decode(layout) => document_line(alloc, document, layout),
+        Operation::Key(paths) => key_line(alloc, document, paths),
+        Operation::Sort(paths) => keyed_row(alloc, form, document, paths, row),
+    }
+}
+
+// The row of the value as canonical JSON, or as its canonical document.
+fn canonical_row(alloc: Global, form: Form, document: Document<'_>) -> Result<Vec<u8>, Error>
+    ensures { IsResultOf
+        (IsCanonicalRow form (document_tree document.entry)) result }
+{
+    match form {
+        Form::Lines => text_line(document.to_string(alloc)?),
+        Form::Documents => made_row(alloc, form, document.to_canonical(alloc)?),
+    }
+}
+
+// The row of a value that was made.
+fn made_row(alloc: Global, form: Form, made: OwnedJsonb) -> Result<Vec<u8>, Error>
+    ensures ok { IfOk result (λ row. row.items ≡ made_row form (owned_bytes made)) }
+    ensures memory { IfErr result (λ e. e ≡ Error.OutOfMemory) }
+{
+    match form {
+        Form::Lines => text_line(made.as_raw().to_string(alloc)?),
+        Form::Documents => framed_row(alloc, form, made.as_bytes()),
+    }
+}
+
+// The text of a document with its line feed.
+fn document_line(
+    alloc: Global,
+    document: Document<'_>,
+    layout: TextLayout,
+) -> Result<Vec<u8>, Error>
+    ensures ok { IfOk result
+        (λ line. line.items ≡ document_line layout (document_tree document.entry)) }
+    ensures memory { IfErr result (λ e. e ≡ Error.OutOfMemory) }
+{
+    match layout {
+        TextLayout::Compact => text_line(document.to_string(alloc)?),
+        TextLayout::Pretty => text_line(document.to_pretty_string(alloc)?),
+    }
 }
 
 // The canonical document of the changed value.
@@ -132,14 +198,20 @@ fn changed(alloc: Global, change: Change<'_>, document: Document<'_>) -> Result<
     }
 }
 
-// The bytes after their length.
-fn stored_row(alloc: Global, bytes: &[u8]) -> Result<Vec<u8>, Error>
-    ensures ok { IfOk result (λ row. row.items ≡ row_bytes bytes.now) }
+// A row as it stands among others.
+fn framed_row(alloc: Global, form: Form, row: &[u8]) -> Result<Vec<u8>, Error>
+    ensures ok { IfOk result (λ bytes. bytes.items ≡ framed form row.now) }
     ensures memory { IfErr result (λ e. e ≡ Error.OutOfMemory) }
 {
-    let mut row = Vec::new(alloc);
-    append_row(&mut row, bytes)?;
-    Ok(row)
+    let mut bytes = Vec::new(alloc);
+    match form {
+        Form::Lines => {
+            bytes.extend_from_slice(row)?;
+            bytes.push(b'\n')?;
+        }
+        Form::Documents => append_row(&mut bytes, row)?,
+    }
+    Ok(bytes)
 }
 
 // The key of a row by these paths in hexadecimal, with a line feed.
@@ -156,23 +228,24 @@ fn key_line(
     text_line(hex::encode(alloc, key.as_slice())?)
 }
 
-// The key of a row by these paths and its line, each after its length.
-fn keyed_line(
+// The key of a row by these paths and the row as it stands, each after its length.
+fn keyed_row(
     alloc: Global,
+    form: Form,
     document: Document<'_>,
     paths: &[Vec<Selector<'_>>],
-    line: &[u8],
+    row: &[u8],
 ) -> Result<Vec<u8>, Error>
-    ensures ok { IfOk result (λ row. row.items ≡ key_and_line
-        (row_key paths.now (document_tree document.entry)) (line.now ++ 10 ∷ [])) }
+    ensures ok { IfOk result (λ keyed. keyed.items ≡ key_and_line
+        (row_key paths.now (document_tree document.entry)) (framed form row.now)) }
     ensures memory { IfErr result (λ e. e ≡ Error.OutOfMemory) }
 {
     let key = row_key(alloc, document, paths)?;
-    let kept = kept_line(alloc, line, true)?;
-    let mut row = Vec::new(alloc);
-    append_row(&mut row, &key)?;
-    append_row(&mut row, &kept)?;
-    Ok(row)
+    let framed = framed_row(alloc, form, row)?;
+    let mut keyed = Vec::new(alloc);
+    append_row(&mut keyed, &key)?;
+    append_row(&mut keyed, &framed)?;
+    Ok(keyed)
 }
 
 // A text with its line feed.
@@ -185,17 +258,16 @@ fn text_line(text: String) -> Result<Vec<u8>, Error>
     Ok(line)
 }
 
-// The line with its line feed, if it is kept.
-fn kept_line(alloc: Global, line: &[u8], is_kept: bool) -> Result<Vec<u8>, Error>
-    ensures ok { IfOk result (λ lines. lines.items ≡ kept_line is_kept line.now) }
+// The row as it stands, if it is kept.
+fn kept_row(alloc: Global, form: Form, row: &[u8], is_kept: bool) -> Result<Vec<u8>, Error>
+    ensures ok { IfOk result (λ kept. kept.items ≡ kept_row form is_kept row.now) }
     ensures memory { IfErr result (λ e. e ≡ Error.OutOfMemory) }
 {
-    let mut lines = Vec::new(alloc);
     if is_kept {
-        lines.extend_from_slice(line)?;
-        lines.push(b'\n')?;
+        framed_row(alloc, form, row)
+    } else {
+        Ok(Vec::new(alloc))
     }
-    Ok(lines)
 }
 
 // The line of the value, if there is one.

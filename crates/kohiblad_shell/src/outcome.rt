@@ -1,8 +1,8 @@
-//! What a line gives: rows, or a fault.
+//! What an input's row gives: rows, or a fault.
 
 ghost use Rattle.std.specs.Prelude.{◌≡◌, IfOk, IfErr, string_bytes};
 ghost use Rattle.kohiblad_shell.specs.Words.{IsAnswer, LineRule, OutOfMemory, fault_line};
-ghost use Rattle.kohiblad_shell.specs.Words.{reason_name};
+ghost use Rattle.kohiblad_shell.specs.Words.{is_cut, reason_name};
 
 use crate::halt::Halt;
 use std::alloc::{AllocError, Global};
@@ -20,6 +20,10 @@ pub enum Reason {
     TooDeep,
     /// Its value, or the row that is made of it, is too large for a document.
     TooLarge,
+    /// It is no document, or one that nests too deep.
+    BadDocument,
+    /// The input ends within it.
+    Cut,
 }
 
 impl Reason {
@@ -33,7 +37,16 @@ impl Reason {
             Reason::BadNumber => "BadNumber",
             Reason::TooDeep => "TooDeep",
             Reason::TooLarge => "TooLarge",
+            Reason::BadDocument => "InvalidJsonb",
+            Reason::Cut => "InvalidEOF",
         }
+    }
+
+    /// Whether rows after it may be lost.
+    pub fn is_cut(self) -> bool
+        ensures { result ≡ is_cut self }
+    {
+        self == Reason::Cut
     }
 }
 

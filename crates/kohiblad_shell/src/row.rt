@@ -1,12 +1,15 @@
-//! The document of a line, or why the line is wrong.
+//! The document of a row, or why the row is wrong.
 
-ghost use Rattle.std.specs.Prelude.{◌≡◌, IfOk, IfErr, IsUtf8, chars};
-ghost use Rattle.kohiblad_shell.specs.Words.{IsDocument, IsJsonWithExponents, IsRow, IsRefusedLine};
-ghost use Rattle.kohiblad_shell.specs.Words.{IsNotJson, line_reason, owned_bytes, unanswered_of};
+ghost use Rattle.std.specs.Prelude.{◌≡◌, ◌↔◌, IfOk, IfErr, IsOk, chars};
+ghost use Rattle.kohiblad_shell.specs.Words.{IsDocument, IsJsonWithExponents, IsRefusedLine};
+ghost use Rattle.kohiblad_shell.specs.Words.{IsParsed};
+ghost use Rattle.kohiblad_shell.specs.Words.{IsDocumentWithin, IsNotJson, Wrong, bad_document};
+ghost use Rattle.kohiblad_shell.specs.Words.{document_bytes, line_reason, owned_bytes};
+ghost use Rattle.kohiblad_shell.specs.Words.{unanswered_of};
 
 use crate::outcome::{LineFault, Reason, Unanswered};
 use json_fault::{FaultReason, text_fault_with_exponents};
-use jsonb::{Error, OwnedJsonb, ParseError};
+use jsonb::{Document, Error, OwnedJsonb, ParseError};
 use simdutf8::compat;
 use std::alloc::Global;
 
@@ -33,7 +36,7 @@ fn wrong(offset: usize, reason: Reason) -> Unanswered
 
 /// The canonical document of the JSON text of a line, whose numbers may have exponents.
 pub fn parse_line(alloc: Global, line: &[u8]) -> Result<OwnedJsonb, Unanswered>
-    ensures row { IfOk result (λ row. IsRow line.now (owned_bytes row)) }
+    ensures row { IfOk result (λ row. IsParsed line.now (owned_bytes row)) }
     ensures document { IfOk result (λ row. IsDocument (owned_bytes row)) }
     ensures refused { IfErr result (IsRefusedLine line.now) }
 {
@@ -45,7 +48,7 @@ pub fn parse_line(alloc: Global, line: &[u8]) -> Result<OwnedJsonb, Unanswered>
 
 // The canonical document of a text.
 fn parse_text(alloc: Global, text: &str) -> Result<OwnedJsonb, Unanswered>
-    ensures row { IfOk result (λ row. IsRow text.now (owned_bytes row)) }
+    ensures row { IfOk result (λ row. IsParsed text.now (owned_bytes row)) }
     ensures document { IfOk result (λ row. IsDocument (owned_bytes row)) }
     ensures refused { IfErr result (IsRefusedLine text.now) }
 {
@@ -66,6 +69,18 @@ fn fault_in(alloc: Global, text: &str) -> Unanswered
         Ok(Some(fault)) => wrong(fault.offset, reason_of(fault.reason)),
         Ok(None) => unreachable!(),
         Err(_) => Unanswered::OutOfMemory,
+    }
+}
+
+/// The document that a row of documents is, if it nests at most so deep.
+pub fn check_document(row: &[u8]) -> Result<Document<'_>, Unanswered>
+    ensures ok { IfOk result (λ document. document_bytes document ≡ row.entry.now) }
+    ensures exact { IsOk result ↔ IsDocumentWithin MAX_ROW_DEPTH row.entry.now }
+    ensures refused { IfErr result (λ e. e ≡ Wrong bad_document) }
+{
+    match Document::within(row, MAX_ROW_DEPTH) {
+        Some(document) => Ok(document),
+        None => Err(wrong(0, Reason::BadDocument)),
     }
 }
 

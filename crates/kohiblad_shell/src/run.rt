@@ -1,28 +1,43 @@
-//! The loop over lines: the rows of each go to a writer, and the reports of faults to another.
+//! The loop over an input: the rows that each of its rows gives go to a writer, and the reports of
+//! faults to another.
 
 ghost use Rattle.std.specs.Prelude.{◌≡◌, ◌≤◌, ◌∷◌, [], Ok, IfOk, OnOk, OnErr, IfSome};
-ghost use Rattle.kohiblad_shell.specs.Words.{Appends, AppendsPrefix, BeginsRun, IsRun, Keeps};
-ghost use Rattle.kohiblad_shell.specs.Words.{both, fault_line, row_count};
+ghost use Rattle.kohiblad_shell.specs.Words.{AnswersNext, Appends, AppendsPrefix, BeginsRun};
+ghost use Rattle.kohiblad_shell.specs.Words.{IsRun, Keeps, both, fault_line, row_count, stops_at};
 
 use crate::halt::Halt;
-use crate::line::read_line;
-use crate::outcome::{LineFault, LineWorker, Unanswered, fault_text};
+use crate::input::{Form, Found, read_row};
+use crate::outcome::{LineFault, LineWorker, Reason, Unanswered, fault_text};
 use crate::write::{flush, write_bytes};
 use std::alloc::Global;
 use std::io::{BufRead, Write};
 
-/// How a run names its input in reports, and whether it ends at the first line that is wrong.
+/// How a run names its input in reports, in which form its rows stand, and whether it ends at the
+/// first one that is wrong.
 #[derive(Clone, Copy, Debug)]
 pub struct Plan<'a> {
     pub name: &'a str,
+    pub form: Form,
     pub stops_at_faults: bool,
 }
 
-/// How many lines gave a row, and how many were wrong.
+impl Plan<'_> {
+    /// Whether a run ends at a fault: at the first one, or at a row that is cut off, after which no
+    /// row can be found.
+    pub fn stops_at(&self, fault: LineFault) -> bool
+        ensures { result ≡ stops_at self.now (Err fault) }
+    {
+        self.stops_at_faults || fault.reason.is_cut()
+    }
+}
+
+/// How many rows of the input gave a row, how many were wrong, and whether the run ended at one of
+/// these.
 #[derive(Clone, Copy, Debug, PartialEq, Eq)]
 pub struct Summary {
     pub rows: u64,
     pub faults: u64,
+    pub is_stopped: bool,
 }
 
 impl Summary {
@@ -33,14 +48,14 @@ impl Summary {
         Summary {
             rows: self.rows.saturating_add(other.rows),
             faults: self.faults.saturating_add(other.faults),
+            is_stopped: self.is_stopped || other.is_stopped,
         }
     }
 }
 
-/// Answers the lines of the reader, in order: their rows go to `writer`, and a report of each that
-/// is wrong to `errors`. A run whose plan stops at faults ends at the first line that is wrong;
-/// every other run reads to the end. A line ends at a line feed; what follows the last line feed is
-/// a line unless it is empty.
+/// Answers the rows of the reader, in order: what they give goes to `writer`, and a report of each
+/// that is wrong to `errors`. A run whose plan stops at faults ends at the first row that is wrong;
+/// every other run reads to the end. A document that is cut off is wrong, and ends each run.
 ///
 /// After an error a prefix of the rows was written, and one of the reports. `Read`: the reader
 /// failed, or never reached its end. `Write`: a writer failed, or accepted no byte.
@@ -83,29 +98,73 @@ fn take_lines<L: LineWorker, R: BufRead, W: Write, E: Write>(
         BeginsRun (L.rule worker.now) plan.now input (W.contents writer.old)
         (W.contents writer.new) (E.contents errors.old) (E.contents errors.new))) }
 {
-    let mut line = Vec::new(alloc);
+    let mut row = Vec::new(alloc);
     let mut rows = 0;
     let mut faults = 0;
     'taking: for before in 0..u64::MAX {
-        if !read_line(reader, &mut line)? {
-            return Ok(Summary { rows, faults });
-        }
-        match worker.answer(alloc, &line) {
-            Ok(lines) => {
+        match answer_next(alloc, worker, plan.form, reader, &mut row)? {
+            Answer::Rows(lines) => {
                 write_bytes(writer, &lines)?;
                 rows += count_row(&lines);
             }
-            Err(Unanswered::Wrong(fault)) => {
+            Answer::Wrong(fault) => {
                 report_fault(alloc, plan.name, before + 1, fault, writer, errors)?;
                 faults += 1;
-                if plan.stops_at_faults {
-                    return Ok(Summary { rows, faults });
+                if plan.stops_at(fault) {
+                    let is_stopped = true;
+                    return Ok(Summary {
+                        rows,
+                        faults,
+                        is_stopped,
+                    });
                 }
             }
-            Err(Unanswered::OutOfMemory) => return Err(Halt::Memory),
+            Answer::End => {
+                let is_stopped = false;
+                return Ok(Summary {
+                    rows,
+                    faults,
+                    is_stopped,
+                });
+            }
         }
     }
     Err(Halt::Read)
+}
+
+/// What the next row of an input gives.
+enum Answer {
+    /// Rows.
+    Rows(Vec<u8>),
+    /// It is wrong.
+    Wrong(LineFault),
+    /// No row is left.
+    End,
+}
+
+// Reads the next row, in place of what `row` held, and answers it.
+fn answer_next<L: LineWorker, R: BufRead>(
+    alloc: Global,
+    worker: &L,
+    form: Form,
+    reader: &mut R,
+    row: &mut Vec<u8>,
+) -> Result<Answer, Halt>
+    ensures { IfOk result (λ answer. AnswersNext (L.rule worker.now) form
+        (R.remaining reader.old) (R.remaining reader.new) answer) }
+{
+    match read_row(form, reader, row)? {
+        Found::End => Ok(Answer::End),
+        Found::Row => match worker.answer(alloc, row) {
+            Ok(lines) => Ok(Answer::Rows(lines)),
+            Err(Unanswered::Wrong(fault)) => Ok(Answer::Wrong(fault)),
+            Err(Unanswered::OutOfMemory) => Err(Halt::Memory),
+        },
+        Found::Cut => Ok(Answer::Wrong(LineFault {
+            offset: row.len(),
+            reason: Reason::Cut,
+        })),
+    }
 }
 
 // Reports a fault, after the rows that the writer still holds: both may go to one place.

@@ -31,22 +31,22 @@ pub enum Aim {
     Faults,
 }
 
-/// The status of the program after a run, which stops at faults or does not.
-pub fn run_status(aim: Aim, stops: bool, outcome: Result<Summary, Halt>) -> u8
-    ensures { result ≡ run_status aim stops outcome }
+/// The status of the program after a run.
+pub fn run_status(aim: Aim, outcome: Result<Summary, Halt>) -> u8
+    ensures { result ≡ run_status aim outcome }
 {
     match outcome {
-        Ok(summary) => summary_status(aim, stops, summary),
+        Ok(summary) => summary_status(aim, summary),
         Err(halt) => halt_status(halt),
     }
 }
 
-// The status after a run that ended by itself.
-fn summary_status(aim: Aim, stops: bool, summary: Summary) -> u8
-    ensures { result ≡ summary_status aim stops summary }
+// The status after a run that was not ended by a device.
+fn summary_status(aim: Aim, summary: Summary) -> u8
+    ensures { result ≡ summary_status aim summary }
 {
     let is_missed = match aim {
-        Aim::Rows => summary.rows == 0 || stops && summary.faults != 0,
+        Aim::Rows => summary.rows == 0 || summary.is_stopped,
         Aim::Faults => summary.faults != 0,
     };
     if is_missed { NOT_FOUND } else { FOUND }

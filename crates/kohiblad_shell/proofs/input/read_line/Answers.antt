@@ -1,7 +1,7 @@
 use Rattle.std.proofs.Common.{arith}
 use Rattle.std.proofs.lemmas.Grind.{common_steps}
-use Rattle.kohiblad_shell.proofs.line.read_line.Goals as goal
-use Rattle.kohiblad_shell.proofs.LineLaws.{reads_line}
+use Rattle.kohiblad_shell.proofs.input.read_line.Goals as goal
+use Rattle.kohiblad_shell.proofs.InputLaws.{reads_line}
 
 pub returns-in-Ok : goal.returns-in-Ok
 returns-in-Ok g c = record {
