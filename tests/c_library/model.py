@@ -532,7 +532,7 @@ MOST_INDEXES = 3
 def places_of(stored, text, depth):
     """The status of a selection, and the places that it found."""
     export, crossed = call("select", stored, text, SIZE(depth))
-    places, count = (Place * ((len(stored) // 4 + 1) * MOST_INDEXES**MOST_STEPS))(), SIZE()
+    places, count = (Place * ((len(stored) // 4 + 1) * MOST_INDEXES))(), SIZE()
     status = export(*crossed, places, SIZE(len(places)), ctypes.byref(count))
     return status, places[:count.value]
 
@@ -636,6 +636,15 @@ def any_step(chance, kinds=ALL_STEPS):
     if kind == "list":
         return kind, *(chance.randint(-3, 3) for _ in range(chance.randint(2, MOST_INDEXES)))
     return kind,
+
+
+def any_path(chance):
+    """A path with at most one list of indexes."""
+    path = []
+    for _ in range(chance.randint(0, MOST_STEPS)):
+        has_list = any(kind == "list" for kind, *_ in path)
+        path.append(any_step(chance, [it for it in ALL_STEPS if it != "list" or not has_list]))
+    return path
 
 
 def path_text(chance, path):
@@ -770,7 +779,7 @@ def asks_strip_nulls(chance, left, right):
 
 
 def asks_select(chance, left, right):
-    path = [any_step(chance) for _ in range(chance.randint(0, MOST_STEPS))]
+    path = any_path(chance)
     stored, text = document(left), path_text(chance, path)
     status, places = places_of(stored, text, depth_of(left))
     assert status == OK

@@ -1,14 +1,14 @@
 -- A path of which some steps were read.
 use Rattle.std.proofs.Common.{◌≡◌, ℕ, List, [], ◌∷◌, ◌++◌, map, refl, sym, Bool, true, false}
-use Rattle.std.proofs.Common.{ap, ◌∙◌, subst, arith, Bor, append_assoc, inl, inr}
+use Rattle.std.proofs.Common.{ap, ◌∙◌, ◌≤◌, subst, arith, Bor, append_assoc, inl, inr}
 use Rattle.std.proofs.lemmas.List.{append-nil}
 use Rattle.std.specs.Prelude.{Option, None, Some, ◌↔◌, IfOk, IfSome, Result, Ok, Err}
 use Rattle.std.specs.Global.{Vec}
 use Rattle.jsonb_functions.specs.declared.selection.Selector.{Selector}
 use Rattle.jsonb_functions.specs.PathText.{SelectorView, selector_view, AreSteps, BeginsWith}
 use Rattle.jsonb_functions.specs.PathText.{BeginsWithStep, EndsName, IsFilter, IsFilterPath}
-use Rattle.jsonb_functions.specs.PathText.{PathText, Reads, ReadsStep, StopsAt, after_spaces}
-use Rattle.jsonb_functions.specs.PathText.{is_in_name, path_view}
+use Rattle.jsonb_functions.specs.PathText.{PathText, Reads, ReadsStep, StepsText, StopsAt}
+use Rattle.jsonb_functions.specs.PathText.{after_spaces, is_in_name, list_count, path_view}
 use Rattle.jsonb_functions.proofs.HashLaws.{map_joined}
 use Rattle.jsonb_functions.proofs.PathStepLaws.{written_begins}
 
@@ -233,10 +233,10 @@ no_filter text (Err x) other h = tt
 
 -- The path of a text.
 pub other_text : (text : List ℕ) → ((rest : List ℕ) → text ≡ 36 ∷ rest → ⊥)
-    → (p : List SelectorView) → PathText text p ↔ ◌≡◌ {A = Option (List SelectorView)} None (Some p)
+    → (p : List SelectorView) → StepsText text p ↔ ◌≡◌ {A = Option (List SelectorView)} None (Some p)
 other_text text other p = (λ h. absurd (other h.0 h.1), λ e. absurd (cc))
 
-starts_same : (text start : List ℕ) (p : List SelectorView) → text ≡ 36 ∷ start → PathText text p
+starts_same : (text start : List ℕ) (p : List SelectorView) → text ≡ 36 ∷ start → StepsText text p
     → AreSteps BeginsWithStep [] start p
 starts_same text start p e (rest, is, steps) =
     let both : 36 ∷ rest ≡ 36 ∷ start = sym is ∙ e in
@@ -247,7 +247,7 @@ pub none_text : (text start left : List ℕ) (read : List Selector) → text ≡
     → (left ≡ [] → ⊥) → ReadsStep BeginsWithStep false left None
     → IsRead BeginsWithStep false start left read
     → (p : List SelectorView)
-    → PathText text p ↔ ◌≡◌ {A = Option (List SelectorView)} None (Some p)
+    → StepsText text p ↔ ◌≡◌ {A = Option (List SelectorView)} None (Some p)
 none_text text start left read e some step h p = (
   λ is. absurd (none_read BeginsWithStep false step_begins start left read some step h [] refl p
       (starts_same text start p e is)),
@@ -256,7 +256,7 @@ none_text text start left read e some step h p = (
 
 pub all_read : (text start left : List ℕ) (read : List Selector) → text ≡ 36 ∷ start → left ≡ []
     → IsRead BeginsWithStep false start left read
-    → (p : List SelectorView) → PathText text p ↔ (Some (map selector_view read) ≡ Some p)
+    → (p : List SelectorView) → StepsText text p ↔ (Some (map selector_view read) ≡ Some p)
 all_read text start left read e end h p = (
   λ is. let same = read_only BeginsWithStep false step_begins start left read end h [] refl p
       (starts_same text start p e is) in
@@ -268,6 +268,38 @@ all_read text start left read e end h p = (
         (subst (λ xs. AreSteps BeginsWithStep xs start (map selector_view read)) end
         (all_steps BeginsWithStep false step_begins start left read h)),
   ),
+)
+
+-- A text without steps is not that of a path,
+pub without_steps : (text : List ℕ)
+    → ((p : List SelectorView)
+      → StepsText text p ↔ ◌≡◌ {A = Option (List SelectorView)} None (Some p))
+    → (p : List SelectorView)
+    → PathText text p ↔ ◌≡◌ {A = Option (List SelectorView)} None (Some p)
+without_steps text none p = (λ is. (none p).0 is.steps, λ e. absurd (cc))
+
+-- nor is one with several lists,
+pub with_lists : (text : List ℕ) (read : List SelectorView) → 2 ≤ list_count read
+    → ((p : List SelectorView) → StepsText text p ↔ (Some read ≡ Some p))
+    → (p : List SelectorView)
+    → PathText text p ↔ ◌≡◌ {A = Option (List SelectorView)} None (Some p)
+with_lists text read many steps p = (
+  λ is. let found : Some read ≡ Some p = (steps p).0 is.steps in
+      let same : read ≡ p = cc in
+      absurd (omega (arith, subst (λ x. 2 ≤ list_count x) same many, is.one_list)),
+  λ e. absurd (cc),
+)
+
+-- and with at most one it is.
+pub with_one_list : (text : List ℕ) (read : List SelectorView) → list_count read ≤ 1
+    → ((p : List SelectorView) → StepsText text p ↔ (Some read ≡ Some p))
+    → (p : List SelectorView) → PathText text p ↔ (Some read ≡ Some p)
+with_one_list text read few steps p = (
+  λ is. (steps p).0 is.steps,
+  λ found. let same : read ≡ p = cc in record {
+    steps = (steps p).1 found;
+    one_list = subst (λ x. list_count x ≤ 1) same few;
+  },
 )
 
 -- The path of a filter.

@@ -1,7 +1,7 @@
 -- How many steps a path with wildcards takes: at most as many for each selector as the tree weighs,
 -- as often as there are ways to it.
 use Rattle.std.proofs.Common.{◌≡◌, ◌≤◌, ◌+◌, ◌*◌, ℕ, zero, suc, List, [], ◌∷◌, length, map, take}
-use Rattle.std.proofs.Common.{drop, refl, sym, ap, ◌∙◌, ◌++◌, arith, flat_map}
+use Rattle.std.proofs.Common.{drop, refl, sym, ap, ◌∙◌, arith}
 use Rattle.std.specs.Prelude.{Bool, true, false, Option, None, Some, slice_get, option_to_list}
 use Rattle.std.specs.Prelude.{if◌then◌else◌, nat_eq, ◌&&◌, ◌==◌}
 use Rattle.std.specs.Cmp.Lexicographic.{pointwise}

@@ -1,5 +1,5 @@
 -- Conditions by what they are made of, as they are written as terms, and when they hold.
-use Rattle.std.specs.Prelude.{◌≡◌, List, [], ◌∷◌, ◌++◌, Bool, not, ◌&&◌, ◌||◌}
+use Rattle.std.specs.Prelude.{List, [], ◌∷◌, ◌++◌, Bool, not, ◌&&◌, ◌||◌}
 use Rattle.jsonb_value.specs.Tree.{Tree}
 use Rattle.jsonb_functions.specs.declared.filter.Term.{Term}
 use Rattle.jsonb_functions.specs.declared.filter.Term.TheVariants as terms

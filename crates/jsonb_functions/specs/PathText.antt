@@ -1,5 +1,5 @@
 -- The paths that texts give.
-use Rattle.std.specs.Prelude.{◌≡◌, ◌⊎◌, ⊤, ℕ, zero, suc, ◌-◌, ◌^◌, min, List, [], ◌∷◌, ◌++◌}
+use Rattle.std.specs.Prelude.{◌≡◌, ◌⊎◌, ⊤, ℕ, zero, suc, ◌≤◌, ◌-◌, ◌^◌, min, List, [], ◌∷◌, ◌++◌}
 use Rattle.std.specs.Prelude.{Bool, true, false, not, ◌&&◌, ◌==◌, if◌then◌else◌, bytes_eq}
 use Rattle.std.specs.Prelude.{codes, chars, map, nat_lt}
 use Rattle.std.specs.Prelude.{Option, Some, None, option_map, IfSome, MatchOption}
@@ -73,6 +73,20 @@ single_step (filter ts) = None
 abbrev pub single_steps : List SelectorView → Option (List StepView)
 single_steps [] = Some []
 single_steps (s ∷ path) = step_then (single_step s) (single_steps path)
+
+-- Whether a step is a list of indexes.
+abbrev pub is_list : SelectorView → Bool
+is_list (indexes l) = true
+is_list (step s) = false
+is_list all_items = false
+is_list all_members = false
+is_list (range first last) = false
+is_list (filter ts) = false
+
+-- How many lists of indexes a path has.
+abbrev pub list_count : List SelectorView → ℕ
+list_count [] = 0
+list_count (s ∷ path) = if is_list s then suc (list_count path) else list_count path
 
 -- A step as it is written: a key as it is, a key between quotes, or a place between brackets.
 pub data Written : Type 0 where
@@ -395,8 +409,14 @@ BeginsWithStep text s rest = BeginsWith false text s rest
     ⊎ ((condition : List ℕ) × (after_spaces text ≡ 63 ∷ condition) × IsFilter condition s rest)
 
 -- The text is `$` and these steps.
-abbrev pub PathText : List ℕ → List SelectorView → Type 0
-PathText text path = (rest : List ℕ) × (text ≡ 36 ∷ rest) × AreSteps BeginsWithStep [] rest path
+abbrev pub StepsText : List ℕ → List SelectorView → Type 0
+StepsText text path = (rest : List ℕ) × (text ≡ 36 ∷ rest) × AreSteps BeginsWithStep [] rest path
+
+-- The text of a path: such a text with at most one list of indexes. Lists one after the other would
+-- lead to as many values as the product of their lengths.
+pub record PathText (text : List ℕ) (path : List SelectorView) : Type 0 where
+  pub steps : StepsText text path
+  pub one_list : list_count path ≤ 1
 
 -- A name as it is ends before these bytes, or before the spaces with which they begin.
 abbrev pub EndsName : Bool → List ℕ → Type 0

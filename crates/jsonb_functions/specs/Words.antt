@@ -57,7 +57,7 @@ pub use Rattle.jsonb_functions.specs.PathDocument.{path_tree, step_tree, stored_
 pub use Rattle.jsonb_functions.specs.PathText.{AreTerms, BeginsWith, BeginsWithLiteral}
 pub use Rattle.jsonb_functions.specs.PathText.{BeginsWithStep, BeginsWithTerm, BeginsWithTest}
 pub use Rattle.jsonb_functions.specs.PathText.{EndsName, IsComparison, IsFilter, IsFilterPath}
-pub use Rattle.jsonb_functions.specs.PathText.{IsLiteralWord, PathText}
+pub use Rattle.jsonb_functions.specs.PathText.{IsLiteralWord, PathText, StepsText, list_count}
 pub use Rattle.jsonb_functions.specs.PathText.{Reads, ReadsStep, SelectorView, StopsAt, TermView}
 pub use Rattle.jsonb_functions.specs.PathText.{after_spaces, all_are, back_in, bound_in}
 pub use Rattle.jsonb_functions.specs.PathText.{capped_number, comparison_in, counted_in, ends_in}

@@ -6,11 +6,12 @@ ghost use Rattle.std.specs.List.{prefix_len};
 ghost use Rattle.jsonb_functions.specs.Words.{AreTerms, BeginsWith, BeginsWithLiteral};
 ghost use Rattle.jsonb_functions.specs.Words.{BeginsWithStep, BeginsWithTerm, BeginsWithTest};
 ghost use Rattle.jsonb_functions.specs.Words.{EndsName, IsComparison, IsFilter, IsFilterPath};
-ghost use Rattle.jsonb_functions.specs.Words.{IsLiteralWord, PathText, Reads, ReadsStep};
+ghost use Rattle.jsonb_functions.specs.Words.{IsLiteralWord, PathText, Reads, ReadsStep, StepsText};
 ghost use Rattle.jsonb_functions.specs.Words.{SelectorView, StopsAt, Tree, after_spaces, all_are};
 ghost use Rattle.jsonb_functions.specs.Words.{back_in, bound_in, comparison_in, counted_in};
 ghost use Rattle.jsonb_functions.specs.Words.{ends_in, ends_in_space, from_end_of, indexes};
 ghost use Rattle.jsonb_functions.specs.Words.{indexes_in, is_in_name, is_in_word, is_not, item_at};
+ghost use Rattle.jsonb_functions.specs.Words.{list_count};
 ghost use Rattle.jsonb_functions.specs.Words.{items_in, mark_in, member_step, name_len, node_tree};
 ghost use Rattle.jsonb_functions.specs.Words.{path_view, place_in, range_in, scalar_tree};
 ghost use Rattle.jsonb_functions.specs.Words.{selector_view, single_step, single_steps};
@@ -31,15 +32,16 @@ use std::alloc::Global;
 /// `[007]`, `[#-1]` the last one, and `[#]`, or `[#-0]`, none, past the last one; `[*]` is each
 /// item, `[0 to #-2]` the items from one to another, and `.*` each member's value. `[last]` is the
 /// last item too, and `[last - 1]`, or `[last-1]`, the one before it; `[0, 2, last]` are the items
-/// at these indexes. The keys are the text's bytes, without escapes: `.*a` is the key `*a`. A key
-/// with a parenthesis, or with a space at its end, is written between quotes, so that `.size()` is
-/// no key. An index past 64 bits is the greatest of 64 bits.
+/// at these indexes, in this order, and a path has at most one such list. The keys are the text's
+/// bytes, without escapes: `.*a` is the key `*a`. A key with a parenthesis, or with a space at its
+/// end, is written between quotes, so that `.size()` is no key. An index past 64 bits is the
+/// greatest of 64 bits.
 ///
 /// `?(@.price < 3)` keeps a value if what is at the end of the path that begins with `@` compares
 /// so with a literal, by the order of documents. The path has no wildcards, ranges, lists and
-/// filters, and a key with a space is written between quotes. There may be spaces around `?` and the condition,
-/// as in `$ ? ( @.price < 3 )`. The comparison is `==`, `!=` or `<>`, `<`, `<=`, `>` or `>=`, with
-/// one space before and after it. The literal is `null`, `true`, `false`, a JSON
+/// filters, and a key with a space is written between quotes. There may be spaces around `?` and
+/// the condition, as in `$ ? ( @.price < 3 )`. The comparison is `==`, `!=` or `<>`, `<`, `<=`, `>`
+/// or `>=`, with one space before and after it. The literal is `null`, `true`, `false`, a JSON
 /// number, read exactly, with or without an exponent, or a string without quotes and escapes in it.
 ///
 /// `&&` and `||` join comparisons, where `&&` binds more: `?(@.price < 3 && @.size == "L")`. `(`
@@ -49,6 +51,34 @@ use std::alloc::Global;
 /// `None` for any other text; `OutOfMemory`, the only error, if an allocation fails.
 pub fn read_path_text<'a>(alloc: Global, text: &'a str) -> Result<Option<Vec<Selector<'a>>>, Error>
     ensures ok { IfOk result (λ path. (steps : List SelectorView) → PathText text.now steps
+        ↔ (option_map (λ selectors. map selector_view selectors.items) path ≡ Some steps)) }
+    ensures memory { IfErr result (λ e. e ≡ Error.OutOfMemory) }
+{
+    let Some(path) = read_steps(alloc, text)? else {
+        return Ok(None);
+    };
+    if list_count(&path) > 1 {
+        return Ok(None);
+    }
+    Ok(Some(path))
+}
+
+// How many lists of indexes a path has.
+fn list_count(path: &[Selector<'_>]) -> usize
+    ensures { result ≡ list_count (map selector_view path.now) }
+{
+    let mut count = 0;
+    for selector in path {
+        if matches!(selector, Selector::Indexes(_)) {
+            count += 1;
+        }
+    }
+    count
+}
+
+// The steps after the `$` of a text, with any number of lists.
+fn read_steps<'a>(alloc: Global, text: &'a str) -> Result<Option<Vec<Selector<'a>>>, Error>
+    ensures ok { IfOk result (λ path. (steps : List SelectorView) → StepsText text.now steps
         ↔ (option_map (λ selectors. map selector_view selectors.items) path ≡ Some steps)) }
     ensures memory { IfErr result (λ e. e ≡ Error.OutOfMemory) }
 {

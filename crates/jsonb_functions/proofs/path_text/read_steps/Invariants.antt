@@ -4,7 +4,7 @@ use denote.Text.{Utf8}
 use denote.Shadow.{shadow}
 use Rattle.jsonb_functions.specs.PathText.{BeginsWithStep}
 use Rattle.jsonb_functions.proofs.PathLaws.{IsRead}
-use Rattle.jsonb_functions.proofs.path_text.read_path_text.Given as goal
+use Rattle.jsonb_functions.proofs.path_text.read_steps.Given as goal
 
 abbrev pub invariant-loop-left : goal.invariant-loop-left
 invariant-loop-left l = shadow (Utf8 l.left)
