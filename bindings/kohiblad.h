@@ -831,6 +831,36 @@ static inline struct kohiblad_taken kohiblad_take_text_unchecked(const uint8_t *
     uint8_t *out, size_t room, size_t *length, size_t *text_offsets, size_t offsets_room,
     uint8_t *states, size_t states_room) KOHIBLAD_INLINE("kohiblad_take_text_unchecked");
 
+/* Takes the members of rows at the end of a path as dates, each the number that is stored for it.
+ * The format does not say what it counts; writers store the days since 1970. All else is as
+ * kohiblad_take_int64 has it. */
+static inline struct kohiblad_taken kohiblad_take_date(const uint8_t *bytes, size_t size,
+    const size_t *offsets, size_t count, const uint8_t *path, size_t path_size, size_t depth,
+    int32_t *values, size_t room, uint8_t *states, size_t states_room)
+    KOHIBLAD_INLINE("kohiblad_take_date");
+
+/* Takes the members of rows at the end of a path as dates, as kohiblad_take_date has them, without
+ * checking the rows. All else is as kohiblad_take_int64_unchecked has it. */
+static inline struct kohiblad_taken kohiblad_take_date_unchecked(const uint8_t *bytes, size_t size,
+    const size_t *offsets, size_t count, const uint8_t *path, size_t path_size, size_t depth,
+    int32_t *values, size_t room, uint8_t *states, size_t states_room)
+    KOHIBLAD_INLINE("kohiblad_take_date_unchecked");
+
+/* Takes the members of rows at the end of a path as timestamps without a time zone, each the number
+ * that is stored for it. The format does not say what it counts; writers store the microseconds
+ * since 1970. All else is as kohiblad_take_int64 has it. */
+static inline struct kohiblad_taken kohiblad_take_timestamp(const uint8_t *bytes, size_t size,
+    const size_t *offsets, size_t count, const uint8_t *path, size_t path_size, size_t depth,
+    int64_t *values, size_t room, uint8_t *states, size_t states_room)
+    KOHIBLAD_INLINE("kohiblad_take_timestamp");
+
+/* Takes the members of rows at the end of a path as timestamps, as kohiblad_take_timestamp has
+ * them, without checking the rows. All else is as kohiblad_take_int64_unchecked has it. */
+static inline struct kohiblad_taken kohiblad_take_timestamp_unchecked(const uint8_t *bytes,
+    size_t size, const size_t *offsets, size_t count, const uint8_t *path, size_t path_size,
+    size_t depth, int64_t *values, size_t room, uint8_t *states, size_t states_room)
+    KOHIBLAD_INLINE("kohiblad_take_timestamp_unchecked");
+
 /* Whether the document `left` contains `right`, as 0 or 1. An object contains the objects whose
  * keys it has, with values that contain those; an array contains the arrays for each of whose items
  * it has one that contains it; a scalar contains what equals it; and at the top an array also
@@ -1179,6 +1209,22 @@ struct kohiblad_taken kohiblad_export_take_text_unchecked(const uint8_t *bytes, 
     const size_t *offsets, size_t count, const uint8_t *path, size_t path_size, size_t depth,
     uint8_t *out, size_t room, size_t *length, size_t *text_offsets, size_t offsets_room,
     uint8_t *states, size_t states_room) KOHIBLAD_EXPORT("kohiblad_take_text_unchecked");
+struct kohiblad_taken kohiblad_export_take_date(const uint8_t *bytes, size_t size,
+    const size_t *offsets, size_t count, const uint8_t *path, size_t path_size, size_t depth,
+    int32_t *values, size_t room, uint8_t *states, size_t states_room)
+    KOHIBLAD_EXPORT("kohiblad_take_date");
+struct kohiblad_taken kohiblad_export_take_date_unchecked(const uint8_t *bytes, size_t size,
+    const size_t *offsets, size_t count, const uint8_t *path, size_t path_size, size_t depth,
+    int32_t *values, size_t room, uint8_t *states, size_t states_room)
+    KOHIBLAD_EXPORT("kohiblad_take_date_unchecked");
+struct kohiblad_taken kohiblad_export_take_timestamp(const uint8_t *bytes, size_t size,
+    const size_t *offsets, size_t count, const uint8_t *path, size_t path_size, size_t depth,
+    int64_t *values, size_t room, uint8_t *states, size_t states_room)
+    KOHIBLAD_EXPORT("kohiblad_take_timestamp");
+struct kohiblad_taken kohiblad_export_take_timestamp_unchecked(const uint8_t *bytes, size_t size,
+    const size_t *offsets, size_t count, const uint8_t *path, size_t path_size, size_t depth,
+    int64_t *values, size_t room, uint8_t *states, size_t states_room)
+    KOHIBLAD_EXPORT("kohiblad_take_timestamp_unchecked");
 struct kohiblad_truth kohiblad_export_contains(const uint8_t *left, size_t left_size,
     const uint8_t *right, size_t right_size, size_t depth, size_t steps)
     KOHIBLAD_EXPORT("kohiblad_contains");
@@ -1698,6 +1744,62 @@ static inline struct kohiblad_taken kohiblad_take_text_unchecked(const uint8_t *
         kohiblad_offsets_in(offsets), count, kohiblad_in(path), path_size, depth,
         kohiblad_out(out), room, length, kohiblad_order_out(text_offsets), offsets_room,
         kohiblad_out(states), states_room);
+}
+static inline int32_t *kohiblad_int32s_out(int32_t *out) {
+    static int32_t none;
+    return out ? out : &none;
+}
+static inline struct kohiblad_taken kohiblad_take_date(const uint8_t *bytes, size_t size,
+    const size_t *offsets, size_t count, const uint8_t *path, size_t path_size, size_t depth,
+    int32_t *values, size_t room, uint8_t *states, size_t states_room) {
+    struct kohiblad_taken overlap = { KOHIBLAD_OVERLAP, 0, 0 };
+    if (!kohiblad_is_column(values, room * sizeof *values, states, states_room)
+        || !kohiblad_is_outside(values, room * sizeof *values, bytes, size, offsets, count, path,
+                                path_size)
+        || !kohiblad_is_outside(states, states_room, bytes, size, offsets, count, path, path_size))
+        return overlap;
+    return kohiblad_export_take_date(kohiblad_in(bytes), size, kohiblad_offsets_in(offsets), count,
+        kohiblad_in(path), path_size, depth, kohiblad_int32s_out(values), room,
+        kohiblad_out(states), states_room);
+}
+static inline struct kohiblad_taken kohiblad_take_date_unchecked(const uint8_t *bytes, size_t size,
+    const size_t *offsets, size_t count, const uint8_t *path, size_t path_size, size_t depth,
+    int32_t *values, size_t room, uint8_t *states, size_t states_room) {
+    struct kohiblad_taken overlap = { KOHIBLAD_OVERLAP, 0, 0 };
+    if (!kohiblad_is_column(values, room * sizeof *values, states, states_room)
+        || !kohiblad_is_outside(values, room * sizeof *values, bytes, size, offsets, count, path,
+                                path_size)
+        || !kohiblad_is_outside(states, states_room, bytes, size, offsets, count, path, path_size))
+        return overlap;
+    return kohiblad_export_take_date_unchecked(kohiblad_in(bytes), size,
+        kohiblad_offsets_in(offsets), count, kohiblad_in(path), path_size, depth,
+        kohiblad_int32s_out(values), room, kohiblad_out(states), states_room);
+}
+static inline struct kohiblad_taken kohiblad_take_timestamp(const uint8_t *bytes, size_t size,
+    const size_t *offsets, size_t count, const uint8_t *path, size_t path_size, size_t depth,
+    int64_t *values, size_t room, uint8_t *states, size_t states_room) {
+    struct kohiblad_taken overlap = { KOHIBLAD_OVERLAP, 0, 0 };
+    if (!kohiblad_is_column(values, room * sizeof *values, states, states_room)
+        || !kohiblad_is_outside(values, room * sizeof *values, bytes, size, offsets, count, path,
+                                path_size)
+        || !kohiblad_is_outside(states, states_room, bytes, size, offsets, count, path, path_size))
+        return overlap;
+    return kohiblad_export_take_timestamp(kohiblad_in(bytes), size, kohiblad_offsets_in(offsets),
+        count, kohiblad_in(path), path_size, depth, kohiblad_int64s_out(values), room,
+        kohiblad_out(states), states_room);
+}
+static inline struct kohiblad_taken kohiblad_take_timestamp_unchecked(const uint8_t *bytes,
+    size_t size, const size_t *offsets, size_t count, const uint8_t *path, size_t path_size,
+    size_t depth, int64_t *values, size_t room, uint8_t *states, size_t states_room) {
+    struct kohiblad_taken overlap = { KOHIBLAD_OVERLAP, 0, 0 };
+    if (!kohiblad_is_column(values, room * sizeof *values, states, states_room)
+        || !kohiblad_is_outside(values, room * sizeof *values, bytes, size, offsets, count, path,
+                                path_size)
+        || !kohiblad_is_outside(states, states_room, bytes, size, offsets, count, path, path_size))
+        return overlap;
+    return kohiblad_export_take_timestamp_unchecked(kohiblad_in(bytes), size,
+        kohiblad_offsets_in(offsets), count, kohiblad_in(path), path_size, depth,
+        kohiblad_int64s_out(values), room, kohiblad_out(states), states_room);
 }
 static inline struct kohiblad_truth kohiblad_contains(const uint8_t *left, size_t left_size,
     const uint8_t *right, size_t right_size, size_t depth, size_t steps) {

@@ -295,6 +295,18 @@ struct kohiblad_taken kohiblad_take_text_unchecked(const uint8_t *bytes, size_t 
     const size_t *offsets, size_t count, const uint8_t *path, size_t path_size, size_t depth,
     uint8_t *out, size_t room, size_t *length, size_t *text_offsets, size_t offsets_room,
     uint8_t *states, size_t states_room);
+struct kohiblad_taken kohiblad_take_date(const uint8_t *bytes, size_t size, const size_t *offsets,
+    size_t count, const uint8_t *path, size_t path_size, size_t depth, int32_t *values, size_t room,
+    uint8_t *states, size_t states_room);
+struct kohiblad_taken kohiblad_take_date_unchecked(const uint8_t *bytes, size_t size,
+    const size_t *offsets, size_t count, const uint8_t *path, size_t path_size, size_t depth,
+    int32_t *values, size_t room, uint8_t *states, size_t states_room);
+struct kohiblad_taken kohiblad_take_timestamp(const uint8_t *bytes, size_t size,
+    const size_t *offsets, size_t count, const uint8_t *path, size_t path_size, size_t depth,
+    int64_t *values, size_t room, uint8_t *states, size_t states_room);
+struct kohiblad_taken kohiblad_take_timestamp_unchecked(const uint8_t *bytes, size_t size,
+    const size_t *offsets, size_t count, const uint8_t *path, size_t path_size, size_t depth,
+    int64_t *values, size_t room, uint8_t *states, size_t states_room);
 struct kohiblad_truth kohiblad_contains(const uint8_t *left, size_t left_size, const uint8_t *right,
     size_t right_size, size_t depth, size_t steps);
 struct kohiblad_truth kohiblad_exists(const uint8_t *bytes, size_t size, const uint8_t *key,

@@ -20,6 +20,7 @@ CROSSES = {
     "Global": [], "&[u8]": ["const uint8_t *", "size_t"], "&mut [u8]": ["uint8_t *", "size_t"],
     "&[usize]": ["const size_t *", "size_t"], "&mut [usize]": ["size_t *", "size_t"],
     "&mut [u64]": ["uint64_t *", "size_t"], "&mut [i64]": ["int64_t *", "size_t"],
+    "&mut [i32]": ["int32_t *", "size_t"],
     "&mut usize": ["size_t *"], "usize": ["size_t"], "u32": ["uint32_t"], "u64": ["uint64_t"],
     "i32": ["int32_t"], "i64": ["int64_t"], "bool": ["bool"],
 }

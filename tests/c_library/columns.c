@@ -97,8 +97,8 @@ int main(void) {
     assert(length == 3 && !memcmp(out, "x\xC3\xA9.", 4));
     for (int i = 0; i <= ROWS; i++) assert(text_offsets[i] == (i < 8 ? 0 : 3));
 
-    /* Of documents and rows of no bytes the same, without a check: row 6 has other bytes, and row 11
-     * nests too deep for the calls that check. */
+    /* Of documents and rows of no bytes the same, without a check: row 6 has other bytes, and
+     * row 11 nests too deep for the calls that check. */
     memset(whole, 0xA5, sizeof whole);
     expect(kohiblad_take_int64_unchecked(rows, size, offsets, ROWS + 1, path, path_size, DEPTH,
                                          KOHIBLAD_BY_VALUE, whole, ROWS, states, ROWS),
@@ -151,6 +151,33 @@ int main(void) {
     assert(length == 0);
     assert(kohiblad_survey(rows, size, offsets, ROWS + 1, rows, offsets[1], DEPTH).status
            == KOHIBLAD_OTHER_KIND);
+
+    /* A date, a timestamp and no bytes, each a row that is the member itself. */
+    int32_t days[3];
+    int64_t moments[3];
+    uint8_t times[64], whole_path[] = { 0x80, 0, 0, 0 };
+    size_t ends[4] = { 0 };
+    assert(!kohiblad_of_extension(KOHIBLAD_DATE, -719162, 0, 0, 0, NULL, 0, times, 64, &length));
+    ends[1] = length;
+    assert(!kohiblad_of_extension(KOHIBLAD_TIMESTAMP, 1700000000000000, 0, 0, 0, NULL, 0,
+                                  times + ends[1], 64 - ends[1], &length));
+    ends[2] = ends[3] = ends[1] + length;
+    struct kohiblad_taken dates = kohiblad_take_date(times, ends[3], ends, 4, whole_path, 4, 1,
+                                                     days, 3, states, 3);
+    assert(dates.status == KOHIBLAD_OK && dates.unfit == 1 && dates.first_unfit == 1);
+    assert(!memcmp(states, "\1\3", 3) && days[0] == -719162 && days[1] == 0 && days[2] == 0);
+    days[0] = 1;
+    dates = kohiblad_take_date_unchecked(times, ends[3], ends, 4, whole_path, 4, 1, days, 3,
+                                         states, 3);
+    assert(dates.unfit == 1 && !memcmp(states, "\1\3", 3) && days[0] == -719162);
+    dates = kohiblad_take_timestamp(times, ends[3], ends, 4, whole_path, 4, 1, moments, 3, states,
+                                    3);
+    assert(dates.unfit == 1 && dates.first_unfit == 0 && !memcmp(states, "\3\1", 3));
+    assert(moments[0] == 0 && moments[1] == 1700000000000000 && moments[2] == 0);
+    moments[1] = 1;
+    dates = kohiblad_take_timestamp_unchecked(times, ends[3], ends, 4, whole_path, 4, 1, moments, 3,
+                                              states, 3);
+    assert(dates.unfit == 1 && !memcmp(states, "\3\1", 3) && moments[1] == 1700000000000000);
     puts("columns as the rules have them");
     return 0;
 }

@@ -61,6 +61,14 @@ int main(void) {
                                            2, NULL, 0, NULL, 0).status == KOHIBLAD_OK);
     assert(kohiblad_take_boolean_unchecked(NULL, 0, NULL, 0, whole, sizeof whole, 1, NULL, 0, NULL,
                                            0).status == KOHIBLAD_OK);
+    assert(kohiblad_take_date(NULL, 0, NULL, 0, whole, sizeof whole, 1, NULL, 0, NULL, 0).status
+           == KOHIBLAD_OK);
+    assert(kohiblad_take_date_unchecked(NULL, 0, NULL, 0, whole, sizeof whole, 1, NULL, 0, NULL, 0)
+               .status == KOHIBLAD_OK);
+    assert(kohiblad_take_timestamp(NULL, 0, NULL, 0, whole, sizeof whole, 1, NULL, 0, NULL, 0)
+               .status == KOHIBLAD_OK);
+    assert(kohiblad_take_timestamp_unchecked(NULL, 0, NULL, 0, whole, sizeof whole, 1, NULL, 0,
+                                             NULL, 0).status == KOHIBLAD_OK);
     assert(kohiblad_take_text_unchecked(NULL, 0, NULL, 0, NULL, 0, 1, NULL, 0, &length, NULL, 0,
                                         NULL, 0).status == KOHIBLAD_INVALID_JSONB);
     /* Also of no rows there is one offset. */

@@ -29,7 +29,7 @@ use Rattle.kohiblad.specs.PathPlaces.{HoldsFound, path_place_in, whole_place}
 use Rattle.kohiblad.proofs.PathPlaceLaws.{place_holds}
 use Rattle.kohiblad.specs.Places.{IsValuePlace, is_name}
 use Rattle.kohiblad.specs.Taking.{HoldsScalars, IsSomeTaken, IsTakenCell, IsTakenUnchecked}
-use Rattle.kohiblad.specs.Taking.{IsInt128, IsTruth}
+use Rattle.kohiblad.specs.Taking.{IsDate, IsInt128, IsTimestamp, IsTruth}
 use Rattle.kohiblad.specs.UncheckedRows.{IsReadAs}
 
 pub no_document : (b : List ℕ) (t : Tree) → Doc b t → b ≡ [] → ⊥
@@ -190,3 +190,11 @@ pub scalar_truths : HoldsScalars IsTruth
 scalar_truths v t is (b, (truth, same)) =
     container_cases (λ (u : Tree). u ≡ trees.boolean b → ⊥) t is (λ ts other. cc) (λ ps other. cc)
     same
+
+pub scalar_dates : HoldsScalars IsDate
+scalar_dates v t is same =
+    container_cases (λ (u : Tree). IsDate v u → ⊥) t is (λ ts other. cc) (λ ps other. cc) same
+
+pub scalar_timestamps : HoldsScalars IsTimestamp
+scalar_timestamps v t is same =
+    container_cases (λ (u : Tree). IsTimestamp v u → ⊥) t is (λ ts other. cc) (λ ps other. cc) same

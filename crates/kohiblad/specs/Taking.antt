@@ -1,6 +1,7 @@
 -- The members of rows as values of one type, as C receives them.
 use Rattle.std.specs.Prelude.{◌≡◌, ◌<◌, ◌≤◌, ◌⊎◌, ◌∷◌, ◌++◌, [], ℕ, Bool, true, false}
-use Rattle.std.specs.Prelude.{if◌then◌else◌, nat_le, zero, suc, List, map, length, drop}
+use Rattle.std.specs.Prelude.{if◌then◌else◌, nat_le, zero, suc, ℤ, List, map, length}
+use Rattle.std.specs.Prelude.{drop}
 use Rattle.std.specs.List.{AllZip}
 use Rattle.jsonb_value.specs.Meaning.{Meaning}
 use Rattle.jsonb_value.specs.Tree as trees
@@ -157,3 +158,11 @@ truth_byte false = 0
 -- The byte stands for the member, a truth value.
 abbrev pub IsTruth : ℕ → Tree → Type 0
 IsTruth v t = (b : Bool) × ((v ≡ truth_byte b) × (t ≡ trees.boolean b))
+
+-- The number stands for the member, a date.
+abbrev pub IsDate : ℤ → Tree → Type 0
+IsDate v t = t ≡ trees.extension (trees.date (record { value = v }))
+
+-- The number stands for the member, a timestamp without a time zone.
+abbrev pub IsTimestamp : ℤ → Tree → Type 0
+IsTimestamp v t = t ≡ trees.extension (trees.timestamp (record { value = v }))
