@@ -92,8 +92,8 @@ pub path_read : (text : List ℕ) (views : List SelectorView) (steps : List Step
 path_read text views steps are single = record {
   path = views;
   is = (are views).1 refl;
-  only = λ other_path spelled. let same : Some views ≡ Some other_path = (are other_path).0 spelled in
-      cc;
+  only = λ other_path spelled.
+      let same : Some views ≡ Some other_path = (are other_path).0 spelled in cc;
   single = single;
 }
 

@@ -233,7 +233,8 @@ no_filter text (Err x) other h = tt
 
 -- The path of a text.
 pub other_text : (text : List ℕ) → ((rest : List ℕ) → text ≡ 36 ∷ rest → ⊥)
-    → (p : List SelectorView) → StepsText text p ↔ ◌≡◌ {A = Option (List SelectorView)} None (Some p)
+    → (p : List SelectorView)
+    → StepsText text p ↔ ◌≡◌ {A = Option (List SelectorView)} None (Some p)
 other_text text other p = (λ h. absurd (other h.0 h.1), λ e. absurd (cc))
 
 starts_same : (text start : List ℕ) (p : List SelectorView) → text ≡ 36 ∷ start → StepsText text p
@@ -273,7 +274,7 @@ all_read text start left read e end h p = (
 -- A text without steps is not that of a path,
 pub without_steps : (text : List ℕ)
     → ((p : List SelectorView)
-      → StepsText text p ↔ ◌≡◌ {A = Option (List SelectorView)} None (Some p))
+    → StepsText text p ↔ ◌≡◌ {A = Option (List SelectorView)} None (Some p))
     → (p : List SelectorView)
     → PathText text p ↔ ◌≡◌ {A = Option (List SelectorView)} None (Some p)
 without_steps text none p = (λ is. (none p).0 is.steps, λ e. absurd (cc))

@@ -9,9 +9,9 @@ use jsonb::Node;
 use jsonb_typed::{ColumnType, Timestamps};
 use std::alloc::Global;
 
-/// Takes the members of rows at the end of a path as timestamps without a time zone, each the number
-/// that is stored for it. The format does not say what it counts; writers store the microseconds
-/// since 1970. All else is as `kohiblad_take_int64` has it.
+/// Takes the members of rows at the end of a path as timestamps without a time zone, each the
+/// number that is stored for it. The format does not say what it counts; writers store the
+/// microseconds since 1970. All else is as `kohiblad_take_int64` has it.
 #[tactic(auto, using(crate::proofs::UncheckedLaws::scalar_timestamps))]
 #[unsafe(no_mangle)]
 pub extern "C" fn kohiblad_take_timestamp(

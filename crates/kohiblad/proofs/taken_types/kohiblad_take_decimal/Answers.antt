@@ -20,7 +20,8 @@ returns-clause-taken c = λ small.
     c.fit_of-fit.ensures (rw c.checked-source.ensures at c.take.ensures) in
     subst
     (λ (scale : ℕ). AreTaken
-    (IsTakenRow (IsInt128 (fit_of c.args.fit) scale) (record { low = 0; high = pos 0 }) c.args.depth)
+    (IsTakenRow (IsInt128 (fit_of c.args.fit) scale) (record { low = 0; high = pos 0 })
+    c.args.depth)
     c.args.bytes.now c.args.offsets.now (meaning_within c.args.depth c.args.path.now)
     (record {
       values = c.args.values.now;
