@@ -3,3 +3,4 @@ pub mod RunLaws
 pub mod ValueLaws
 pub mod SortLaws
 pub mod KeyLaws
+pub mod RemovalLaws

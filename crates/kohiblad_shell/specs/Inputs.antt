@@ -3,6 +3,7 @@ use Rattle.std.specs.Prelude.{◌≡◌, ◌≢◌, ◌⊎◌, ◌<◌, ◌≤�
 use Rattle.std.specs.Prelude.{Bool, true, false, Option, Some, None, OnSome, ⊤}
 use Rattle.std.specs.Io.KnownBytes.{Consumes, IsAtEnd}
 use Rattle.answer_lines.specs.Lines.{IsLine}
+use Rattle.jsonb.specs.Texts.{display_text}
 use Rattle.jsonb_column.specs.Storage.{row_bytes}
 use Rattle.kohiblad_shell.specs.declared.input.Form.{Form}
 use Rattle.kohiblad_shell.specs.declared.input.Form.TheVariants.{Lines, Documents}
@@ -13,6 +14,11 @@ use Rattle.kohiblad_shell.specs.declared.input.Found.TheVariants.{Row, Cut, End}
 abbrev pub framed : Form → List ℕ → List ℕ
 framed Lines row = row ++ 10 ∷ []
 framed Documents row = row_bytes row
+
+-- The row of a document that was made: its text with a line feed, or itself after its length.
+abbrev pub made_row : Form → List ℕ → List ℕ
+made_row Lines bytes = display_text bytes ++ 10 ∷ []
+made_row Documents bytes = row_bytes bytes
 
 -- The first line of the bytes, and what follows it: a line ends at a line feed, or with the bytes
 -- if it is not empty.

@@ -7,5 +7,7 @@ pub mod Keys
 pub mod KeyProofs
 pub mod Sorts
 pub mod Rows
+pub mod Removals
+pub mod Ranges
 pub mod Operations
 pub mod Words

@@ -9,11 +9,10 @@ use Rattle.jsonb_value.specs.Text.{compact, pretty}
 use Rattle.jsonb_value.specs.Tree.{Tree, text}
 use Rattle.jsonb_codec.specs.Canon.{canon, Fits}
 use Rattle.jsonb.specs.Document.{document_tree, tree_in}
-use Rattle.jsonb.specs.Texts.{display_text}
 use Rattle.hex.specs.Hex.{encode_lower}
 use Rattle.jsonb_column.specs.Storage.{row_bytes}
 use Rattle.jsonb_functions.specs.Contains.{contains_whole}
-use Rattle.jsonb_functions.specs.Edited.{edited_whole, create, remove}
+use Rattle.jsonb_functions.specs.Edited.{edited_whole, create}
 use Rattle.jsonb_functions.specs.Patched.{patched}
 use Rattle.jsonb_functions.specs.Picked.{picked}
 use Rattle.jsonb_functions.specs.Selected.{selected, first_tree}
@@ -26,10 +25,10 @@ use Rattle.kohiblad_shell.specs.declared.operation.Operation.{Operation}
 use Rattle.kohiblad_shell.specs.declared.operation.Operation.TheVariants.{Check, Canonical, Get}
 use Rattle.kohiblad_shell.specs.declared.operation.Operation.TheVariants.{Select, Filter, Contains}
 use Rattle.kohiblad_shell.specs.declared.operation.Operation.TheVariants.{Encode, Decode, Key}
-use Rattle.kohiblad_shell.specs.declared.operation.Operation.TheVariants.{Sort}
+use Rattle.kohiblad_shell.specs.declared.operation.Operation.TheVariants.{Sort, Remove, Range}
 use Rattle.kohiblad_shell.specs.declared.operation.Operation.TheVariants as operations
 use Rattle.kohiblad_shell.specs.declared.operation.Change.{Change}
-use Rattle.kohiblad_shell.specs.declared.operation.Change.TheVariants.{Set, Remove, Merge, Pick}
+use Rattle.kohiblad_shell.specs.declared.operation.Change.TheVariants.{Set, Merge, Pick}
 use Rattle.kohiblad_shell.specs.declared.operation.Change.TheVariants.{StripNulls}
 use Rattle.kohiblad_shell.specs.declared.operation.TextLayout.{TextLayout}
 use Rattle.kohiblad_shell.specs.declared.operation.TextLayout.TheVariants.{Compact, Pretty}
@@ -39,7 +38,9 @@ use Rattle.kohiblad_shell.specs.declared.outcome.Reason.TheVariants.{TooLarge}
 use Rattle.kohiblad_shell.specs.declared.outcome.Unanswered.{Unanswered}
 use Rattle.kohiblad_shell.specs.Outcomes.{Outcome}
 use Rattle.kohiblad_shell.specs.Keys.{row_key}
-use Rattle.kohiblad_shell.specs.Inputs.{framed}
+use Rattle.kohiblad_shell.specs.Inputs.{framed, made_row}
+use Rattle.kohiblad_shell.specs.Ranges.{is_in_range}
+use Rattle.kohiblad_shell.specs.Removals.{IsRemoved}
 use Rattle.kohiblad_shell.specs.Rows.{IsRow, IsRowFault, unanswered_of}
 use Rattle.kohiblad_shell.specs.Sorts.{key_and_line}
 
@@ -94,6 +95,8 @@ row_lines (Filter path) form row bytes =
 row_lines (Contains part) form row bytes =
     kept_row form (contains_whole (tree_in bytes) (document_tree part)) row
 row_lines (operations.Change change) form row bytes = []
+row_lines (Remove paths) form row bytes = []
+row_lines (Range range) form row bytes = kept_row form (is_in_range range (tree_in bytes)) row
 row_lines Encode form row bytes = row_bytes bytes
 row_lines (Decode layout) form row bytes = document_line layout (tree_in bytes)
 row_lines (Key paths) form row bytes =
@@ -104,15 +107,9 @@ row_lines (Sort paths) form row bytes =
 -- The changed value.
 abbrev pub changed : Change → Tree → Tree
 changed (Set path value) t = edited_whole path.now (create (document_tree value)) t
-changed (Remove path) t = edited_whole path.now remove t
 changed (Merge patch) t = patched t (document_tree patch)
 changed (Pick names) t = picked names.now Named t
 changed StripNulls t = stripped t
-
--- The row of a document that was made: its text with a line feed, or itself after its length.
-abbrev pub made_row : Form → List ℕ → List ℕ
-made_row Lines bytes = display_text bytes ++ 10 ∷ []
-made_row Documents bytes = row_bytes bytes
 
 -- The row of a value that was made, by its canonical document, unless it is too large for one.
 abbrev pub IsMade : Form → Tree → Outcome → Type 0
@@ -129,6 +126,7 @@ IsCanonicalRow Lines t (Err fault) = ⊥
 abbrev pub IsRowAnswer : Operation → Form → List ℕ → List ℕ → Outcome → Type 0
 IsRowAnswer (operations.Change change) form row bytes outcome =
     IsMade form (changed change (tree_in bytes)) outcome
+IsRowAnswer (Remove paths) form row bytes outcome = IsRemoved form paths.now bytes outcome
 IsRowAnswer Canonical form row bytes outcome = IsCanonicalRow form (tree_in bytes) outcome
 IsRowAnswer operation form row bytes (Ok lines) = lines ≡ row_lines operation form row bytes
 IsRowAnswer operation form row bytes (Err fault) = ⊥

@@ -23,10 +23,13 @@ pub use Rattle.jsonb.specs.Owned.{owned_bytes}
 pub use Rattle.jsonb_functions.specs.MadeWithMemory.{MadeWithMemory}
 pub use Rattle.kohiblad_shell.specs.Faults.{bad_document, fault_line, is_cut, reason_name}
 pub use Rattle.kohiblad_shell.specs.Inputs.{AppendsHeld, ReadsLine, ReadsPart, ReadsRow, framed}
+pub use Rattle.kohiblad_shell.specs.Inputs.{made_row}
 pub use Rattle.kohiblad_shell.specs.Outcomes.{AnswersNext, IsAnswer, LineRule, row_count}
 pub use Rattle.kohiblad_shell.specs.Outcomes.{stops_at}
 pub use Rattle.kohiblad_shell.specs.Rows.{IsNotJson, IsParsed, IsRefusedLine, line_reason}
 pub use Rattle.kohiblad_shell.specs.Rows.{unanswered_of}
+pub use Rattle.kohiblad_shell.specs.Ranges.{is_in_range, is_tree_in}
+pub use Rattle.kohiblad_shell.specs.Removals.{IsRemoved, begins_path, path_count, without}
 pub use Rattle.kohiblad_shell.specs.Runs.{BeginsRun, IsRun}
 pub use Rattle.kohiblad_shell.specs.declared.input.Form.TheVariants.{Documents}
 pub use Rattle.kohiblad_shell.specs.declared.outcome.Unanswered.TheVariants.{OutOfMemory, Wrong}
@@ -35,5 +38,5 @@ pub use Rattle.jsonb.specs.Document.{document_bytes, document_tree}
 pub use Rattle.jsonb.specs.Node.{HoldsNoScalar, node_tree}
 pub use Rattle.kohiblad_shell.specs.Operations.{IsAnswered, IsCanonicalRow, IsResultOf}
 pub use Rattle.kohiblad_shell.specs.Operations.{IsRowAnswer, changed, document_line, kept_row}
-pub use Rattle.kohiblad_shell.specs.Operations.{made_row, raw_text, row_rule, text_of}
+pub use Rattle.kohiblad_shell.specs.Operations.{raw_text, row_rule, text_of}
 pub use Rattle.kohiblad_shell.specs.Operations.{value_line, value_lines}

@@ -21,6 +21,7 @@ enum CommandOption {
     Raw,
     Pretty,
     By,
+    ByOne,
     Reverse,
     Unique,
     Documents,
@@ -47,9 +48,24 @@ const VALUE: Operand = Operand {
     help: "A JSON text",
 };
 
+const FROM: Operand = Operand {
+    name: "FROM",
+    help: "A JSON text, the first value of the range",
+};
+
+const TO: Operand = Operand {
+    name: "TO",
+    help: "A JSON text, the first value after the range",
+};
+
 const STEPS: Operand = Operand {
     name: "PATH",
     help: "A path without wildcards, such as '$.lines[0].price'",
+};
+
+const REMOVED: Operand = Operand {
+    name: "PATH",
+    help: "A path without wildcards; words after it that begin with '$' are paths too",
 };
 
 const NAMES: Operand = Operand {
@@ -57,7 +73,7 @@ const NAMES: Operand = Operand {
     help: "Names with commas between them, such as id,who",
 };
 
-const COMMANDS: [CommandRow; 16] = [
+const COMMANDS: [CommandRow; 17] = [
     CommandRow {
         name: "check",
         about: "Report the lines that are not JSON",
@@ -116,8 +132,8 @@ const COMMANDS: [CommandRow; 16] = [
     },
     CommandRow {
         name: "remove",
-        about: "Remove what is at the end of a path, of each line",
-        operand: Some(STEPS),
+        about: "Remove what is at the ends of paths, of each line",
+        operand: Some(REMOVED),
         value: None,
         options: &[CommandOption::Documents],
     },
@@ -141,6 +157,13 @@ const COMMANDS: [CommandRow; 16] = [
         operand: None,
         value: None,
         options: &[CommandOption::Documents],
+    },
+    CommandRow {
+        name: "range",
+        about: "Write the lines whose value lies from one up to before another",
+        operand: Some(FROM),
+        value: Some(TO),
+        options: &[CommandOption::Documents, CommandOption::ByOne],
     },
     CommandRow {
         name: "sort",
@@ -234,6 +257,10 @@ fn option_of<'a>(alloc: Global, option: CommandOption) -> Arg<'a> {
             .value_name("PATH")
             .help("A path to the value that decides; with several the first one decides first")
             .action(ArgAction::Append),
+        CommandOption::ByOne => Arg::new(alloc, "by")
+            .long("by")
+            .value_name("PATH")
+            .help("A path to the value that decides"),
         CommandOption::Reverse => Arg::new(alloc, "reverse")
             .long("reverse")
             .help("Write the last one first")
@@ -281,6 +308,11 @@ pub fn value_in<'a>(arguments: &ArgMatches<'a>) -> &'a str {
         Some(value) => value,
         None => "",
     }
+}
+
+/// The words after the operands: files, and before them more paths where a command takes several.
+pub fn words_in<'m, 'a>(arguments: &'m ArgMatches<'a>) -> Option<&'m [&'a str]> {
+    arguments.get_strs("file")
 }
 
 /// How values are to be written.

@@ -10,6 +10,8 @@ mod input;
 mod key;
 mod operation;
 mod outcome;
+mod range;
+mod removal;
 mod row;
 mod run;
 mod sort;
@@ -18,14 +20,17 @@ mod write;
 
 use arguments::{
     arrangement_in, commands, form_in, layout_in, operand_in, stops_in, style_in, value_in,
+    words_in,
 };
 use clap::ArgMatches;
 use halt::{Halt, halt_of_write};
 use input::Form;
 use jsonb::{Document, OwnedJsonb};
-use jsonb_functions::{Selector, read_path_text, steps_of_path};
+use jsonb_functions::{Selector, Step, read_path_text, steps_of_path};
 use operation::{Change, Job, Operation};
 use outcome::Unanswered;
+use range::ValueRange;
+use removal::path_count;
 use row::parse_line;
 use run::{Plan, Summary};
 use sort::{Arrangement, sort_rows};
@@ -101,6 +106,12 @@ fn run_command(rt: &HostRuntime, name: &str, arguments: &ArgMatches<'_>) -> u8 {
         decode(rt, arguments)
     } else if name == "sort" || name == "keys" {
         with_paths(rt, name, arguments)
+    } else if name == "set" {
+        with_steps(rt, arguments)
+    } else if name == "remove" {
+        with_removals(rt, arguments)
+    } else if name == "range" {
+        with_bounds(rt, arguments)
     } else {
         with_path(rt, name, arguments)
     }
@@ -153,10 +164,9 @@ fn with_paths(rt: &HostRuntime, name: &str, arguments: &ArgMatches<'_>) -> u8 {
     let mut paths = Vec::new(rt.alloc());
     if let Some(texts) = arguments.get_strs("by") {
         for text in texts {
-            let path = match read_path_text(rt.alloc(), *text) {
-                Ok(Some(path)) => path,
-                Ok(None) => return misuse(rt, "a path after --by is none, such as '$.price'"),
-                Err(_) => return failure(rt, Halt::Memory),
+            let path = match deciding_path(rt, *text) {
+                Ok(path) => path,
+                Err(status) => return status,
             };
             if paths.push(path).is_err() {
                 return failure(rt, Halt::Memory);
@@ -226,34 +236,113 @@ fn with_path(rt: &HostRuntime, name: &str, arguments: &ArgMatches<'_>) -> u8 {
         write_rows(rt, Operation::Select(&path, style), arguments)
     } else if name == "filter" {
         write_rows(rt, Operation::Filter(&path), arguments)
-    } else if name == "count" {
-        count(rt, &path, arguments)
     } else {
-        with_steps(rt, name, &path, arguments)
+        count(rt, &path, arguments)
     }
 }
 
-// Runs a command whose operand is a path without wildcards, ranges and filters.
-fn with_steps(
-    rt: &HostRuntime,
-    name: &str,
-    path: &[Selector<'_>],
-    arguments: &ArgMatches<'_>,
-) -> u8 {
-    let steps = match steps_of_path(rt.alloc(), path) {
-        Ok(Some(steps)) => steps,
-        Ok(None) => return misuse(rt, "the path may have no wildcards, ranges and filters"),
-        Err(_) => return failure(rt, Halt::Memory),
+// Runs the command whose operands are a path without wildcards, ranges and filters, and a value.
+fn with_steps(rt: &HostRuntime, arguments: &ArgMatches<'_>) -> u8 {
+    let steps = match steps_in(rt, operand_in(arguments)) {
+        Ok(steps) => steps,
+        Err(status) => return status,
     };
-    if name == "remove" {
-        return write_rows(rt, Operation::Change(Change::Remove(&steps)), arguments);
-    }
     match document_of(rt, value_in(arguments)) {
         Ok(owned) => {
             let value = Document::new_unchecked(owned.as_bytes());
             write_rows(rt, Operation::Change(Change::Set(&steps, value)), arguments)
         }
         Err(status) => status,
+    }
+}
+
+// Runs the command whose operands are paths, which come before the files.
+fn with_removals(rt: &HostRuntime, arguments: &ArgMatches<'_>) -> u8 {
+    let mut paths = Vec::new(rt.alloc());
+    if let Err(status) = push_steps(rt, &mut paths, operand_in(arguments)) {
+        return status;
+    }
+    let words = words_in(arguments).unwrap_or(&[]);
+    for text in &words[..path_count(words)] {
+        if let Err(status) = push_steps(rt, &mut paths, *text) {
+            return status;
+        }
+    }
+    write_rows(rt, Operation::Remove(&paths), arguments)
+}
+
+// Runs the command whose operands are the bounds of a range.
+fn with_bounds(rt: &HostRuntime, arguments: &ArgMatches<'_>) -> u8 {
+    let path = match deciding_path_in(rt, arguments) {
+        Ok(path) => path,
+        Err(status) => return status,
+    };
+    let from = match document_of(rt, operand_in(arguments)) {
+        Ok(from) => from,
+        Err(status) => return status,
+    };
+    match document_of(rt, value_in(arguments)) {
+        Ok(to) => {
+            let range = ValueRange {
+                path: &path,
+                from: Document::new_unchecked(from.as_bytes()),
+                to: Document::new_unchecked(to.as_bytes()),
+            };
+            write_rows(rt, Operation::Range(range), arguments)
+        }
+        Err(status) => status,
+    }
+}
+
+// The path to the value that decides, which is the row itself if none is named.
+fn deciding_path_in<'a>(
+    rt: &HostRuntime,
+    arguments: &ArgMatches<'a>,
+) -> Result<Vec<Selector<'a>>, u8> {
+    match arguments.get_str("by") {
+        Some(text) => deciding_path(rt, text),
+        None => Ok(Vec::new(rt.alloc())),
+    }
+}
+
+// A path after `--by`, or the status after its fault is reported.
+fn deciding_path<'a>(rt: &HostRuntime, text: &'a str) -> Result<Vec<Selector<'a>>, u8> {
+    match read_path_text(rt.alloc(), text) {
+        Ok(Some(path)) => Ok(path),
+        Ok(None) => Err(misuse(rt, "a path after --by is none, such as '$.price'")),
+        Err(_) => Err(failure(rt, Halt::Memory)),
+    }
+}
+
+// Adds the steps of a path, or returns the status after its fault is reported.
+fn push_steps<'a>(
+    rt: &HostRuntime,
+    paths: &mut Vec<Vec<Step<'a>>>,
+    text: &'a str,
+) -> Result<(), u8> {
+    let steps = steps_in(rt, text)?;
+    match paths.push(steps) {
+        Ok(()) => Ok(()),
+        Err(_) => Err(failure(rt, Halt::Memory)),
+    }
+}
+
+// The steps of a path without wildcards, ranges and filters, or the status after its fault is
+// reported.
+fn steps_in<'a>(rt: &HostRuntime, text: &'a str) -> Result<Vec<Step<'a>>, u8> {
+    let alloc = rt.alloc();
+    let path = match read_path_text(alloc, text) {
+        Ok(Some(path)) => path,
+        Ok(None) => return Err(misuse(rt, "the operand is not a path, such as '$.price'")),
+        Err(_) => return Err(failure(rt, Halt::Memory)),
+    };
+    match steps_of_path(alloc, &path) {
+        Ok(Some(steps)) => Ok(steps),
+        Ok(None) => {
+            let what = "the path may have no wildcards, ranges and filters";
+            Err(misuse(rt, what))
+        }
+        Err(_) => Err(failure(rt, Halt::Memory)),
     }
 }
 
@@ -325,9 +414,10 @@ fn run_files<W: Write>(
         stops_at_faults,
     };
     let goes_on = !stops_at_faults && matches!(job.operation, Operation::Check);
-    let Some(names) = arguments.get_strs("file") else {
+    let names = files_of(job.operation, words_in(arguments).unwrap_or(&[]));
+    if names.is_empty() {
         return run_reader(rt, job, plan, rt.reader(), writer);
-    };
+    }
     for name in names {
         let Ok(file) = File::open(rt, *name) else {
             let _ = eprintln!(rt; "kohiblad: cannot open {name}");
@@ -340,6 +430,14 @@ fn run_files<W: Write>(
         }
     }
     Ok(total)
+}
+
+// The files among the words after an operand.
+fn files_of<'m, 'a>(operation: Operation<'_>, words: &'m [&'a str]) -> &'m [&'a str] {
+    match operation {
+        Operation::Remove(_) => &words[path_count(words)..],
+        _ => words,
+    }
 }
 
 // Runs a job on the rows of a reader.

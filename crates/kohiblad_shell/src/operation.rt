@@ -13,8 +13,10 @@ ghost use Rattle.kohiblad_shell.specs.Words.{value_lines};
 use crate::input::Form;
 use crate::key::row_key;
 use crate::outcome::{LineWorker, Unanswered};
+use crate::range::{ValueRange, is_in_range};
+use crate::removal::removed_row;
 use crate::row::{check_document, parse_line};
-use jsonb::{Document, Error, Node, OwnedJsonb};
+use jsonb::{Document, Error, Node, OwnedJsonb, RawJsonb};
 use jsonb_column::append_row;
 use jsonb_functions::{
     Edit, Kept, Selector, Step, contains, edit_document, exists_path, merge_patch, pick, select,
@@ -64,6 +66,11 @@ pub enum Operation<'a> {
     Contains(Document<'a>),
     /// Writes the changed value as a compact text, or as its canonical document.
     Change(Change<'a>),
+    /// Writes what is left of the value, as a compact text or as its canonical document, after what
+    /// is at the end of each path is removed, one after the other.
+    Remove(&'a [Vec<Step<'a>>]),
+    /// Writes the row if its value lies in a range.
+    Range(ValueRange<'a>),
     /// Writes the document of the row, after its length, as a column stores it.
     Encode,
     /// Writes the text of the document.
@@ -79,8 +86,6 @@ pub enum Operation<'a> {
 pub enum Change<'a> {
     /// A value is put at the end of a path, and what the path lacks is made.
     Set(&'a [Step<'a>], Document<'a>),
-    /// What is at the end of a path is removed.
-    Remove(&'a [Step<'a>]),
     /// A JSON Merge Patch is applied.
     Merge(Document<'a>),
     /// The members of these names are kept, and no others.
@@ -136,7 +141,11 @@ fn row_lines(
         Operation::Select(path, style) => all_lines(alloc, &select(alloc, document, path)?, style),
         Operation::Filter(path) => kept_row(alloc, form, row, exists_path(document, path)),
         Operation::Contains(part) => kept_row(alloc, form, row, contains(alloc, document, part)?),
-        Operation::Change(change) => made_row(alloc, form, changed(alloc, change, document)?),
+        Operation::Change(change) => {
+            made_row(alloc, form, changed(alloc, change, document)?.as_bytes())
+        }
+        Operation::Remove(paths) => removed_row(alloc, form, document.as_bytes(), paths),
+        Operation::Range(range) => kept_row(alloc, form, row, is_in_range(document, range)),
         Operation::Encode => framed_row(alloc, Form::Documents, document.as_bytes()),
         Operation::Decode(layout) => document_line(alloc, document, layout),
         Operation::Key(paths) => key_line(alloc, document, paths),
@@ -151,18 +160,18 @@ fn canonical_row(alloc: Global, form: Form, document: Document<'_>) -> Result<Ve
 {
     match form {
         Form::Lines => text_line(document.to_string(alloc)?),
-        Form::Documents => made_row(alloc, form, document.to_canonical(alloc)?),
+        Form::Documents => made_row(alloc, form, document.to_canonical(alloc)?.as_bytes()),
     }
 }
 
-// The row of a value that was made.
-fn made_row(alloc: Global, form: Form, made: OwnedJsonb) -> Result<Vec<u8>, Error>
-    ensures ok { IfOk result (λ row. row.items ≡ made_row form (owned_bytes made)) }
+/// The row of a document that was made. `OutOfMemory` is the only error.
+pub fn made_row(alloc: Global, form: Form, made: &[u8]) -> Result<Vec<u8>, Error>
+    ensures ok { IfOk result (λ row. row.items ≡ made_row form made.now) }
     ensures memory { IfErr result (λ e. e ≡ Error.OutOfMemory) }
 {
     match form {
-        Form::Lines => text_line(made.as_raw().to_string(alloc)?),
-        Form::Documents => framed_row(alloc, form, made.as_bytes()),
+        Form::Lines => text_line(RawJsonb::new(made).to_string(alloc)?),
+        Form::Documents => framed_row(alloc, form, made),
     }
 }
 
@@ -191,7 +200,6 @@ fn changed(alloc: Global, change: Change<'_>, document: Document<'_>) -> Result<
 {
     match change {
         Change::Set(path, value) => edit_document(alloc, document, path, Edit::Create(value)),
-        Change::Remove(path) => edit_document(alloc, document, path, Edit::Remove),
         Change::Merge(patch) => merge_patch(alloc, document, patch),
         Change::Pick(names) => pick(alloc, document, names, Kept::Named),
         Change::StripNulls => strip_nulls(alloc, document),
