@@ -4,3 +4,4 @@ pub mod ValueLaws
 pub mod SortLaws
 pub mod KeyLaws
 pub mod RemovalLaws
+pub mod ArgumentLaws

@@ -10,4 +10,5 @@ pub mod Rows
 pub mod Removals
 pub mod Ranges
 pub mod Operations
+pub mod Arguments
 pub mod Words

@@ -21,6 +21,9 @@ pub use Rattle.jsonb_codec.specs.Doc.{IsDocument}
 pub use Rattle.json_fault.specs.Fault.{IsJsonWithExponents}
 pub use Rattle.jsonb.specs.Owned.{owned_bytes}
 pub use Rattle.jsonb_functions.specs.MadeWithMemory.{MadeWithMemory}
+pub use Rattle.clap.specs.Matches.{first_value, found_of}
+pub use Rattle.kohiblad_shell.specs.Arguments.{IsFlag, are_documents, is_pretty, is_raw}
+pub use Rattle.kohiblad_shell.specs.Arguments.{stops_of, value_of, values_of}
 pub use Rattle.kohiblad_shell.specs.Faults.{bad_document, fault_line, is_cut, reason_name}
 pub use Rattle.kohiblad_shell.specs.Inputs.{AppendsHeld, ReadsLine, ReadsPart, ReadsRow, framed}
 pub use Rattle.kohiblad_shell.specs.Inputs.{made_row}

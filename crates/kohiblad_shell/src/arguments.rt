@@ -1,5 +1,9 @@
 //! The commands of the program, and their arguments.
 
+ghost use Rattle.std.specs.Prelude.{◌≡◌, codes, map, option_map};
+ghost use Rattle.kohiblad_shell.specs.Words.{IsFlag, are_documents, first_value, found_of};
+ghost use Rattle.kohiblad_shell.specs.Words.{is_pretty, is_raw, stops_of, value_of, values_of};
+
 use crate::input::Form;
 use crate::operation::{Style, TextLayout};
 use crate::sort::Arrangement;
@@ -294,16 +298,20 @@ fn files<'a>(alloc: Global) -> Arg<'a> {
         .num_args(0..)
 }
 
-/// The operand that was given to a command: a path, or a JSON text.
-pub fn operand_in<'a>(arguments: &ArgMatches<'a>) -> &'a str {
+/// The operand that was given to a command: a path, or a JSON text; empty if there is none.
+pub fn operand_in<'a>(arguments: &ArgMatches<'a>) -> &'a str
+    ensures { result.now ≡ value_of arguments.now (codes "operand") }
+{
     match arguments.get_str("operand") {
         Some(operand) => operand,
         None => "",
     }
 }
 
-/// The second operand that was given to a command: a JSON text.
-pub fn value_in<'a>(arguments: &ArgMatches<'a>) -> &'a str {
+/// The second operand that was given to a command: a JSON text; empty if there is none.
+pub fn value_in<'a>(arguments: &ArgMatches<'a>) -> &'a str
+    ensures { result.now ≡ value_of arguments.now (codes "value") }
+{
     match arguments.get_str("value") {
         Some(value) => value,
         None => "",
@@ -311,48 +319,70 @@ pub fn value_in<'a>(arguments: &ArgMatches<'a>) -> &'a str {
 }
 
 /// The words after the operands: files, and before them more paths where a command takes several.
-pub fn words_in<'m, 'a>(arguments: &'m ArgMatches<'a>) -> Option<&'m [&'a str]> {
+pub fn words_in<'m, 'a>(arguments: &'m ArgMatches<'a>) -> Option<&'m [&'a str]>
+    ensures { option_map (λ words. map (λ word. word.now) words.now) result
+        ≡ values_of arguments.now (codes "file") }
+{
     arguments.get_strs("file")
 }
 
-/// How values are to be written.
-pub fn style_in(arguments: &ArgMatches<'_>) -> Style {
-    if arguments.get_flag("raw") {
+// Whether a flag is set.
+fn has_flag(arguments: &ArgMatches<'_>, id: &str) -> bool
+    ensures { IsFlag arguments.now id.now result }
+{
+    arguments.get_flag(id)
+}
+
+/// How values are to be written: raw if the flag says so.
+pub fn style_in(arguments: &ArgMatches<'_>) -> Style
+    ensures { IsFlag arguments.now (codes "raw") (is_raw result) }
+{
+    if has_flag(arguments, "raw") {
         Style::Raw
     } else {
         Style::Json
     }
 }
 
-/// How documents are to be laid out.
-pub fn layout_in(arguments: &ArgMatches<'_>) -> TextLayout {
-    if arguments.get_flag("pretty") {
+/// How documents are to be laid out: on several lines if the flag says so.
+pub fn layout_in(arguments: &ArgMatches<'_>) -> TextLayout
+    ensures { IsFlag arguments.now (codes "pretty") (is_pretty result) }
+{
+    if has_flag(arguments, "pretty") {
         TextLayout::Pretty
     } else {
         TextLayout::Compact
     }
 }
 
-/// In which form rows are read and written.
-pub fn form_in(arguments: &ArgMatches<'_>) -> Form {
-    if arguments.get_flag("documents") {
+/// In which form rows are read and written: as documents if the flag says so.
+pub fn form_in(arguments: &ArgMatches<'_>) -> Form
+    ensures { IsFlag arguments.now (codes "documents") (are_documents result) }
+{
+    if has_flag(arguments, "documents") {
         Form::Documents
     } else {
         Form::Lines
     }
 }
 
-/// How sorted rows are to be arranged.
-pub fn arrangement_in(arguments: &ArgMatches<'_>) -> Arrangement {
+/// How sorted rows are to be arranged, by two flags.
+pub fn arrangement_in(arguments: &ArgMatches<'_>) -> Arrangement
+    ensures reversed { IsFlag arguments.now (codes "reverse") result.is_reversed }
+    ensures unique { IsFlag arguments.now (codes "unique") result.is_unique }
+{
     Arrangement {
-        is_reversed: arguments.get_flag("reverse"),
-        is_unique: arguments.get_flag("unique"),
+        is_reversed: has_flag(arguments, "reverse"),
+        is_unique: has_flag(arguments, "unique"),
     }
 }
 
 /// Whether the run is to end at the first line that is wrong, where `otherwise` holds if the
 /// arguments do not say.
-pub fn stops_in(arguments: &ArgMatches<'_>, otherwise: bool) -> bool {
+pub fn stops_in(arguments: &ArgMatches<'_>, otherwise: bool) -> bool
+    ensures { result
+        ≡ stops_of (first_value (found_of arguments.now) (codes "on-error")) otherwise }
+{
     match arguments.get_str("on-error") {
         Some(word) => word == "stop",
         None => otherwise,
