@@ -638,8 +638,8 @@ def any_step(chance, kinds=ALL_STEPS):
     return kind,
 
 
-def any_path(chance):
-    """A path with at most one list of indexes."""
+def any_wildcard_path(chance):
+    """A path with wildcards, and at most one list of indexes."""
     path = []
     for _ in range(chance.randint(0, MOST_STEPS)):
         has_list = any(kind == "list" for kind, *_ in path)
@@ -779,7 +779,7 @@ def asks_strip_nulls(chance, left, right):
 
 
 def asks_select(chance, left, right):
-    path = any_path(chance)
+    path = any_wildcard_path(chance)
     stored, text = document(left), path_text(chance, path)
     status, places = places_of(stored, text, depth_of(left))
     assert status == OK
