@@ -692,7 +692,7 @@ def names_text(chance, names):
     return "{%s}" % ",".join(quoted(chance, it) for it in names)
 
 
-def any_names(chance, value):
+def any_path_names(chance, value):
     """Names that are likely to lead somewhere."""
     names = []
     while chance.random() < 0.8:
@@ -709,7 +709,7 @@ def any_names(chance, value):
 
 
 def asks_names(chance, left, right):
-    names, depth = any_names(chance, left), max(depth_of(left), 1)
+    names, depth = any_path_names(chance, left), max(depth_of(left), 1)
     text = names_text(chance, names).encode()
     answer = bytes_of("path_in", document(left), text, SIZE(depth))
     assert answer == (OK, path_document(steps_of(names, left), stored=False)), text
