@@ -212,7 +212,7 @@ fn build_items<'a>(alloc: Global, items: Children<'a>) -> Result<Vec<Value<'a>>,
     ensures memory { IfErr result (λ e. e ≡ Error.OutOfMemory) }
 {
     let mut left = items;
-    let mut built = Vec::with_capacity(alloc, items.entries.len() / 4)?;
+    let mut built = Vec::with_capacity(alloc, items.len())?;
     while let Some(child) = left.split_first() {
         push_part(alloc, &mut built, child.part)?;
         left = child.later;
@@ -228,7 +228,7 @@ fn build_members<'a>(alloc: Global, members: Members<'a>) -> Result<Object<'a>, 
         → pairs_view m.entries ≡ ps) }
     ensures memory { IfErr result (λ e. e ≡ Error.OutOfMemory) }
 {
-    if members.keys.entries.len() > 4 * LEAF_PAIRS {
+    if members.keys.len() > LEAF_PAIRS {
         return build_many(alloc, members);
     }
     let mut left = members;
@@ -251,7 +251,7 @@ fn build_many<'a>(alloc: Global, members: Members<'a>) -> Result<Object<'a>, Err
     ensures memory { IfErr result (λ e. e ≡ Error.OutOfMemory) }
 {
     let mut left = members;
-    let mut built = Vec::with_capacity(alloc, members.keys.entries.len() / 4)?;
+    let mut built = Vec::with_capacity(alloc, members.keys.len())?;
     while let Some(member) = left.split_first() {
         let key = String::from_str(alloc, member.key)?;
         push_pair(alloc, &mut built, key, member.value)?;

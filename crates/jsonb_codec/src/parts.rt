@@ -180,6 +180,7 @@ fn entry_words(tag: u32, count: usize) -> usize
 
 impl<'a> Children<'a> {
     ghost use Rattle.std.specs.Prelude.{◌+◌, ◌++◌, ◌≤◌, IfSome, IfNone};
+    ghost use Rattle.jsonb_value.specs.Tree.{count};
     ghost use Rattle.jsonb_codec.specs.Words.{Trees, no_trees, word, AreChildren, FirstChild};
 
     /// The first child, and the children after it. `None` if there is none.
@@ -214,6 +215,15 @@ impl<'a> Children<'a> {
                 payloads,
             },
         })
+    }
+
+    /// The number of children.
+    #[inline(always)]
+    pub fn len(self) -> usize
+        ensures count { (ts : Trees) → AreChildren ts self.entry → result ≡ count ts }
+        ensures entries { length self.entry.entries.now ≡ 4 * result }
+    {
+        self.entries.len() / 4
     }
 
     /// The length of the entry words and the payloads in bytes.

@@ -110,7 +110,7 @@ impl<'a> Source for Part<'a> {
     #[inline(always)]
     #[tactic(auto, using(crate::proofs::PartLaws::items_count))]
     fn count(items: Children<'a>) -> usize {
-        items.entries.len() / 4
+        items.len()
     }
 
     #[inline(always)]
@@ -132,7 +132,7 @@ impl<'a> Source for Part<'a> {
     #[inline(always)]
     #[tactic(auto, using(crate::proofs::PartLaws::members_count))]
     fn members_left(members: &Members<'a>) -> usize {
-        members.values.entries.len() / 4
+        members.values.len()
     }
 
     #[inline(always)]
