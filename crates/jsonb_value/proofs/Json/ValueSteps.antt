@@ -3,7 +3,7 @@ use Rattle.std.proofs.Common.{◌≡◌, ℕ, zero, suc, ◌<◌, ◌≤◌, ref
 use Rattle.std.proofs.Common.{ap, ◌∙◌, List, [], ◌∷◌, length, arith, Option, Some}
 use Rattle.std.proofs.Common.{None, Result, Ok, Err, ◌⊎◌}
 use Rattle.std.specs.Prelude.{IsErrAnd}
-use Rattle.std.specs.Prelude.{IfErr}
+use Rattle.std.specs.Prelude.{IfErr, IfOk}
 use Rattle.jsonb_value.specs.declared.parser.number.Exponents.{Exponents}
 use Rattle.jsonb_value.specs.Tree.{Tree}
 use Rattle.jsonb_value.specs.Json.Characters.{quote, colon}
@@ -34,10 +34,6 @@ pub all_sure : {X Y : Type 0} (A : Type 0) (r : Result X Error) (read : Option Y
     → IfErr r (λ e. FailsIf A e read) → IfErr r (λ e. Fails e read)
 all_sure A (Ok x) read a fails = tt
 all_sure A (Err e) read a fails = fails_sure A e read a fails
-
-pub fails_less : {Y : Type 0} (A B : Type 0) (e : Error) (read : Option Y) → (B → A)
-    → FailsIf A e read → FailsIf B e read
-fails_less A B e read less fails = grind arith
 
 pub fails_as : {Y : Type 0} (A : Type 0) (e : Error) (read : Option Y) → FailsIf A e read
     → (e ≡ InvalidJson) ⊎ (e ≡ OutOfMemory)
@@ -119,3 +115,8 @@ pub err_as : {X : Type 0} (r : Result X Error) (P Q : Error → Type 0) → IfEr
     → ((e : Error) → P e → Q e) → IfErr r Q
 err_as (Ok x) P Q h turn = tt
 err_as (Err e) P Q h turn = turn e h
+
+pub ok_as : {X : Type 0} (r : Result X Error) (P Q : X → Type 0) → IfOk r P
+    → ((x : X) → P x → Q x) → IfOk r Q
+ok_as (Ok x) P Q h turn = turn x h
+ok_as (Err e) P Q h turn = tt

@@ -2,20 +2,22 @@
 //! and bracket of a text.
 //! Nested values take no stack: of each open container it keeps whether it is an object.
 
-ghost use Rattle.std.specs.Prelude.{◌≡◌, ◌↔◌, ℕ, ◌<◌, ◌≤◌, List, [], ◌∷◌, length, chars, Option, Some};
-ghost use Rattle.std.specs.Prelude.{Bool, IfOk, IfErr, OnOk, OnErr};
+ghost use Rattle.std.specs.Prelude.{◌≡◌, ◌↔◌, ℕ, ◌<◌, ◌≤◌, List, [], ◌∷◌, length, chars, Option};
+ghost use Rattle.std.specs.Prelude.{Bool, IfOk, IfErr, None, OnOk, Some, codes};
 ghost use Rattle.jsonb_value.specs.declared.parser.number.Exponents.{Exponents};
-ghost use Rattle.jsonb_value.specs.Tree.{Tree, text as text_tree};
+ghost use Rattle.jsonb_value.specs.Tree.{Tree, null, boolean, number, text as text_tree};
+ghost use Rattle.jsonb_value.specs.declared.number.Number.{Number};
 ghost use Rattle.jsonb_value.specs.Reader.Gives.{Fails, FailsIf, FailsString, Gives, GivesString};
 ghost use Rattle.jsonb_value.specs.Reader.Kind.{kind_view};
 ghost use Rattle.jsonb_value.specs.Reader.OpenKinds.{kinds_held};
-ghost use Rattle.jsonb_value.specs.Reader.Reading.{read_document, read_word, kind_begun};
+ghost use Rattle.jsonb_value.specs.Reader.Reading.{kind_begun, read_document, read_number};
+ghost use Rattle.jsonb_value.specs.Reader.Reading.{read_word};
 ghost use Rattle.jsonb_value.specs.Reader.Resume.{Adds, AddsKey, IsAtValue, IsAfterValue};
 ghost use Rattle.jsonb_value.specs.Reader.Resume.{IsAtKey};
 ghost use Rattle.jsonb_value.specs.Reader.IsAt.{IsAtStep, left};
 ghost use Rattle.jsonb_value.specs.Reader.IsWithin.{IsWithin, IsStepWithin};
 ghost use Rattle.jsonb_value.specs.TextDepth.{text_depth};
-ghost use Rattle.jsonb_value.specs.Reader.Resume.{Content, going, members, whole};
+ghost use Rattle.jsonb_value.specs.Reader.Resume.{Content, going, innermost, members, whole};
 ghost use Rattle.jsonb_value.specs.Json.Syntax.{Entries, JsonText};
 ghost use Rattle.jsonb_value.specs.Json.Characters.{open_bracket, open_brace};
 
@@ -72,6 +74,57 @@ pub enum Step<'a> {
     End,
 }
 
+// Gives the sink null, from after its first character; returns the text after it.
+#[inline(always)]
+fn give_null<'a, S: Sink<'a>>(sink: &mut S, text: &'a str) -> Result<&'a str, Error>
+    ensures ok { IfOk result (λ after.
+        (read_word (codes "ull") null (chars text.now) ≡ Some (null, chars after.now))
+        × Adds S.is sink.old sink.new null) }
+    ensures err { IfErr result (λ e. Fails e (read_word (codes "ull") null (chars text.now))) }
+{
+    let after = read_word(text, &['u', 'l', 'l'])?;
+    sink.null()?;
+    Ok(after)
+}
+
+// Gives the sink a truth value, if the text begins with the rest of its word; returns the text
+// after that.
+#[inline(always)]
+fn give_truth<'a, S: Sink<'a>>(
+    sink: &mut S,
+    truth: bool,
+    word: &[char],
+    text: &'a str,
+) -> Result<&'a str, Error>
+    ensures ok { IfOk result (λ after. (read_word word.now (boolean truth) (chars text.now)
+        ≡ Some (boolean truth, chars after.now)) × Adds S.is sink.old sink.new (boolean truth)) }
+    ensures err { IfErr result
+        (λ e. Fails e (read_word word.now (boolean truth) (chars text.now))) }
+{
+    let after = read_word(text, word)?;
+    sink.truth(truth)?;
+    Ok(after)
+}
+
+// Gives the sink a number; returns the text after it.
+#[inline(always)]
+fn give_number<'a, S: Sink<'a>>(
+    sink: &mut S,
+    exponents: Exponents,
+    text: &'a str,
+) -> Result<&'a str, Error>
+    ensures ok { IfOk result (λ after. (n : Number)
+        × ((read_number exponents (chars text.now) ≡ Some (n, chars after.now))
+        × Adds S.is sink.old sink.new (number n))) }
+    ensures err { IfErr result (λ e. Fails e (read_number exponents (chars text.now))) }
+{
+    let Some((number, after)) = read_number(exponents, text) else {
+        return Err(Error::InvalidJson);
+    };
+    sink.number(number)?;
+    Ok(after)
+}
+
 // Gives the sink a string, from after its opening quote; returns the text after its closing quote.
 #[inline(always)]
 fn give_string<'a, S: Sink<'a>>(
@@ -118,6 +171,20 @@ fn give_key<'a, S: Sink<'a>>(
     Ok(after)
 }
 
+// Ends the text after a value: nothing may be left of it, and no container be open.
+fn end_text<'a>(kinds: &OpenKinds, rest: &str) -> Result<Step<'a>, Error>
+    ensures ok { IfOk result (λ step. (step ≡ Step.End) × ((chars rest.now ≡ [])
+        × (innermost (kinds_held kinds.now) ≡ None))) }
+    ensures err { IfErr result (λ e. (e ≡ Error.InvalidJson) × (chars rest.now ≡ []
+        → innermost (kinds_held kinds.now) ≡ None → ⊥)) }
+{
+    if rest.is_empty() && kinds.innermost().is_none() {
+        Ok(Step::End)
+    } else {
+        Err(Error::InvalidJson)
+    }
+}
+
 // Reads what follows a value: a comma, the end of its container, or the end of the text.
 fn go_on<'a, S: Sink<'a>>(
     sink: &mut S,
@@ -139,10 +206,7 @@ fn go_on<'a, S: Sink<'a>>(
 {
     let rest = skip_blank(text);
     let Some((mark, after)) = split_ascii(rest) else {
-        return match kinds.innermost() {
-            None if rest.is_empty() => Ok(Step::End),
-            _ => Err(Error::InvalidJson),
-        };
+        return end_text(kinds, rest);
     };
     let Some(is_object) = kinds.innermost() else {
         return Err(Error::InvalidJson);
@@ -196,32 +260,11 @@ fn begin<'a, S: Sink<'a>>(
     match kind_of(first) {
         Kind::Array => begin_array(sink, kinds, text),
         Kind::Object => begin_object(sink, kinds, content, text),
-        Kind::Null => {
-            let after = read_word(rest, &['u', 'l', 'l'])?;
-            sink.null()?;
-            Ok(Step::After(after))
-        }
-        Kind::True => {
-            let after = read_word(rest, &['r', 'u', 'e'])?;
-            sink.truth(true)?;
-            Ok(Step::After(after))
-        }
-        Kind::False => {
-            let after = read_word(rest, &['a', 'l', 's', 'e'])?;
-            sink.truth(false)?;
-            Ok(Step::After(after))
-        }
-        Kind::String => {
-            let after = give_string(sink, content, rest)?;
-            Ok(Step::After(after))
-        }
-        Kind::Number => {
-            let Some((number, after)) = read_number(exponents, text) else {
-                return Err(Error::InvalidJson);
-            };
-            sink.number(number)?;
-            Ok(Step::After(after))
-        }
+        Kind::Null => Ok(Step::After(give_null(sink, rest)?)),
+        Kind::True => Ok(Step::After(give_truth(sink, true, &['r', 'u', 'e'], rest)?)),
+        Kind::False => Ok(Step::After(give_truth(sink, false, &['a', 'l', 's', 'e'], rest)?)),
+        Kind::String => Ok(Step::After(give_string(sink, content, rest)?)),
+        Kind::Number => Ok(Step::After(give_number(sink, exponents, text)?)),
     }
 }
 

@@ -1,6 +1,5 @@
-use Rattle.std.proofs.Common.{rules, sym, ap, ◌∙◌, Some, refl, inl, inr, arith, chars}
-use Rattle.std.proofs.lemmas.Bool.{true≢false}
-use Rattle.std.specs.Prelude.{◌==◌}
+use Rattle.std.proofs.Common.{sym, ap, ◌∙◌, Some, refl, inl, inr, arith, chars}
+use Rattle.jsonb_value.specs.Reader.IsAt.{left}
 use Rattle.jsonb_value.proofs.Json.Within.{ends_within, closes_within, member_comma_within}
 use Rattle.jsonb_value.proofs.Json.Within.{item_comma_within, both_ways}
 use Rattle.jsonb_value.proofs.Json.ReaderSteps.{after_end, after_more, after_no_ascii}
@@ -9,39 +8,42 @@ use Rattle.jsonb_value.proofs.Json.ReaderSteps.{after_member_comma, after_array,
 use Rattle.jsonb_value.proofs.Json.ReaderSteps.{after_no_array, after_no_object, past_mark}
 use Rattle.jsonb_value.proofs.Json.ReaderSteps.{past_comma}
 use Rattle.jsonb_value.proofs.Json.ReaderSteps.{holds_items, holds_members}
-use Rattle.jsonb_value.proofs.AsciiLaws.{no_bytes, no_chars}
-use Rattle.jsonb_value.proofs.Json.ValueSteps.{err_is}
+use Rattle.jsonb_value.proofs.Json.ValueSteps.{err_as, err_is, ok_as}
 use Rattle.jsonb_value.proofs.parser.reader.go_on.Goals as goal
-use Rattle.jsonb_value.proofs.parser.reader.go_on.Goals.{in_default-innermost-via-in-None+else-is_empty}
-use Rattle.jsonb_value.proofs.parser.reader.go_on.Goals.{in_default-innermost-via-in_default-innermost}
 
-pub returns-in-None-clause-ok : goal.returns-in-None-clause-ok
-returns-in-None-clause-ok g c = λ rule target h.
-    after_end rule g.S.Sink.is target _ _ _ _ h (sym c.innermost.ensures ∙ c.in-None.is)
-    c.skip_blank-rest.ensures (no_chars _ (search rules))
+pub returns-in_default-clause-ok : goal.returns-in_default-clause-ok
+returns-in_default-clause-ok g c =
+    ok_as c.end_text.result _ _ c.end_text.ensures.ok (λ step ends rule target h.
+    rw ends.0 (after_end rule g.S.Sink.is target _ _ _ _ h ends.1.1
+    c.skip_blank-rest.ensures ends.1.0))
+
+pub returns-in_default-clause-err : goal.returns-in_default-clause-err
+returns-in_default-clause-err g c =
+    err_as c.end_text.result _ _ c.end_text.ensures.err (λ e stops rule target h.
+    rw stops.0 (after_no_ascii rule g.S.Sink.is target _ _ _ _ h c.skip_blank-rest.ensures
+    c.in_default.ensures stops.1))
+
+pub returns-in_default-clause-deep : goal.returns-in_default-clause-deep
+returns-in_default-clause-deep g c =
+    ok_as c.end_text.result _ _ c.end_text.ensures.ok (λ step ends.
+    rw ends.0 (λ h. tt, λ h. ends_within _ _ _ c.skip_blank-rest.ensures ends.1.0))
+
+pub returns-in_default-clause-shorter : goal.returns-in_default-clause-shorter
+returns-in_default-clause-shorter g c =
+    ok_as c.end_text.result _ _ c.end_text.ensures.ok (λ step ends.
+    omega (arith, ap left ends.0))
 
 pub returns-in_default-innermost-clause-err : goal.returns-in_default-innermost-clause-err
 returns-in_default-innermost-clause-err g c = λ rule target h.
-    after_no_ascii rule g.S.Sink.is target _ _ _ _ h c.skip_blank-rest.ensures c.in_default.ensures
-    (elim c.in_default-innermost.branch [
-      | in_default-innermost-via-in-None+else-is_empty w ↦ λ empty none.
-          let zero = no_bytes _ c.skip_blank-rest.utf8 empty in
-          true≢false (sym (ap (λ n. n == 0) zero) ∙ sym w.is_empty.ensures ∙ w.if-is_empty.false)
-      | in_default-innermost-via-in_default-innermost w ↦ λ empty none.
-          w.in_default-innermost.not-None (c.innermost.ensures ∙ none)
-    ])
-
-pub returns-in_default-innermost-2-clause-err : goal.returns-in_default-innermost-2-clause-err
-returns-in_default-innermost-2-clause-err g c = λ rule target h.
     after_more rule g.S.Sink.is target _ _ _ _ _ _ h
-    (sym c.innermost-2.ensures ∙ c.in_default-innermost-2.is) c.skip_blank-rest.ensures
+    (sym c.innermost.ensures ∙ c.in_default-innermost.is) c.skip_blank-rest.ensures
     c.in-Some.ensures
 
 pub returns-in_ok-read_key-clause-ok : goal.returns-in_ok-read_key-clause-ok
 returns-in_ok-read_key-clause-ok g c = λ rule target h.
     c.in_ok-read_key.ensures.ok rule target _
     (after_member_comma rule g.S.Sink.is target _ _ _ _ _ _ h
-    (sym c.innermost-2.ensures ∙ c.in-Some-innermost.is ∙ ap Some c.if-is_object.true)
+    (sym c.innermost.ensures ∙ c.in-Some-innermost.is ∙ ap Some c.if-is_object.true)
     c.skip_blank-rest.ensures c.in-Some.ensures c.if-mark-eq44.true)
 
 pub returns-in_err-read_key-clause-err : goal.returns-in_err-read_key-clause-err
@@ -49,7 +51,7 @@ returns-in_err-read_key-clause-err g c =
     err_is _ _ _ c.from_residual.ensures.1 (λ rule target h.
     c.in_err-read_key.ensures.err rule target _
     (after_member_comma rule g.S.Sink.is target _ _ _ _ _ _ h
-    (sym c.innermost-2.ensures ∙ c.in-Some-innermost.is ∙ ap Some c.if-is_object.true)
+    (sym c.innermost.ensures ∙ c.in-Some-innermost.is ∙ ap Some c.if-is_object.true)
     c.skip_blank-rest.ensures c.in-Some.ensures c.if-mark-eq44.true))
 
 pub read_key-requires : goal.read_key-requires
@@ -63,7 +65,7 @@ read_key-requires g c κs =
           (
             _,
             (after_member_comma rule g.S.Sink.is target _ _ _ _ _ _ h
-                (sym c.innermost-2.ensures ∙ c.in-Some-innermost.is ∙ ap Some c.if-is_object.true)
+                (sym c.innermost.ensures ∙ c.in-Some-innermost.is ∙ ap Some c.if-is_object.true)
                 c.skip_blank-rest.ensures c.in-Some.ensures c.if-mark-eq44.true),
           ),
         ),
@@ -73,32 +75,32 @@ read_key-requires g c κs =
 pub returns-else-is_object-clause-ok : goal.returns-else-is_object-clause-ok
 returns-else-is_object-clause-ok g c = λ rule target h.
     after_item_comma rule g.S.Sink.is target _ _ _ _ _ _ _ h
-    (sym c.innermost-2.ensures ∙ c.in-Some-innermost.is ∙ ap Some c.if-is_object.false)
+    (sym c.innermost.ensures ∙ c.in-Some-innermost.is ∙ ap Some c.if-is_object.false)
     c.skip_blank-rest.ensures c.in-Some.ensures c.if-mark-eq44.true c.skip_blank.ensures
 
 pub returns-then-mark-ne125-clause-err : goal.returns-then-mark-ne125-clause-err
 returns-then-mark-ne125-clause-err g c = λ rule target h.
     after_no_object rule g.S.Sink.is target _ _ _ _ _ _ h
-    (sym c.innermost-2.ensures ∙ c.in-Some-innermost.is ∙ ap Some c.if-is_object-2.true)
+    (sym c.innermost.ensures ∙ c.in-Some-innermost.is ∙ ap Some c.if-is_object-2.true)
     c.skip_blank-rest.ensures c.in-Some.ensures c.if-mark-eq44.false c.if-mark-ne125.true
 
 pub returns-then-is_object-2-clause-ok : goal.returns-then-is_object-2-clause-ok
 returns-then-is_object-2-clause-ok g c = λ rule target h.
     after_object rule g.S.Sink.is target _ _ _ _ _ _ _ _ h
-    (sym c.innermost-2.ensures ∙ c.in-Some-innermost.is ∙ ap Some c.if-is_object-2.true)
+    (sym c.innermost.ensures ∙ c.in-Some-innermost.is ∙ ap Some c.if-is_object-2.true)
     c.skip_blank-rest.ensures c.in-Some.ensures c.if-mark-ne125.false
     c.in_ok-end_object.ensures.ok c.pop.ensures.0
 
 pub returns-then-mark-ne93-clause-err : goal.returns-then-mark-ne93-clause-err
 returns-then-mark-ne93-clause-err g c = λ rule target h.
     after_no_array rule g.S.Sink.is target _ _ _ _ _ _ h
-    (sym c.innermost-2.ensures ∙ c.in-Some-innermost.is ∙ ap Some c.if-is_object-2.false)
+    (sym c.innermost.ensures ∙ c.in-Some-innermost.is ∙ ap Some c.if-is_object-2.false)
     c.skip_blank-rest.ensures c.in-Some.ensures c.if-mark-eq44.false c.if-mark-ne93.true
 
 pub returns-clause-ok : goal.returns-clause-ok
 returns-clause-ok g c = λ rule target h.
     after_array rule g.S.Sink.is target _ _ _ _ _ _ _ _ h
-    (sym c.innermost-2.ensures ∙ c.in-Some-innermost.is ∙ ap Some c.if-is_object-2.false)
+    (sym c.innermost.ensures ∙ c.in-Some-innermost.is ∙ ap Some c.if-is_object-2.false)
     c.skip_blank-rest.ensures c.in-Some.ensures c.if-mark-ne93.false
     c.in_ok-end_array.ensures.ok c.pop-2.ensures.0
 
@@ -126,20 +128,14 @@ pub end_object-requires : goal.end_object-requires
 end_object-requires g c κs = (
   (refl, tt),
   holds_members _ g.S.Sink.is _ _ _ c.requires.1
-      (sym c.innermost-2.ensures ∙ c.in-Some-innermost.is ∙ ap Some c.if-is_object-2.true),
+      (sym c.innermost.ensures ∙ c.in-Some-innermost.is ∙ ap Some c.if-is_object-2.true),
 )
 
 pub end_array-requires : goal.end_array-requires
 end_array-requires g c κs = (
   (refl, tt),
   holds_items _ g.S.Sink.is _ _ _ c.requires.1
-      (sym c.innermost-2.ensures ∙ c.in-Some-innermost.is ∙ ap Some c.if-is_object-2.false),
-)
-
-pub returns-in-None-clause-deep : goal.returns-in-None-clause-deep
-returns-in-None-clause-deep g c = (
-  λ h. tt,
-  λ h. ends_within _ _ _ c.skip_blank-rest.ensures (no_chars _ (search rules)),
+      (sym c.innermost.ensures ∙ c.in-Some-innermost.is ∙ ap Some c.if-is_object-2.false),
 )
 
 pub returns-in_ok-read_key-clause-deep : goal.returns-in_ok-read_key-clause-deep
@@ -155,12 +151,12 @@ returns-else-is_object-clause-deep g c =
 
 pub returns-then-is_object-2-clause-deep : goal.returns-then-is_object-2-clause-deep
 returns-then-is_object-2-clause-deep g c =
-    closes_within _ _ _ _ _ _ _ (sym c.innermost-2.ensures ∙ c.in-Some-innermost.is)
+    closes_within _ _ _ _ _ _ _ (sym c.innermost.ensures ∙ c.in-Some-innermost.is)
     c.pop.ensures.0 c.pop.ensures.1 c.skip_blank-rest.ensures c.in-Some.ensures
     (inr c.if-mark-ne125.false)
 
 pub returns-clause-deep : goal.returns-clause-deep
 returns-clause-deep g c =
-    closes_within _ _ _ _ _ _ _ (sym c.innermost-2.ensures ∙ c.in-Some-innermost.is)
+    closes_within _ _ _ _ _ _ _ (sym c.innermost.ensures ∙ c.in-Some-innermost.is)
     c.pop-2.ensures.0 c.pop-2.ensures.1 c.skip_blank-rest.ensures c.in-Some.ensures
     (inl c.if-mark-ne93.false)
