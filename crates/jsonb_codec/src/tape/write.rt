@@ -1,13 +1,14 @@
 //! Copying what is stored to the document.
 
-ghost use Rattle.std.specs.Prelude.{◌≡◌, ◌⊎◌, ◌++◌, ℕ, length, List, Err, IfErr, IfOk, OnOk};
+ghost use Rattle.std.specs.Prelude.{◌≡◌, ◌≤◌, ◌⊎◌, ◌++◌, ℕ, length, List, Err, IfErr, IfOk};
+ghost use Rattle.std.specs.Prelude.{OnOk};
 ghost use Rattle.jsonb_value.specs.declared.error.Error.TheVariants.{OutOfMemory, InvalidJsonb};
 ghost use Rattle.jsonb_value.specs.Tree.{Tree};
 ghost use Rattle.jsonb_codec.specs.Canon.{canon, Fits, payload_of};
-ghost use Rattle.jsonb_codec.specs.Tape.{EntryIs, Joined};
+ghost use Rattle.jsonb_codec.specs.Tape.{EntryIs, Joined, cut};
 
 use super::entry::Entry;
-use super::place::Place;
+use super::place::{Head, Place};
 use super::storage::Storage;
 use crate::constants::{CONTAINER_TAG, SCALAR_CONTAINER_TAG};
 use crate::word::word_bytes;
@@ -58,6 +59,31 @@ struct Left<'t> {
     places: &'t [Place],
 }
 
+// Appends the payloads up to a head, and the head. The answer is what is left to be copied.
+#[inline(always)]
+fn append_head<'t>(
+    out: &mut Vec<u8>,
+    storage: &Storage,
+    head: Head,
+    rest: Left<'t>,
+) -> Result<Left<'t>, Error>
+    requires payload { (rest.start ≤ head.at) × (head.at ≤ length storage.now.payload.items) }
+    requires head { (head.start ≤ head.end) × (head.end ≤ length storage.now.heads.items) }
+    ensures ok { OnOk result (out.new.items ≡ (out.old.items
+        ++ cut rest.entry.start head.at storage.now.payload.items)
+        ++ cut head.start head.end storage.now.heads.items) }
+    ensures left { IfOk result (λ left. (left.start ≡ head.until) × ((left.end ≡ rest.entry.end)
+        × (left.places.now ≡ rest.entry.places.now))) }
+    ensures memory { IfErr result (λ e. e ≡ OutOfMemory) }
+{
+    out.extend_from_slice(&storage.payload[rest.start..head.at])?;
+    out.extend_from_slice(&storage.heads[head.start..head.end])?;
+    Ok(Left {
+        start: head.until,
+        ..rest
+    })
+}
+
 // Appends the payloads, and the heads and parts at their places. What is left is kept in a list, so
 // that nested parts take no stack.
 fn append_payloads(
@@ -80,23 +106,16 @@ fn append_payloads(
             next = left.pop();
             continue;
         };
+        let rest = Left { places, ..now };
         match *place {
-            Place::Head(head) => {
-                out.extend_from_slice(&storage.payload[now.start..head.at])?;
-                out.extend_from_slice(&storage.heads[head.start..head.end])?;
-                next = Some(Left {
-                    start: head.until,
-                    end: now.end,
-                    places,
-                });
-            }
+            Place::Head(head) => next = Some(append_head(out, storage, head, rest)?),
             // The payload of a scalar holds no places.
             Place::Part(part) if part.first == part.last => {
                 out.extend_from_slice(&storage.payload[part.start..part.end])?;
-                next = Some(Left { places, ..now });
+                next = Some(rest);
             }
             Place::Part(part) => {
-                left.push(Left { places, ..now })?;
+                left.push(rest)?;
                 next = Some(Left {
                     start: part.start,
                     end: part.end,

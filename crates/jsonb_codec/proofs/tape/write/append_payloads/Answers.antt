@@ -2,6 +2,7 @@ use Rattle.std.proofs.Common.{rules, refl, sym, ap, subst, ◌∙◌, ◌≡◌,
 use Rattle.std.proofs.lemmas.List.{append_assoc, append-nil}
 use Rattle.std.specs.Prelude.{option_to_list}
 use Rattle.jsonb_codec.specs.Tape.{cut}
+use Rattle.jsonb_codec.specs.declared.tape.place.Place.TheVariants.{Head}
 use Rattle.jsonb_codec.specs.declared.tape.write.Left.{Left}
 use Rattle.jsonb_codec.proofs.OnTape.Writing.{LeftAre, head_next, left_weight, part_next, plain_next}
 use Rattle.jsonb_codec.proofs.OnTape.Writing.{none_left, popped_all, popped_next, pushed}
@@ -70,19 +71,19 @@ parts-preserved-in-Head c = (
       let head = c.in-Head.head in
       let (r, (left, same)) = c.parts.invariant.1 p h in
       let lists = subst (λ o. LeftAre s (option_to_list o ++ xs) r) c.in-Some.is left in
-      let y : Left = record {
-        start = head.until;
-        end = now.end;
-        places = c.in-Some-split_first.places;
+      let (start, (end, places)) = c.in_ok-append_head-in-Head.ensures.left in
+      let next : Left = record {
+        start = _;
+        end = _;
+        places = record c.in-Some-split_first.places { now = _ };
       } in
-      let after = head_next s now y xs r head lists (search rules) refl refl in
-      let bytes = cut now.start head.at s.payload.items ++ cut head.start head.end s.heads.items in
-      let twice : c.extend_from_slice-in-Head-2.new.self.items
-      ≡ (c.parts.out.items ++ cut now.start head.at s.payload.items)
-      ++ cut head.start head.end s.heads.items = search rules in
-      let copied : c.extend_from_slice-in-Head-2.new.self.items ≡ c.parts.out.items ++ bytes =
-      twice ∙ append_assoc c.parts.out.items (cut now.start head.at s.payload.items)
-      (cut head.start head.end s.heads.items) in (
+      let after = head_next s now next xs r head lists
+      (search rules ∙ ap (λ ps. Head head ∷ ps) (sym places)) start end in
+      let before = cut now.start head.at s.payload.items in
+      let bytes = before ++ cut head.start head.end s.heads.items in
+      let copied : c.append_head.new.out.items ≡ c.parts.out.items ++ bytes =
+      c.in_ok-append_head-in-Head.ensures.ok
+      ∙ append_assoc c.parts.out.items before (cut head.start head.end s.heads.items) in (
         after.rest,
         (
           after.left,
@@ -92,6 +93,36 @@ parts-preserved-in-Head c = (
         ),
       ),
 )
+
+pub append_head-requires-clause-payload : goal.append_head-requires-clause-payload
+append_head-requires-clause-payload c =
+    let s = c.args.storage.now in
+    let xs = reverse c.parts.left.items in
+    let now = c.in-Some.now in
+    let (r, (left, same)) = c.parts.invariant.1 c.requires.0 c.requires.1 in
+    let lists = subst (λ o. LeftAre s (option_to_list o ++ xs) r) c.in-Some.is left in
+    let y : Left = record {
+      start = c.in-Head.head.until;
+      end = now.end;
+      places = c.in-Some-split_first.places;
+    } in
+    let after = head_next s now y xs r c.in-Head.head lists (search rules) refl refl in
+    (after.from, after.at)
+
+pub append_head-requires-clause-head : goal.append_head-requires-clause-head
+append_head-requires-clause-head c =
+    let s = c.args.storage.now in
+    let xs = reverse c.parts.left.items in
+    let now = c.in-Some.now in
+    let (r, (left, same)) = c.parts.invariant.1 c.requires.0 c.requires.1 in
+    let lists = subst (λ o. LeftAre s (option_to_list o ++ xs) r) c.in-Some.is left in
+    let y : Left = record {
+      start = c.in-Head.head.until;
+      end = now.end;
+      places = c.in-Some-split_first.places;
+    } in
+    let after = head_next s now y xs r c.in-Head.head lists (search rules) refl refl in
+    (after.low, after.heads)
 
 pub parts-preserved : goal.parts-preserved
 parts-preserved c = (
