@@ -1,17 +1,16 @@
 -- The possible payloads of each type.
-use Rattle.std.proofs.Common.{◌⊎◌, inl, inr, IfErr, ◌≡◌, ◌≢◌, ◌-◌, ◌↔◌, ◌&&◌, ℕ, List, []}
+use Rattle.std.proofs.Common.{◌⊎◌, inl, inr, ◌≡◌, ◌≢◌, ◌-◌, ◌↔◌, ◌&&◌, ℕ, List, []}
 use Rattle.std.proofs.Common.{Bool, true, false, IsTrue, Result, Ok, Err, IsErrAnd, OnErr, eqb}
-use Rattle.std.proofs.Common.{length, ◌∷◌, refl, sym, subst, ◌∙◌, arith}
+use Rattle.std.proofs.Common.{length, ◌∷◌, refl, sym, ◌∙◌, arith}
 use Rattle.std.proofs.lemmas.Bool.Decides.{nat_tests}
 use Rattle.std.specs.Str.{IsUtf8}
 use Rattle.jsonb_value.specs.declared.number.Number.{Number}
-use Rattle.jsonb_value.specs.declared.error.Error.{Error}
 use Rattle.jsonb_value.specs.NumCode.{NumCode}
 use Rattle.jsonb_value.specs.ExtCode.{ExtCode}
 use Rattle.jsonb_value.specs.Tree.{Extension, Tree, null, boolean, number, text, extension}
 use Rattle.jsonb_codec.specs.Doc.{type_of, Payload}
-use Rattle.jsonb_codec.specs.declared.document.fault.FaultTable.{FaultTable}
-use Rattle.jsonb_codec.specs.Parts.{IsFaultOf, HoldsOrFaults, Excludes, HoldsOrExcludes, HasPayload}
+use Rattle.jsonb_codec.specs.declared.document.fault.Fault.{Fault}
+use Rattle.jsonb_codec.specs.Parts.{HoldsOrFaults, Excludes, HoldsOrExcludes, HasPayload}
 
 empty_after : (t : Tree) (p : List ℕ)
     → (type_of t ≡ 0) ⊎ ((type_of t ≡ 805306368) ⊎ (type_of t ≡ 1073741824)) → Payload t p → p ≡ []
@@ -73,63 +72,49 @@ pub not_empty : (b : Bool) (p : List ℕ) → b ≡ eqb (length p) 0 → b ≡ f
 not_empty b [] e never z = let both = sym never ∙ e in cc
 not_empty b (x ∷ p) e never z = omega arith
 
--- an error that `?` passes on
-pub raised : {A : Type 0} (faults : FaultTable) (P : Type 0) (r : Result A Error) (e : Error)
-    → IsErrAnd r (λ x. x ≡ e) → IsFaultOf faults e → ¬ P → HoldsOrFaults faults r P
-raised faults P (Ok x) e h fault never = absurd h
-raised faults P (Err x) e h fault never = (subst (IsFaultOf faults) (sym h) fault, never)
+-- a fault that `?` passes on
+pub raised : {A : Type 0} (P : Type 0) (r : Result A Fault) (fault : Fault)
+    → IsErrAnd r (λ x. x ≡ fault) → ¬ P → HoldsOrFaults r P
+raised P (Ok x) fault h never = absurd h
+raised P (Err x) fault h never = never
 
-pub raised_as : {A : Type 0} (P : Error → Type 0) (r : Result A Error) (e : Error)
-    → IsErrAnd r (λ x. x ≡ e) → P e → IfErr r P
-raised_as P (Ok x) e h p = tt
-raised_as P (Err x) e h p = subst P (sym h) p
-
-pub tells_iff : {A P Q : Type 0} (faults : FaultTable) (r : Result A Error)
-    → HoldsOrFaults faults r P → (P ↔ Q) → HoldsOrFaults faults r Q
-tells_iff faults (Ok x) h k = k.0 h
-tells_iff faults (Err e) h k = (h.0, λ q. h.1 (k.1 q))
+pub tells_iff : {A P Q : Type 0} (r : Result A Fault) → HoldsOrFaults r P → (P ↔ Q)
+    → HoldsOrFaults r Q
+tells_iff (Ok x) h k = k.0 h
+tells_iff (Err fault) h k = λ q. h (k.1 q)
 
 -- the same of a check within a depth
-pub raised_within : {A : Type 0} (faults : FaultTable) (limit : ℕ) (P : ℕ → Type 0)
-    (r : Result A Error) (e : Error) → IsErrAnd r (λ x. x ≡ e) → IsFaultOf faults e
-    → Excludes faults limit e P → HoldsOrExcludes faults limit r P
-raised_within faults limit P (Ok x) e h fault never = absurd h
-raised_within faults limit P (Err x) e h fault never =
-    (subst (IsFaultOf faults) (sym h) fault, λ d r. never d (λ is. r (h ∙ is)))
+pub raised_within : {A : Type 0} (limit : ℕ) (P : ℕ → Type 0) (r : Result A Fault) (fault : Fault)
+    → IsErrAnd r (λ x. x ≡ fault) → Excludes limit fault P → HoldsOrExcludes limit r P
+raised_within limit P (Ok x) fault h never = absurd h
+raised_within limit P (Err x) fault h never = λ d r. never d (λ is. r (h ∙ is))
 
 -- what a check within a depth tells of a statement that follows from the checked one, and from
 -- which the checked one follows at every depth
-pub tells_within : {A : Type 0} (faults : FaultTable) (limit : ℕ) (P Q : ℕ → Type 0)
-    (r : Result A Error) → HoldsOrExcludes faults limit r P → (P limit → Q limit)
-    → ((d : ℕ) → Q d → P d) → HoldsOrExcludes faults limit r Q
-tells_within faults limit P Q (Ok x) h onward back = onward h
-tells_within faults limit P Q (Err e) h onward back =
-    (h.0, λ d r q. h.1 d r (back d q))
+pub tells_within : {A : Type 0} (limit : ℕ) (P Q : ℕ → Type 0) (r : Result A Fault)
+    → HoldsOrExcludes limit r P → (P limit → Q limit) → ((d : ℕ) → Q d → P d)
+    → HoldsOrExcludes limit r Q
+tells_within limit P Q (Ok x) h onward back = onward h
+tells_within limit P Q (Err fault) h onward back = λ d r q. h d r (back d q)
 
 -- the same of a check that knows of no depth
-pub tells_everywhere : {A : Type 0} (faults : FaultTable) (limit : ℕ) (P : Type 0) (Q : ℕ → Type 0)
-    (r : Result A Error) → HoldsOrFaults faults r P → (P → Q limit)
-    → ((d : ℕ) → Q d → P) → HoldsOrExcludes faults limit r Q
-tells_everywhere faults limit P Q (Ok x) h onward back = onward h
-tells_everywhere faults limit P Q (Err e) h onward back =
-    (h.0, λ d r q. h.1 (back d q))
+pub tells_everywhere : {A : Type 0} (limit : ℕ) (P : Type 0) (Q : ℕ → Type 0) (r : Result A Fault)
+    → HoldsOrFaults r P → (P → Q limit) → ((d : ℕ) → Q d → P) → HoldsOrExcludes limit r Q
+tells_everywhere limit P Q (Ok x) h onward back = onward h
+tells_everywhere limit P Q (Err fault) h onward back = λ d r q. h (back d q)
 
 -- what the check of the content of a container tells of the container, which nests one deeper
-pub tells_outside : {A : Type 0} (faults : FaultTable) (limit : ℕ) (P Q : ℕ → Type 0)
-    (r : Result A Error) → limit ≢ 0 → HoldsOrExcludes faults (limit - 1) r P
-    → (P (limit - 1) → Q limit) → ((d : ℕ) → Q d → (d ≢ 0) × P (d - 1))
-    → HoldsOrExcludes faults limit r Q
-tells_outside faults limit P Q (Ok x) some h onward back = onward h
-tells_outside faults limit P Q (Err e) some h onward back = (
-  h.0,
-  λ d r q.
-      let (deep, inside) = back d q in
-      h.1 (d - 1) (λ is. let near = r is in omega arith) inside,
-)
+pub tells_outside : {A : Type 0} (limit : ℕ) (P Q : ℕ → Type 0) (r : Result A Fault) → limit ≢ 0
+    → HoldsOrExcludes (limit - 1) r P → (P (limit - 1) → Q limit)
+    → ((d : ℕ) → Q d → (d ≢ 0) × P (d - 1)) → HoldsOrExcludes limit r Q
+tells_outside limit P Q (Ok x) some h onward back = onward h
+tells_outside limit P Q (Err fault) some h onward back = λ d r q.
+    let (deep, inside) = back d q in
+    h (d - 1) (λ is. let near = r is in omega arith) inside
 
-pub on_err : {A : Type 0} {P : Type 0} (r : Result A Error) → P → OnErr r P
+pub on_err : {A : Type 0} {P : Type 0} (r : Result A Fault) → P → OnErr r P
 on_err (Ok x) h = tt
-on_err (Err e) h = h
+on_err (Err fault) h = h
 
 pub both_true : (a b : Bool) → IsTrue (a && b) → IsTrue a × IsTrue b
 both_true true true h = (refl, refl)

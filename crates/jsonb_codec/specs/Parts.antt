@@ -1,13 +1,14 @@
 -- What a check finds about parts of a byte string.
-use Rattle.std.specs.Prelude.{◌≡◌, ◌≢◌, ◌≤◌, ◌⊎◌, ◌++◌, ℕ, List, Option, IfSome, Result, Ok, Err}
+use Rattle.std.specs.Prelude.{◌≡◌, ◌≢◌, ◌≤◌, ◌++◌, ℕ, List, Option, IfSome, Result, Ok, Err}
 use Rattle.std.specs.Ordering.{nat_cmp}
 use Rattle.std.specs.Cmp.Lexicographic.{slice_cmp}
 use Rattle.std.specs.declared.cmp.Ordering.TheVariants.{Less}
 use Rattle.jsonb_value.specs.declared.error.Error.{Error}
-use Rattle.jsonb_value.specs.declared.error.Error.TheVariants.{InvalidJsonb, OutOfMemory}
 use Rattle.jsonb_value.specs.Tree.{Tree, Trees, Pairs, count, pair_count, Ascend, Ascends}
 use Rattle.jsonb_codec.specs.declared.constants.TheConstants.{CONTAINER_TAG, STRING_TAG}
 use Rattle.jsonb_codec.specs.Doc.{type_of, Keys, Values, Children, Payload, Body, PairsBody, Scalar}
+use Rattle.jsonb_codec.specs.declared.document.fault.Fault.{Fault}
+use Rattle.jsonb_codec.specs.declared.document.fault.Fault.TheVariants.{TooDeep}
 use Rattle.jsonb_codec.specs.declared.document.fault.FaultTable.{FaultTable}
 use Rattle.jsonb_codec.specs.Fault.{IsTreeFault, IsDecoderFault}
 use Rattle.jsonb_codec.specs.Depth.{depth, depths, pair_depths}
@@ -16,29 +17,22 @@ use Rattle.jsonb_codec.specs.Depth.{depth, depths, pair_depths}
 abbrev pub IsFaultOf : FaultTable → Error → Type 0
 IsFaultOf FaultTable.Tree e = IsTreeFault e
 IsFaultOf FaultTable.Decoder e = IsDecoderFault e
-IsFaultOf FaultTable.Depth e = IsTreeFault e ⊎ (e ≡ OutOfMemory)
 
--- The error by which the table names a container beyond the depth.
-abbrev pub depth_fault : FaultTable → Error
-depth_fault FaultTable.Tree = InvalidJsonb
-depth_fault FaultTable.Decoder = InvalidJsonb
-depth_fault FaultTable.Depth = OutOfMemory
+-- The result is a success exactly if the statement holds.
+abbrev pub HoldsOrFaults : {A : Type 0} → Result A Fault → Type 0 → Type 0
+HoldsOrFaults (Ok x) P = P
+HoldsOrFaults (Err fault) P = P → ⊥
 
--- The result is a success exactly if the statement holds, and an error is one of the table's.
-abbrev pub HoldsOrFaults : {A : Type 0} → FaultTable → Result A Error → Type 0 → Type 0
-HoldsOrFaults faults (Ok x) P = P
-HoldsOrFaults faults (Err e) P = IsFaultOf faults e × (P → ⊥)
+-- The fault rules the statement out: at each depth, or, if it is a container beyond the limit, at
+-- each depth within it.
+abbrev pub Excludes : ℕ → Fault → (ℕ → Type 0) → Type 0
+Excludes limit fault P = (d : ℕ) → (fault ≡ TooDeep → d ≤ limit) → P d → ⊥
 
--- The error rules the statement out: at each depth, or, if it can be that of a container beyond the
--- limit, at each depth within it.
-abbrev pub Excludes : FaultTable → ℕ → Error → (ℕ → Type 0) → Type 0
-Excludes faults limit e P = (d : ℕ) → (e ≡ depth_fault faults → d ≤ limit) → P d → ⊥
-
--- The result is a success only if the statement holds at the limit, and an error is one of the
--- table's, which rules the statement out.
-abbrev pub HoldsOrExcludes : {A : Type 0} → FaultTable → ℕ → Result A Error → (ℕ → Type 0) → Type 0
-HoldsOrExcludes faults limit (Ok x) P = P limit
-HoldsOrExcludes faults limit (Err e) P = IsFaultOf faults e × Excludes faults limit e P
+-- The result is a success only if the statement holds at the limit, and a fault rules the statement
+-- out.
+abbrev pub HoldsOrExcludes : {A : Type 0} → ℕ → Result A Fault → (ℕ → Type 0) → Type 0
+HoldsOrExcludes limit (Ok x) P = P limit
+HoldsOrExcludes limit (Err fault) P = Excludes limit fault P
 
 -- The payload, in an entry of this type, means the tree.
 abbrev pub IsPayloadOf : ℕ → List ℕ → Tree → Type 0

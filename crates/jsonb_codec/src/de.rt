@@ -75,17 +75,18 @@ impl<'a> Decoder<'a> {
     }
 }
 
-// Decodes a document, or returns the first fault as this table names it. `Depth` names one of its
-// faults as if memory had been refused.
+// Decodes a document, or returns the first fault as this table names it.
 fn read<'a>(alloc: Global, faults: FaultTable, bytes: &'a [u8]) -> Result<Value<'a>, Error>
-    requires { faults ≢ FaultTable.Depth }
     ensures ok { IfOk result (λ v. Doc bytes.now (tree_of v)) }
     ensures one_tree { IfOk result (λ v. (t : Tree) → Doc bytes.now t → tree_of v ≡ t) }
     ensures fault { IfErr result
         (λ e. (e ≡ Error.OutOfMemory) ⊎ (IsFaultOf faults e × (IsDocument bytes.now → ⊥))) }
     ensures memory { IfErr result (λ e. e ≡ Error.OutOfMemory → IsDocument bytes.now) }
 {
-    value_of_document(alloc, check(faults, bytes.len(), bytes)?)
+    match check(bytes.len(), bytes) {
+        Ok(document) => value_of_document(alloc, document),
+        Err(fault) => Err(faults.error_of(fault)),
+    }
 }
 
 /// Decodes a checked document. Strings and extension data in the value are borrowed from the bytes.

@@ -14,8 +14,7 @@ use crate::constants::{SCALAR_CONTAINER_TAG, STRING_TAG};
 use crate::word::{split_entry, split_word};
 pub use bytes::{DocumentBytes, check};
 pub use fault::FaultTable;
-use fault::check_text;
-use jsonb_value::Error;
+use fault::{Fault, check_text};
 
 /// Whether the bytes are a document. By `document_laws` a document means exactly one tree, whose
 /// size and depth are bounded by the number of bytes; no proper prefix and no proper extension of
@@ -36,7 +35,7 @@ pub fn is_document(bytes: &[u8]) -> bool
 pub fn is_document_within(bytes: &[u8], depth: usize) -> bool
     ensures { IsTrue result ↔ IsDocumentWithin depth bytes.now }
 {
-    check(FaultTable::Tree, depth, bytes).is_ok()
+    check(depth, bytes).is_ok()
 }
 
 /// Whether the bytes nest too deep to be checked within this depth: whether the check, which goes
@@ -51,9 +50,9 @@ pub fn nests_deeper(bytes: &[u8], depth: usize) -> bool
     if bytes.len() / 8 < depth {
         return false;
     }
-    match check(FaultTable::Depth, depth, bytes) {
+    match check(depth, bytes) {
         Ok(_) => false,
-        Err(fault) => fault == Error::OutOfMemory,
+        Err(fault) => fault == Fault::TooDeep,
     }
 }
 
@@ -71,7 +70,7 @@ pub fn document_text(bytes: &[u8]) -> Option<&str>
     {
         return None;
     }
-    match check_text(FaultTable::Tree, entry.rest) {
+    match check_text(entry.rest) {
         Ok(()) => Some(unsafe { str::from_utf8_unchecked(entry.rest) }),
         Err(_) => None,
     }

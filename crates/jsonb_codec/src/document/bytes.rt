@@ -6,11 +6,10 @@ ghost use Rattle.jsonb_codec.specs.Doc.{Doc, IsDocument};
 ghost use Rattle.jsonb_codec.specs.Depth.{IsDocumentWithin};
 ghost use Rattle.jsonb_codec.specs.Parts.{HoldsOrFaults, Excludes};
 
-use super::fault::{FaultTable, find_fault};
+use super::fault::{Fault, find_fault};
 use crate::constants::{CONTAINER_TAG, SCALAR_CONTAINER_TAG};
 use crate::parts::Part;
 use crate::word::{split_entry, split_header};
-use jsonb_value::Error;
 
 /// The bytes of a document. They were checked on construction and are not checked again.
 #[derive(Clone, Copy, Debug)]
@@ -41,7 +40,7 @@ impl<'a> DocumentBytes<'a> {
         ensures exact { IsSome result ↔ IsDocumentWithin depth bytes.entry.now }
         ensures bytes { IfSome result (λ d. bytes_of d ≡ bytes.entry.now) }
     {
-        check(FaultTable::Tree, depth, bytes).ok()
+        check(depth, bytes).ok()
     }
 
     /// Wraps bytes that the caller knows to be a document, without checking them.
@@ -99,21 +98,16 @@ impl<'a> DocumentBytes<'a> {
     }
 }
 
-/// Checks the bytes once; returns the document or its first fault as this table names it. A
-/// container nested more than `depth` deep is a fault, which the table names too, and is not
-/// examined.
+/// Checks the bytes once; returns the document or its first fault. A container nested more than
+/// `depth` deep is a fault, and is not examined.
 #[inline(always)]
-pub fn check<'a>(
-    faults: FaultTable,
-    depth: usize,
-    bytes: &'a [u8],
-) -> Result<DocumentBytes<'a>, Error>
-    ensures decided { HoldsOrFaults faults result (IsDocumentWithin depth bytes.now) }
+pub fn check<'a>(depth: usize, bytes: &'a [u8]) -> Result<DocumentBytes<'a>, Fault>
+    ensures decided { HoldsOrFaults result (IsDocumentWithin depth bytes.now) }
     ensures none { IfErr result
-        (λ e. Excludes faults depth e (λ d. IsDocumentWithin d bytes.now)) }
+        (λ fault. Excludes depth fault (λ d. IsDocumentWithin d bytes.now)) }
     ensures bytes { IfOk result (λ d. d.bytes.now ≡ bytes.now) }
 {
-    match find_fault(faults, depth, bytes) {
+    match find_fault(depth, bytes) {
         Ok(()) => Ok(DocumentBytes { bytes }),
         Err(fault) => Err(fault),
     }

@@ -46,4 +46,4 @@ returns-then-header-ne-SCALAR_CONTAINER_TAG-clause-none c = λ s d.
 pub returns-in-Err-clause-none : goal.returns-in-Err-clause-none
 returns-in-Err-clause-none c = λ s d.
     let h = c.in_ok-header.ensures in
-    c.in-Err.ensures.1 (text_entry h.found h.small s d (reading c.in_ok-entry.ensures)).1.1
+    c.in-Err.ensures (text_entry h.found h.small s d (reading c.in_ok-entry.ensures)).1.1

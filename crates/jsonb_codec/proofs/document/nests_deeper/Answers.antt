@@ -1,6 +1,6 @@
 use Rattle.std.proofs.Common.{◌≡◌, ◌≤◌, Bool, true, false, IsTrue, refl, arith, rules}
 use Rattle.std.specs.Bool.{OnFalse}
-use Rattle.jsonb_value.specs.declared.error.Error.TheVariants.{OutOfMemory}
+use Rattle.jsonb_codec.specs.declared.document.fault.Fault.TheVariants.{TooDeep}
 use Rattle.jsonb_codec.specs.Depth.{depth}
 use Rattle.jsonb_codec.proofs.DepthLaws.{Doc-depth}
 use Rattle.jsonb_codec.proofs.document.nests_deeper.Goals as goal
@@ -17,7 +17,7 @@ on_false false P h = h refl
 
 pub returns-in-Err-clause-within : goal.returns-in-Err-clause-within
 returns-in-Err-clause-within c = on_false c.eq.result _ (λ is_other.
-    let is : c.in-Err.fault ≡ OutOfMemory → IsTrue c.eq.result = λ same. search rules in (
+    let is : c.in-Err.fault ≡ TooDeep → IsTrue c.eq.result = λ same. search rules in (
       λ (t, h).
           let whole : depth t ≤ depth t = omega arith in
           absurd (c.in-Err.ensures.none (depth t)

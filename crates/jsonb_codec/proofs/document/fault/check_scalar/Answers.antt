@@ -5,49 +5,41 @@ use Rattle.jsonb_codec.proofs.Steps.{reading, scalar_count, scalar_entry, scalar
 use Rattle.jsonb_codec.proofs.document.fault.check_scalar.Goals as goal
 
 pub returns-then-count-ne0 : goal.returns-then-count-ne0
-returns-then-count-ne0 c = (
-  c.header_kind.ensures,
-  λ h. c.if-count-ne0.true (scalar_count _ _ c.requires h.0 h.1.1),
-)
+returns-then-count-ne0 c = λ h. c.if-count-ne0.true (scalar_count _ _ c.requires h.0 h.1.1)
 
 pub returns-in_default : goal.returns-in_default
-returns-in_default c = (
-  c.short_entries.ensures,
-  λ h. omega (
-    arith,
-    scalar_entry _ _ c.requires h.0 h.1.1,
-    c.in_default.ensures.none,
-  ),
+returns-in_default c = λ h. omega (
+  arith,
+  scalar_entry _ _ c.requires h.0 h.1.1,
+  c.in_default.ensures.none,
 )
 
 pub returns-then-entry-eq-CONTAINER_TAG : goal.returns-then-entry-eq-CONTAINER_TAG
 returns-then-entry-eq-CONTAINER_TAG c =
     let scalar = scalar_iff _ _ c.requires (reading c.in-Some.ensures) in
-    (c.entry.ensures, λ h. (scalar.1 h).1.0 c.if-entry-eq-CONTAINER_TAG.true)
+    λ h. (scalar.1 h).1.0 c.if-entry-eq-CONTAINER_TAG.true
 
 pub returns-in_err-payload : goal.returns-in_err-payload
 returns-in_err-payload c =
     let scalar = scalar_iff _ _ c.requires (reading c.in-Some.ensures) in
     let past = c.in_err-payload.ensures in
-    raised _ _ _ _ c.from_residual.ensures.1 past.fault
+    raised _ _ _ c.from_residual.ensures.1
     (λ h. omega (arith, past.past, (scalar.1 h).1.1.0))
 
 pub returns-in_err-check_scalar_payload : goal.returns-in_err-check_scalar_payload
 returns-in_err-check_scalar_payload c =
     let scalar = scalar_iff _ _ c.requires (reading c.in-Some.ensures) in
     let decided = c.in_err-check_scalar_payload.ensures in
-    raised _ _ _ _ c.from_residual-in_err-check_scalar_payload.ensures.1 decided.0
-    (λ h. decided.1 (rw c.in_ok-payload.ensures.payload (scalar.1 h).1.1.1))
+    raised _ _ _ c.from_residual-in_err-check_scalar_payload.ensures.1
+    (λ h. decided (rw c.in_ok-payload.ensures.payload (scalar.1 h).1.1.1))
 
 pub returns-then-not-is_empty : goal.returns-then-not-is_empty
 returns-then-not-is_empty c =
     let e = c.in-Some.entry in
     let scalar = scalar_iff _ _ c.requires (reading c.in-Some.ensures) in
-    let later = ap length c.in_ok-payload.ensures.later ∙ length-drop e.number e.rest.now in (
-      c.excess.ensures,
-      λ h. not_empty _ _ c.is_empty.ensures c.if-not-is_empty.true
-          (omega (arith, later, (scalar.1 h).1.1.0)),
-    )
+    let later = ap length c.in_ok-payload.ensures.later ∙ length-drop e.number e.rest.now in
+    λ h. not_empty _ _ c.is_empty.ensures c.if-not-is_empty.true
+    (omega (arith, later, (scalar.1 h).1.1.0))
 
 pub returns : goal.returns
 returns c =

@@ -10,7 +10,7 @@ returns-in-0 c =
 
 pub returns-in-268435456 : goal.returns-in-268435456
 returns-in-268435456 c =
-    tells_iff _ _ c.check_text.ensures
+    tells_iff _ c.check_text.ensures
     (HasPayload-text 0 _ _ c.in-268435456.is)
 
 pub returns-in-536870912 : goal.returns-in-536870912
