@@ -9,8 +9,8 @@ use Rattle.jsonb_value.specs.Tree.{object}
 use Rattle.jsonb_value.specs.Value.{trees_of}
 use Rattle.jsonb_codec.specs.declared.constants.TheConstants.{CONTAINER_TAG}
 use Rattle.jsonb_codec.specs.Doc.{type_of}
-use Rattle.jsonb.specs.declared.document.Node.{Node}
-use Rattle.jsonb.specs.declared.document.Node.TheVariants as nodes
+use Rattle.jsonb.specs.declared.node.Node.{Node}
+use Rattle.jsonb.specs.declared.node.Node.TheVariants as nodes
 use Rattle.jsonb.specs.declared.document.Document.{Document}
 use Rattle.jsonb.specs.Document.{document_bytes, document_tree}
 use Rattle.jsonb.specs.ItemValues.{number_source, number_of_item, extension_source}

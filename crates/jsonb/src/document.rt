@@ -1,20 +1,15 @@
 //! Documents that were checked once and are not checked again by any later call.
 
 use crate::entries::{Cursor, count_under};
-use crate::extension_item::ExtensionItem;
-use crate::item::JsonbItem;
 use crate::item_type::JsonbItemType;
 use crate::lookup::{MAX_READS, Reads, count_pairs, find_value};
+use crate::node::Node;
 use crate::nodes::{Items, Members};
-use crate::number_item::NumberItem;
 use crate::owned::OwnedJsonb;
 use crate::raw::RawJsonb;
-use crate::text::{Layout, document_text, node_text, write_document, write_value};
+use crate::text::{Layout, document_text, write_document};
 use crate::text_len::document_text_len;
-use jsonb_codec::constants::{
-    ARRAY_CONTAINER_TAG, CONTAINER_TAG, EXTENSION_TAG, FALSE_TAG, NULL_TAG, NUMBER_TAG,
-    OBJECT_CONTAINER_TAG, STRING_TAG, TRUE_TAG,
-};
+use jsonb_codec::constants::{ARRAY_CONTAINER_TAG, OBJECT_CONTAINER_TAG};
 use jsonb_codec::layer::{
     DocumentBytes, append_canonical_document, is_canonical_document, value_of_document,
 };
@@ -22,7 +17,6 @@ use jsonb_codec::parts::Part;
 use jsonb_codec::read_header;
 use jsonb_value::{Error, Value};
 use std::alloc::Global;
-use std::borrow::CowStr;
 use std::fmt;
 
 /// The borrowed bytes of a document. They were checked on construction, so no method fails because
@@ -30,18 +24,6 @@ use std::fmt;
 #[derive(Clone, Copy, Debug)]
 pub struct Document<'a> {
     bytes: DocumentBytes<'a>,
-}
-
-/// A value in a document: a scalar, or an array or object, which is a document itself. A number or
-/// an extension value keeps the bytes of its payload.
-#[derive(Clone, Copy, Debug)]
-pub enum Node<'a> {
-    Null,
-    Boolean(bool),
-    Number(NumberItem<'a>),
-    String(&'a str),
-    Extension(ExtensionItem<'a>),
-    Container(Document<'a>),
 }
 
 /// The content of an array or object.
@@ -103,7 +85,7 @@ impl<'a> Document<'a> {
     }
 
     // An array or object inside another one is a document itself.
-    fn of_container(part: Part<'a>) -> Self
+    pub(crate) fn of_container(part: Part<'a>) -> Self
         requires { part.type_code ≡ CONTAINER_TAG }
         ensures tree { (t : Tree) → PartMeans part.entry t → document_tree result ≡ t }
         ensures bytes { document_bytes result ≡ part.entry.payload.now }
@@ -378,111 +360,6 @@ impl<'a> Document<'a> {
     }
 }
 
-impl<'a> Node<'a> {
-    ghost use Rattle.std.specs.Prelude.{◌≡◌, ◌↔◌, Ok, Some, IfOk, IfErr, IsSome, string_bytes};
-    ghost use Rattle.jsonb_codec.specs.Contents.{PartMeans};
-    ghost use Rattle.jsonb.specs.Words.{Tree, compact, kind_of_tree, node_tree, HoldsNoScalar};
-    ghost use Rattle.jsonb.specs.Words.{IsContainer, MadeIfFit, CanBeStored, container_of};
-    ghost use Rattle.jsonb.specs.Words.{node_view, item_of, item_document, owned_bytes};
-
-    /// The array or object as a document. `None` if the value is a scalar.
-    pub fn as_document(&self) -> Option<Document<'a>>
-        ensures document { result ≡ container_of self.now }
-        ensures container { HoldsNoScalar self.now
-            → IsSome result ↔ IsContainer (node_tree self.now) }
-    {
-        match self {
-            Node::Container(document) => Some(*document),
-            _ => None,
-        }
-    }
-
-    /// The value as a document of its own: the bytes of an array or object, or the document of the
-    /// scalar, with the payload that it has in its document. `InvalidJsonb`, before any allocation,
-    /// if the payload of a scalar exceeds 268,435,455 bytes, which no payload in a document does;
-    /// `OutOfMemory` if an allocation fails.
-    pub fn to_owned(&self, alloc: Global) -> Result<OwnedJsonb, Error>
-        ensures ok { IfOk result (λ owned. owned_bytes owned ≡ item_document (node_view self.now)) }
-        ensures limits { MadeIfFit (CanBeStored (node_view self.now)) result }
-    {
-        OwnedJsonb::from_item(alloc, JsonbItem::from(*self))
-    }
-
-    /// The compact text, without white space. `OutOfMemory` is the only error.
-    pub fn to_string(&self, alloc: Global) -> Result<String, Error>
-        ensures text { IfOk result (λ text. string_bytes text ≡ compact (node_tree self.now)) }
-        ensures memory { IfErr result (λ e. e ≡ Error.OutOfMemory) }
-    {
-        node_text(alloc, self.opened())
-    }
-
-    // The same value, whose container is known to hold an array or object and not a scalar.
-    pub(crate) fn opened(self) -> Node<'a>
-        ensures tree { node_tree result ≡ node_tree self.entry }
-        ensures container { HoldsNoScalar result }
-    {
-        match self {
-            Node::Container(document) => document.node(),
-            scalar => scalar,
-        }
-    }
-
-    // The kind; an array or object with its count of items or pairs.
-    pub(crate) fn kind(&self) -> JsonbItemType
-        ensures { result ≡ kind_of_tree (node_tree self.now) }
-    {
-        match self {
-            Node::Null => JsonbItemType::Null,
-            Node::Boolean(_) => JsonbItemType::Boolean,
-            Node::Number(_) => JsonbItemType::Number,
-            Node::String(_) => JsonbItemType::String,
-            Node::Extension(_) => JsonbItemType::Extension,
-            Node::Container(document) => document.kind(),
-        }
-    }
-
-    /// The value that a part holds.
-    #[inline(always)]
-    #[tactic(auto, unfolding(crate::specs::Item::item_of))]
-    pub fn of_part(part: Part<'a>) -> Node<'a>
-        ensures means { (t : Tree) → PartMeans part.entry t → node_tree result ≡ t }
-        ensures item { item_of part.entry.type_code part.entry.payload.now
-            ≡ Ok (node_view result) }
-        ensures container { HoldsNoScalar result }
-    {
-        match part.type_code {
-            NULL_TAG => Node::Null,
-            TRUE_TAG => Node::Boolean(true),
-            FALSE_TAG => Node::Boolean(false),
-            NUMBER_TAG => Node::Number(NumberItem::of_part(part)),
-            STRING_TAG => Node::String(part.text()),
-            EXTENSION_TAG => Node::Extension(ExtensionItem::of_part(part)),
-            _ => Node::Container(Document::of_container(part)),
-        }
-    }
-}
-
-/// A value as an item: an array or object by its bytes, a number or an extension value with those
-/// of its payload.
-impl<'a> From<Node<'a>> for JsonbItem<'a> {
-    ghost use Rattle.std.specs.Prelude.{◌≡◌};
-    ghost use Rattle.jsonb.specs.ItemView.{item_view};
-    ghost use Rattle.jsonb.specs.Node.{node_view};
-
-    ghost from_gives = { λ node item. item_view item ≡ node_view node };
-
-    fn from(node: Node<'a>) -> Self {
-        match node {
-            Node::Null => JsonbItem::Null,
-            Node::Boolean(value) => JsonbItem::Boolean(value),
-            Node::Number(number) => JsonbItem::Number(number),
-            Node::String(text) => JsonbItem::String(CowStr::Borrowed(text)),
-            Node::Extension(value) => JsonbItem::Extension(value),
-            Node::Container(document) => JsonbItem::Raw(document.as_raw()),
-        }
-    }
-}
-
 /// Writes the compact text, without white space. Width and fill are ignored.
 impl fmt::Display for Document<'_> {
     ghost use Rattle.std.specs.Prelude.{Some};
@@ -495,20 +372,5 @@ impl fmt::Display for Document<'_> {
 
     fn fmt<W: fmt::Write>(&self, f: &mut fmt::Formatter<W>) -> fmt::Result {
         write_document(*self, Layout::InOneLine, f)
-    }
-}
-
-/// Writes the compact text, without white space. Width and fill are ignored.
-impl fmt::Display for Node<'_> {
-    ghost use Rattle.std.specs.Prelude.{Some};
-    ghost use Rattle.jsonb_value.specs.Text.{compact};
-    ghost use Rattle.jsonb.specs.Node.{node_tree};
-
-    ghost output = { λ node. Some (compact (node_tree node)) };
-
-    ghost styled_output = { λ node _. Some (compact (node_tree node)) };
-
-    fn fmt<W: fmt::Write>(&self, f: &mut fmt::Formatter<W>) -> fmt::Result {
-        write_value(self.opened(), f)
     }
 }

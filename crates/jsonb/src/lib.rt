@@ -13,6 +13,7 @@ mod iterator;
 pub mod laws;
 pub mod layer;
 mod lookup;
+mod node;
 mod nodes;
 mod number_item;
 mod order;
@@ -24,7 +25,7 @@ mod text;
 mod text_len;
 
 pub use builder::{ArrayBuilder, ArrayDistinctBuilder, ObjectBuilder};
-pub use document::{Contents, Document, Node};
+pub use document::{Contents, Document};
 pub use extension_item::ExtensionItem;
 pub use item::JsonbItem;
 pub use item_type::JsonbItemType;
@@ -41,6 +42,7 @@ pub use jsonb_value::{
     read_text, read_text_within,
 };
 pub use lookup::{FoundValue, MAX_READS, Reads};
+pub use node::Node;
 pub use nodes::{Items, Members};
 pub use number_item::NumberItem;
 pub use owned::OwnedJsonb;

@@ -13,8 +13,8 @@ ghost use Rattle.jsonb.specs.EntryTrees.{member_part_tree, entry_of_part};
 ghost use Rattle.jsonb.specs.StoredEntries.{AreEntriesOf, find_entry};
 ghost use Rattle.jsonb.specs.Node.{node_tree, member_tree, HoldsNoScalar};
 
-use crate::document::Node;
 use crate::entries::Cursor;
+use crate::node::Node;
 use jsonb_codec::parts::Part;
 use std::marker::Model;
 

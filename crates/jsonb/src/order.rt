@@ -16,9 +16,10 @@ mod owned;
 mod raw;
 mod walk;
 
-use crate::document::{Document, Node};
+use crate::document::Document;
 use crate::item::{JsonbItem, text_of};
 use crate::item_type::JsonbItemType;
+use crate::node::Node;
 use crate::sort_key::SortKey;
 use jsonb_codec::layer::document_text;
 use std::cmp::Ordering;

@@ -10,7 +10,8 @@ ghost use Rattle.jsonb.specs.Words.{object_of, IsContainer, HoldsNoScalar, layou
 ghost use Rattle.jsonb.specs.Words.{display_text, pretty_display_text, pair_text};
 ghost use Rattle.jsonb.specs.Words.{HasIndentRoom, length_64};
 
-use crate::document::{Contents, Document, Node};
+use crate::document::{Contents, Document};
+use crate::node::Node;
 use crate::nodes::{Items, Members};
 use bstr::ByteSlice;
 use jsonb_codec::parts::Part;

@@ -7,7 +7,8 @@ ghost use Rattle.jsonb.specs.Words.{part_tree, rest_trees, rest_pairs, array_of,
 ghost use Rattle.jsonb.specs.Words.{line_start, pair_text, HasIndentRoom, IsContainer};
 ghost use Rattle.jsonb.specs.Words.{HoldsNoScalar};
 
-use crate::document::{Contents, Document, Node};
+use crate::document::{Contents, Document};
+use crate::node::Node;
 use crate::nodes::{Items, Members};
 use crate::text::Layout;
 use jsonb_codec::parts::Part;

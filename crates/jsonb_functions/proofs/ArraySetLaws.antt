@@ -15,7 +15,7 @@ use Rattle.jsonb_value.specs.Tree.{extension, array, object, Pairs}
 use Rattle.jsonb_codec.specs.declared.constants.TheConstants.{CONTAINER_TAG}
 use Rattle.jsonb_codec.specs.declared.parts.Part.{Part}
 use Rattle.jsonb_codec.specs.Doc.{type_of}
-use Rattle.jsonb.specs.declared.document.Node.{Node}
+use Rattle.jsonb.specs.declared.node.Node.{Node}
 use Rattle.jsonb.specs.EntryTrees.{part_tree}
 use Rattle.jsonb.specs.Node.{node_tree}
 use Rattle.jsonb_functions.specs.ArraySets.{are_equal, distinct_items, equals, is_first, is_matched}

@@ -4,8 +4,8 @@ use Rattle.std.proofs.Common.{inl, inr, true}
 use Rattle.jsonb_value.specs.Tree.{Tree}
 use Rattle.jsonb_value.specs.Value.{trees_of}
 use Rattle.jsonb.specs.declared.document.Document.{Document}
-use Rattle.jsonb.specs.declared.document.Node.{Node}
-use Rattle.jsonb.specs.declared.document.Node.TheVariants as nodes
+use Rattle.jsonb.specs.declared.node.Node.{Node}
+use Rattle.jsonb.specs.declared.node.Node.TheVariants as nodes
 use Rattle.jsonb.specs.Node.{array_of, object_of, pairs_of, node_tree}
 use Rattle.jsonb_comparable.specs.Escaped.{escaped}
 use Rattle.jsonb_comparable.specs.TreeKey.{tree_key}

@@ -23,8 +23,8 @@ use Rattle.jsonb_value.specs.Tree.{Pairs, pair}
 use Rattle.jsonb_value.specs.Value.{trees_of}
 use Rattle.jsonb_codec.specs.declared.constants.TheConstants.{CONTAINER_TAG}
 use Rattle.jsonb_codec.specs.Doc.{type_of}
-use Rattle.jsonb.specs.declared.document.Node.{Node}
-use Rattle.jsonb.specs.declared.document.Node.TheVariants as nodes
+use Rattle.jsonb.specs.declared.node.Node.{Node}
+use Rattle.jsonb.specs.declared.node.Node.TheVariants as nodes
 use Rattle.jsonb.specs.Document.{document_tree}
 use Rattle.jsonb.specs.Node.{HoldsNoScalar, items_of, members_of, node_tree, object_of, pairs_of}
 use Rattle.jsonb.specs.Node.{value_of_key}

@@ -17,8 +17,8 @@ use Rattle.jsonb_value.specs.Value.{trees_of}
 use Rattle.jsonb_value.proofs.TreeLaws.{tree_cmp_total}
 use Rattle.jsonb_codec.specs.declared.constants.TheConstants.{CONTAINER_TAG}
 use Rattle.jsonb_codec.specs.Doc.{type_of}
-use Rattle.jsonb.specs.declared.document.Node.{Node}
-use Rattle.jsonb.specs.declared.document.Node.TheVariants as nodes
+use Rattle.jsonb.specs.declared.node.Node.{Node}
+use Rattle.jsonb.specs.declared.node.Node.TheVariants as nodes
 use Rattle.jsonb.specs.declared.extension_item.ExtensionItem.{ExtensionItem}
 use Rattle.jsonb.specs.Node.{array_of, node_tree}
 use Rattle.jsonb_functions.specs.ArraySets.{are_equal}

@@ -10,8 +10,8 @@ use Rattle.jsonb_value.specs.Value.{trees_of}
 use Rattle.std.proofs.Common.{arith, Bor}
 use Rattle.jsonb_codec.specs.declared.constants.TheConstants.{CONTAINER_TAG}
 use Rattle.jsonb_codec.specs.Doc.{type_of}
-use Rattle.jsonb.specs.declared.document.Node.{Node}
-use Rattle.jsonb.specs.declared.document.Node.TheVariants as nodes
+use Rattle.jsonb.specs.declared.node.Node.{Node}
+use Rattle.jsonb.specs.declared.node.Node.TheVariants as nodes
 use Rattle.jsonb.specs.Document.{document_tree}
 use Rattle.jsonb.specs.Node.{value_of_key, pairs_of, array_of, object_of, node_tree, HoldsNoScalar}
 use Rattle.jsonb_functions.specs.Contains.{contained, some_tree, is_there, has_top_key}

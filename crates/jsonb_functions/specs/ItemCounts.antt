@@ -2,7 +2,7 @@
 use Rattle.std.specs.Prelude.{◌≡◌, ℕ, List, unwrap_or, if◌then◌else◌}
 use Rattle.std.specs.Map.{lookup}
 use Rattle.jsonb_value.specs.Tree.{Trees}
-use Rattle.jsonb.specs.declared.document.Node.{Node}
+use Rattle.jsonb.specs.declared.node.Node.{Node}
 use Rattle.jsonb.specs.Node.{node_tree}
 use Rattle.jsonb_functions.specs.ArraySets.{are_equal, equals}
 

@@ -8,8 +8,8 @@ use Rattle.jsonb_value.specs.TreeOrder.{tree_cmp}
 use Rattle.jsonb_codec.specs.declared.constants.TheConstants.{CONTAINER_TAG}
 use Rattle.jsonb_codec.specs.Doc.{type_of}
 use Rattle.jsonb.specs.declared.document.Document.{Document}
-use Rattle.jsonb.specs.declared.document.Node.{Node}
-use Rattle.jsonb.specs.declared.document.Node.TheVariants.{Container}
+use Rattle.jsonb.specs.declared.node.Node.{Node}
+use Rattle.jsonb.specs.declared.node.Node.TheVariants.{Container}
 use Rattle.jsonb.specs.Node.{node_tree}
 use Rattle.jsonb_functions.specs.ArraySets.{are_equal}
 use Rattle.jsonb_functions.specs.Contains.{contained, some_tree}

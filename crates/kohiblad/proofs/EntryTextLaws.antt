@@ -11,8 +11,8 @@ use Rattle.jsonb.specs.Document.{document_bytes, document_tree}
 use Rattle.jsonb.specs.Entries.{entry_there}
 use Rattle.jsonb.specs.Node.{node_tree, IsContainer}
 use Rattle.jsonb.specs.declared.document.Document.{Document}
-use Rattle.jsonb.specs.declared.document.Node.{Node}
-use Rattle.jsonb.specs.declared.document.Node.TheVariants as nodes
+use Rattle.jsonb.specs.declared.node.Node.{Node}
+use Rattle.jsonb.specs.declared.node.Node.TheVariants as nodes
 use Rattle.jsonb.proofs.DocumentLaws.{tree_of_bytes}
 use Rattle.jsonb.specs.declared.entries.Entry.{Entry as PlacedEntry}
 use Rattle.kohiblad.specs.EntryTexts.{IsPayloadWithin, IsPrintedPart}

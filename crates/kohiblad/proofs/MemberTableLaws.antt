@@ -14,7 +14,7 @@ use Rattle.std.proofs.lemmas.Bool.{ltb-true, ltb-false}
 use Rattle.std.proofs.lemmas.List.{append-nil, map-append}
 use Rattle.jsonb_value.specs.Tree.{Ascend, Ascends, Tree, null, boolean, number, text, extension}
 use Rattle.jsonb_value.specs.Tree.{array, object}
-use Rattle.jsonb.specs.declared.document.Node.{Node}
+use Rattle.jsonb.specs.declared.node.Node.{Node}
 use Rattle.jsonb.specs.Node.{members_of, node_tree, object_of, pairs_of, value_of_key}
 use Rattle.jsonb_functions.specs.Picked.{AreSorted}
 use Rattle.jsonb_functions.proofs.KeyOrder.{ascend_later, flipped, key_equal, met, passed}

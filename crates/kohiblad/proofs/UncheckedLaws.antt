@@ -14,7 +14,7 @@ use Rattle.jsonb.specs.Item.{Entry}
 use Rattle.jsonb.specs.Lookup.{find_pair}
 use Rattle.jsonb.specs.Node.{IsContainer, node_tree, value_of_key}
 use Rattle.jsonb.specs.StoredEntries.{AreMemberEntriesOf, find_entry}
-use Rattle.jsonb.specs.declared.document.Node.{Node}
+use Rattle.jsonb.specs.declared.node.Node.{Node}
 use Rattle.jsonb.specs.declared.entries.Entry.{Entry as PlacedEntry}
 use Rattle.jsonb.proofs.KindLaws.{container_cases}
 use Rattle.jsonb_functions.specs.Found.{found_at, if_there}

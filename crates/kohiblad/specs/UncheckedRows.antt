@@ -2,7 +2,7 @@
 use Rattle.std.specs.Prelude.{◌≡◌, ℕ, Option, None, Some, option_map, Result, Ok, Err}
 use Rattle.jsonb_value.specs.Tree.{Tree}
 use Rattle.jsonb.specs.Node.{IsContainer, node_tree}
-use Rattle.jsonb.specs.declared.document.Node.{Node}
+use Rattle.jsonb.specs.declared.node.Node.{Node}
 
 -- The member, or none, is read; an array or object is not read, and the state is 3.
 abbrev pub IsReadAs : Option Tree → Result (Option Node) ℕ → Type 0

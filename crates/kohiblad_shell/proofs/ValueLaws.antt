@@ -4,7 +4,7 @@ use Rattle.std.proofs.Common.{sym, ap, ◌∙◌, append_assoc}
 use Rattle.std.specs.Prelude.{slice_index_or}
 use Rattle.std.proofs.lemmas.List.{append-nil, map-append, take_more}
 use Rattle.jsonb_value.specs.Tree.{Tree}
-use Rattle.jsonb.specs.declared.document.Node.{Node}
+use Rattle.jsonb.specs.declared.node.Node.{Node}
 use Rattle.jsonb.specs.Node.{node_tree}
 use Rattle.kohiblad_shell.specs.declared.operation.Style.{Style}
 use Rattle.kohiblad_shell.specs.Operations.{value_line, value_lines}

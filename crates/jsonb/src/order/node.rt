@@ -7,7 +7,7 @@ ghost use Rattle.jsonb.specs.Words.{partial_order_from_total, on, eq_by_cmp, as_
 ghost use Rattle.jsonb.specs.Words.{tree_cmp, node_tree};
 
 use super::walk::cmp_nodes;
-use crate::document::Node;
+use crate::node::Node;
 use std::cmp::Ordering;
 
 impl PartialEq for Node<'_> {

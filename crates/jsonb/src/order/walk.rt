@@ -6,7 +6,8 @@ ghost use Rattle.jsonb.specs.Words.{tree_cmp, document_tree, kind_of_tree, rank_
 ghost use Rattle.jsonb.specs.Words.{rest_pairs, node_tree, HoldsNoScalar, IsContainer, array_of};
 ghost use Rattle.jsonb.specs.Words.{object_of, part_tree};
 
-use crate::document::{Contents, Document, Node};
+use crate::document::{Contents, Document};
+use crate::node::Node;
 use crate::nodes::{Items, Members};
 use jsonb_codec::constants::{CONTAINER_TAG, NUMBER_TAG, STRING_TAG};
 use jsonb_codec::parts::Part;

@@ -1,7 +1,7 @@
 use Rattle.std.proofs.Common.{arith, ap, ap₂, sym, ◌∙◌}
 use Rattle.jsonb_value.specs.TreeOrder.{tree_cmp}
 use Rattle.jsonb_codec.specs.Depth.{size}
-use Rattle.jsonb.specs.declared.document.Node.TheVariants.{Container}
+use Rattle.jsonb.specs.declared.node.Node.TheVariants.{Container}
 use Rattle.jsonb.proofs.EntryTreeLaws.{entry_tree-node}
 use Rattle.jsonb.proofs.order.walk.+documents.Goals as goal
 

@@ -4,7 +4,7 @@ use Rattle.jsonb_codec.specs.Doc.{type_of}
 use Rattle.jsonb_codec.proofs.Decision.{known_part}
 use Rattle.jsonb.proofs.ItemLaws.{item_of-text}
 use Rattle.jsonb.proofs.NodeLaws.{container_part, container_item}
-use Rattle.jsonb.proofs.document.Node.of_part.Goals as goal
+use Rattle.jsonb.proofs.node.Node.of_part.Goals as goal
 
 pub returns-in-268435456-clause-item : goal.returns-in-268435456-clause-item
 returns-in-268435456-clause-item c =
