@@ -5,7 +5,7 @@ use Rattle.std.proofs.lemmas.List.{length-map}
 use Rattle.std.specs.Map.{keys_of, values_of}
 use Rattle.jsonb_value.specs.declared.error.Error.{Error}
 use Rattle.jsonb_value.specs.Tree.{Tree, text, array, object, Trees, no_trees, tree, Pairs}
-use Rattle.jsonb_value.specs.Tree.{no_pairs, pair}
+use Rattle.jsonb_value.specs.Tree.{no_pairs, pair, pair_count}
 use Rattle.jsonb_codec.specs.Doc.{Doc}
 use Rattle.jsonb_codec.specs.declared.parts.Part.{Part}
 use Rattle.jsonb_codec.specs.Contents as parts
@@ -18,8 +18,7 @@ use Rattle.jsonb.specs.Code.{ItemMeans}
 use Rattle.jsonb.specs.Item.{Entry, item_of}
 use Rattle.jsonb.specs.Building.{AreTexts, key_codes}
 use Rattle.jsonb.specs.StoredEntries.{AreCodesOf, AreMemberEntriesOf}
-use Rattle.jsonb.specs.Entries.{Run, entries_of, entry_read, item_run, key_run, until_error}
-use Rattle.jsonb.specs.Walk.{count_if, count_under}
+use Rattle.jsonb.specs.Entries.{Run, entries_of, entry_read, key_run, until_error}
 use Rattle.jsonb.specs.EntryTrees.{view_tree, item_tree, entry_tree, entry_of_part, AreParts}
 use Rattle.jsonb.specs.EntryTrees.{AreKeyEntries, AreMemberEntries, key_read, rest_trees}
 use Rattle.jsonb.specs.EntryTrees.{rest_pairs}
@@ -28,9 +27,8 @@ use Rattle.jsonb.specs.Node.{node_tree, array_of, pairs_of, object_of, tree_list
 use Rattle.jsonb.specs.Node.{items_of, members_of, first_key_of}
 use Rattle.jsonb.proofs.ItemLaws.{found_item}
 use Rattle.jsonb.proofs.DocumentLaws.{tree_in-is}
-use Rattle.jsonb.proofs.KindLaws.{header_of_tree}
-use Rattle.jsonb.proofs.StoredEntryLaws.{array_holds, object_holds}
-use Rattle.jsonb.proofs.DocumentWalks.{array_payload, object_payload, count_under-Doc}
+use Rattle.jsonb.proofs.StoredEntryLaws.{object_holds}
+use Rattle.jsonb.proofs.DocumentWalks.{object_payload}
 
 -- every entry of a run can be read
 length-until_error : (xs : List (Result Entry Error)) → AreParts (until_error xs)
@@ -71,23 +69,6 @@ means_trees (c ∷ cs) (tree t ts) h =
     let more = means_trees cs ts h.1 in
     (((t, h.0), more.0), cc (entry_tree-is c.type c.payload t h.0, more.1))
 
-abbrev pub FindsItems : List ℕ → Tree → Result (Option ℕ) Error → Type 0
-FindsItems b t (Ok (Some n)) = AreParts (entries_of (item_run b n))
-    × (Some (rest_trees (entries_of (item_run b n))) ≡ items_of t)
-FindsItems b t (Ok None) = None ≡ items_of t
-FindsItems b t (Err e) = ⊥
-
-finds_items : (b : List ℕ) (t : Tree) → Doc b t
-    → FindsItems b t (Ok (count_if 2147483648 (header_of_tree t)))
-finds_items b (array ts) doc =
-    let holds = array_holds b ts (array_payload b ts doc) in
-    let mean = means_trees holds.entries ts holds.stored.mean in
-    rw holds.read (mean.0, ap Some mean.1)
-finds_items b t doc = refl
-
-pub items-Doc : (b : List ℕ) (t : Tree) → Doc b t → FindsItems b t (count_under b 2147483648)
-items-Doc b t doc = rw (count_under-Doc b t 2147483648 doc) (finds_items b t doc)
-
 -- The entries of keys and values mean the pairs of an object.
 pub means_pairs : (ms : List (List ℕ × Entry)) (ps : Pairs)
     → AreMemberEntriesOf (keys_of ms) (values_of ms) ps
@@ -118,24 +99,14 @@ first_is [] ps h = ap (λ us. first_key_of (object us)) (sym h)
 first_is (m ∷ ms) no_pairs h = absurd h
 first_is (m ∷ ms) (pair k t ps) h = ap (λ x. Some (Some x)) h.0
 
-abbrev pub FindsFirstKey : List ℕ → Tree → Result (Option ℕ) Error → Type 0
-FindsFirstKey b t (Ok (Some n)) =
-    (AreParts (entries_of (key_run b n)) × AreKeyEntries (entries_of (key_run b n)))
-    × (Some (first_read (entries_of (key_run b n))) ≡ first_key_of t)
-FindsFirstKey b t (Ok None) = None ≡ first_key_of t
-FindsFirstKey b t (Err e) = ⊥
-
-finds_first_key : (b : List ℕ) (t : Tree) → Doc b t
-    → FindsFirstKey b t (Ok (count_if 1073741824 (header_of_tree t)))
-finds_first_key b (object ps) doc =
+pub first_key-Doc : (b : List ℕ) (ps : Pairs) → Doc b (object ps)
+    → (AreParts (entries_of (key_run b (pair_count ps)))
+    × AreKeyEntries (entries_of (key_run b (pair_count ps))))
+    × (Some (first_read (entries_of (key_run b (pair_count ps)))) ≡ first_key_of (object ps))
+first_key-Doc b ps doc =
     let holds = object_holds b ps (object_payload b ps doc) in
     let mean = means_pairs holds.members ps holds.stored.mean holds.texts in
     rw holds.keys (mean.0.0, first_is holds.members ps holds.stored.mean)
-finds_first_key b t doc = refl
-
-pub first_key-Doc : (b : List ℕ) (t : Tree) → Doc b t
-    → FindsFirstKey b t (count_under b 1073741824)
-first_key-Doc b t doc = rw (count_under-Doc b t 1073741824 doc) (finds_first_key b t doc)
 
 -- a value decoded from a part has the tree of the part's entry
 pub entry_tree-node : (part : Part) (node : Node)
@@ -172,7 +143,14 @@ object_of-members (object ps) ms e =
     let same : ms ≡ pair_list ps = cc in cc (same, pairs_of-pair_list ps)
 object_of-members t ms e = cc
 
--- The pairs of an object, by its content.
+-- The items of an array and the pairs of an object, by their content.
+tree_list-trees_of : (xs : List Tree) → tree_list (trees_of xs) ≡ xs
+tree_list-trees_of [] = refl
+tree_list-trees_of (x ∷ xs) = cc (tree_list-trees_of xs)
+
+pub items_of-array : (t : Tree) (xs : List Tree) → array_of xs ≡ t → Some xs ≡ items_of t
+items_of-array t xs is = ap Some (sym (tree_list-trees_of xs)) ∙ ap items_of is
+
 pair_list-pairs_of : (ms : List (List ℕ × Tree)) → pair_list (pairs_of ms) ≡ ms
 pair_list-pairs_of [] = refl
 pair_list-pairs_of (m ∷ ms) = cc (pair_list-pairs_of ms)

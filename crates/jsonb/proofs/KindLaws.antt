@@ -1,12 +1,14 @@
 -- The kind read from a document is that of its tree.
 use Rattle.std.proofs.Common.{◌≡◌, ◌≢◌, ℕ, ◌+◌, List, ◌++◌, true, false, length, Ok, refl}
-use Rattle.std.proofs.Common.{ap, ◌∙◌, inl, inr, arith}
+use Rattle.std.proofs.Common.{ap, ◌∙◌, inl, inr, arith, IfOk}
 use Rattle.jsonb_value.specs.Tree.{Tree, boolean, array, object}
 use Rattle.jsonb_value.specs.Tree.{Trees, Pairs, count, pair_count}
 use Rattle.jsonb_codec.specs.WordBytes.{word, header_at}
 use Rattle.jsonb_codec.specs.JEntry.{jentry_at}
 use Rattle.jsonb_codec.specs.Doc.{Doc, Scalar, Payload, type_of}
 use Rattle.jsonb.specs.Kind.{kind, kind_under, kind_of_type, kind_of_tree}
+use Rattle.jsonb.specs.declared.item_type.JsonbItemType.{JsonbItemType}
+use Rattle.jsonb.specs.declared.item_type.JsonbItemType.TheVariants as kinds
 use Rattle.jsonb.proofs.Places.{At, At-all, At-whole, At-left, At-after_word, header_at-At}
 use Rattle.jsonb.proofs.Places.{header_of-array, header_of-object, header_of-scalar, IsTag}
 use Rattle.jsonb.proofs.Places.{jentry_at-At}
@@ -82,6 +84,10 @@ kind_of_type-scalar (array ts) other = absurd (other refl)
 kind_of_type-scalar (object ps) other = absurd (other refl)
 kind_of_type-scalar t other = refl
 
+pub scalar_kind : (t : Tree) (type : ℕ) (k : JsonbItemType) → type_of t ≡ type
+    → type_of t ≢ 1342177280 → IfOk (kind_of_type type) (λ kind. k ≡ kind) → k ≡ kind_of_tree t
+scalar_kind t type k is other known = rw (← is, kind_of_type-scalar t other) at known
+
 -- the kind of a document
 pub kind-Doc : (b : List ℕ) (t : Tree) → Doc b t → kind b ≡ Ok (kind_of_tree t)
 unfolding kind
@@ -90,3 +96,13 @@ kind-Doc b t (inl (other, h)) =
 kind-Doc b t (inr (is, h)) = rw (header_at-Doc b t (inr (is, h)))
     (container_cases (λ t. kind_under (header_of_tree t) b ≡ Ok (kind_of_tree t)) t is
     (λ ts. refl) (λ ps. refl))
+
+-- the kind of an array or object, by its header
+module _ (b : List ℕ) (t : Tree) (n : ℕ) (doc : Doc b t) where
+  pub array_kind : Ok (2147483648, n) ≡ header_at b 0 → kinds.Array n ≡ kind_of_tree t
+  unfolding kind
+  array_kind read = let is = rw (← read) at (kind-Doc b t doc) in cc
+
+  pub object_kind : Ok (1073741824, n) ≡ header_at b 0 → kinds.Object n ≡ kind_of_tree t
+  unfolding kind
+  object_kind read = let is = rw (← read) at (kind-Doc b t doc) in cc

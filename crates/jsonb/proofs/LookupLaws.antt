@@ -5,6 +5,7 @@ use Rattle.std.proofs.Common.{◌==◌, ◌&&◌, if◌then◌else◌, Result, O
 use Rattle.std.proofs.Common.{IsOk, IsOkAnd, refl, sym, ap, subst, ◌∙◌, arith}
 use Rattle.std.proofs.Common.{length-append, eq-eqb, eqb-true}
 use Rattle.std.specs.Map.{keys_of, values_of}
+use Rattle.std.specs.Result.{result_ok}
 use Rattle.std.proofs.lemmas.Bool.{eqb-false}
 use Rattle.std.proofs.lemmas.Option.{slice_get-get_or, slice_get-map, slice_get_within}
 use Rattle.std.proofs.lemmas.Map.Entries.{length-values_of}
@@ -16,6 +17,7 @@ use Rattle.jsonb_value.specs.Tree.{Tree, Extension, null, boolean, number, text,
 use Rattle.jsonb_value.specs.Tree.{object, Pairs, no_pairs, pair, pair_count}
 use Rattle.jsonb_codec.specs.JEntry.{jentry_at}
 use Rattle.jsonb_codec.specs.Doc.{Payload, Doc}
+use Rattle.jsonb.specs.declared.entries.Entry.{Entry as PlacedEntry}
 use Rattle.jsonb.specs.declared.item.JsonbItem.{JsonbItem}
 use Rattle.jsonb.specs.ItemView.{ItemView, item_view}
 use Rattle.jsonb.specs.Payloads.{has_known_tag}
@@ -33,7 +35,7 @@ use Rattle.jsonb.specs.Lookup.{LooksUpBytes, no_header, other_header, unread, al
 use Rattle.jsonb.specs.Lookup.{one_accepted, LooksUpPairs}
 use Rattle.jsonb.specs.Lookup.{value_view, find_pair}
 use Rattle.jsonb.specs.Lookup.{find, find_index, values_up_to, words_read, pair_count_in, AnswersBy}
-use Rattle.jsonb.specs.Lookup.{IsItemFound, IsRefusal}
+use Rattle.jsonb.specs.Lookup.{FindsEntry, IsItemFound, IsRefusal}
 use Rattle.jsonb.proofs.Places.{At-left, At, part_at-At}
 use Rattle.jsonb.proofs.PartLaws.{key_of_other_length, key_known}
 use Rattle.jsonb.proofs.StoredEntryLaws.{value_trees, pair_keys, both_are}
@@ -204,9 +206,21 @@ numbered bytes ps h =
       counted = counted;
     }
 
--- A document's header can be read.
-pub count-Doc : (b : List ℕ) (t : Tree) (e : Error) → Doc b t → Err e ≡ count_under b 1073741824 → ⊥
-count-Doc b t e h same = let found = count_under-Doc b t 1073741824 h in cc
+-- The count in a header, by the result of reading it without its error.
+module _ (b : List ℕ) (r : Result (Option ℕ) Error) (o : Option (Option ℕ))
+    (same : r ≡ count_under b 1073741824) (is : o ≡ result_ok r) where
+  pub count_read : (n : Option ℕ) → o ≡ Some n → Ok n ≡ count_under b 1073741824
+  count_read n some = by r (sym is ∙ some) ∙ same where
+    by : (r : Result (Option ℕ) Error) → result_ok r ≡ Some n → Ok n ≡ r
+    by (Ok m) some = cc
+    by (Err e) some = absurd cc
+
+  -- a document's header can be read
+  pub count-Doc : (t : Tree) → Doc b t → o ≡ None → ⊥
+  count-Doc t doc none = by r (sym is ∙ none) same where
+    by : (r : Result (Option ℕ) Error) → result_ok r ≡ None → r ≡ count_under b 1073741824 → ⊥
+    by (Ok m) none same = absurd cc
+    by (Err e) none same = let found = count_under-Doc b t 1073741824 doc in cc
 
 -- The result on the bytes of a document is what is found in the document.
 module _ (answers : List ℕ → Bool → Type 0) (size : ℕ) (b : List ℕ) where
@@ -481,6 +495,26 @@ module _ (answers : List ℕ → Bool → Type 0) (accepts : List ℕ → Bool) 
   found_stored b t o reads doc h = h.0
 
 -- In a document that is no object nothing is found, after the header's word.
+
+-- The entry that a look-up finds, by its result without its error.
+module _ (answers : List ℕ → Bool → Type 0) (size : ℕ) (b : List ℕ) (n reads : ℕ)
+    (r : Result (Option PlacedEntry) Error) (o : Option (Option PlacedEntry)) (is : o ≡ result_ok r)
+    (found : FindsEntry answers size b n r reads) where
+  pub entry_read : (x : Option PlacedEntry) → o ≡ Some x → FindsEntry answers size b n (Ok x) reads
+  entry_read x some = by r (sym is ∙ some) found where
+    by : (r : Result (Option PlacedEntry) Error) → result_ok r ≡ Some x
+        → FindsEntry answers size b n r reads → FindsEntry answers size b n (Ok x) reads
+    by (Ok y) some found =
+        let same : y ≡ x = cc in subst (λ z. FindsEntry answers size b n (Ok z) reads) same found
+    by (Err e) some found = absurd cc
+
+  pub entry_unread : ((e : Error) → IsUnreadable answers size b n e → ⊥) → o ≡ None → ⊥
+  entry_unread never none = by r (sym is ∙ none) found where
+    by : (r : Result (Option PlacedEntry) Error) → result_ok r ≡ None
+        → FindsEntry answers size b n r reads → ⊥
+    by (Ok y) none found = absurd cc
+    by (Err e) none found = never e found
+
 pub none_by_header : (accepts : List ℕ → Bool) (size : ℕ) (b : List ℕ) (t : Tree) → Doc b t
     → Ok None ≡ count_under b 1073741824
     → (find accepts size t ≡ None) × (1 ≡ words_read accepts size t)

@@ -1,17 +1,19 @@
 -- Values in documents: the content of arrays and objects, and the entry at a key.
+use Rattle.std.proofs.Common.{inl, inr, ◌+◌, ◌*◌, ◌≤◌}
 use Rattle.std.proofs.Common.{◌≡◌, ◌≢◌, ℕ, Bool, true, false, ◌==◌, ◌&&◌, if◌then◌else◌, List, []}
 use Rattle.std.proofs.Common.{◌∷◌, length, Option, Some, None, option_map, Result, Ok, Err, refl}
 use Rattle.std.proofs.Common.{sym, ap, ◌∙◌, nat_eq, arith}
 use Rattle.std.proofs.lemmas.Bool.{eq-eqb}
 use Rattle.std.proofs.Math.Bool.{and-false}
-use Rattle.std.proofs.lemmas.Bool.Decides.{Decides-eqb}
+use Rattle.std.proofs.lemmas.Bool.Decides.{Decides-eqb, leb_tells}
+use Rattle.std.specs.Result.{result_unwrap_or}
 use Rattle.std.proofs.lemmas.Slice.Eq.{slice_eq-Decides}
 use Rattle.std.specs.Cmp.Lexicographic.{pointwise}
 use Rattle.std.specs.Map.{keys_of, values_of}
 use Rattle.jsonb_value.specs.declared.error.Error.{Error}
 use Rattle.jsonb_value.specs.Tree.{Tree, boolean, array, object, Pairs, no_pairs, pair, count}
 use Rattle.jsonb_value.specs.Tree.{pair_count}
-use Rattle.jsonb_codec.specs.WordBytes.{header_at}
+use Rattle.jsonb_codec.specs.WordBytes.{header_at, header_in}
 use Rattle.jsonb_codec.specs.Doc.{Doc}
 use Rattle.jsonb_codec.specs.Parts.{IsPayloadOf}
 use Rattle.jsonb.specs.declared.node.Node.{Node}
@@ -22,15 +24,19 @@ use Rattle.jsonb.specs.ItemView.{ItemView, raw}
 use Rattle.jsonb.specs.Building.{AreShort}
 use Rattle.jsonb.specs.Code.{ItemMeans}
 use Rattle.jsonb.specs.Contents.{AreStoredIn}
-use Rattle.jsonb.specs.EntryTrees.{AreParts, AreMemberEntries, rest_trees, rest_pairs}
+use Rattle.jsonb.specs.EntryTrees.{AreParts, AreKeyEntries, AreMemberEntries, rest_trees}
+use Rattle.jsonb.specs.EntryTrees.{rest_pairs}
 use Rattle.jsonb.specs.Lookup.{find, find_pair, IsItemFound}
-use Rattle.jsonb.specs.Node.{IsContainer, array_of, object_of, node_tree, node_view}
+use Rattle.jsonb.specs.Node.{IsContainer, array_of, object_of, node_tree, node_view, items_of}
+use Rattle.jsonb.specs.Node.{first_key_of}
 use Rattle.jsonb.specs.StoredEntries.{AreEntriesOf, AreMemberEntriesOf, IsFoundIn, entry_item}
 use Rattle.jsonb.specs.StoredEntries.{find_entry}
 use Rattle.jsonb.specs.Entries.{Run, entries_of, item_run, key_run, value_run}
 use Rattle.jsonb.proofs.DocumentWalks.{array_payload, object_payload}
 use Rattle.jsonb.proofs.EntryTreeLaws.{means_trees, means_pairs, array_of-items, object_of-members}
-use Rattle.jsonb.proofs.EntryTreeLaws.{view_tree-is}
+use Rattle.jsonb.proofs.EntryTreeLaws.{view_tree-is, first_read, first_key-Doc}
+use Rattle.jsonb.proofs.PartLaws.{word_cut}
+use Rattle.jsonb.proofs.PayloadEnds.{payloads_end-short}
 use Rattle.jsonb.proofs.KindLaws.{container_cases, header_at-Doc, header_of_tree}
 use Rattle.jsonb.proofs.StoredEntryLaws.{array_holds, object_holds, entry_item-tree}
 
@@ -49,6 +55,17 @@ header_number (Err e) = 0
 -- the header of a document can be read
 pub header_read : (b : List ℕ) (t : Tree) (e : Error) → Doc b t → Err e ≡ header_at b 0 → ⊥
 header_read b t e doc read = let header = header_at-Doc b t doc in cc
+
+pub header_known : (b : List ℕ) (t : Tree) (r : Result (ℕ × ℕ) Error) (other : ℕ × ℕ) → Doc b t
+    → r ≡ header_at b 0 → Ok (result_unwrap_or r other) ≡ header_at b 0
+header_known b t (Ok header) other doc is = is
+header_known b t (Err e) other doc is = absurd (header_read b t e doc is)
+
+header_there : (b : List ℕ) (header : ℕ × ℕ) → Ok header ≡ header_at b 0 → 4 ≤ length b
+header_there b header is = elim (leb_tells 4 (length b)) [
+  | inl fits ↦ fits.1
+  | inr few ↦ let cut = ap header_in (word_cut b 0 few.1) in absurd cc
+]
 
 -- an array, by the count in its header
 pub record IsArrayOpened (b : List ℕ) (t : Tree) (read : Entries) : Type 0 where
@@ -97,6 +114,57 @@ object_opened b t n doc read =
     let kind : 1073741824 ≡ header_kind (Ok (header_of_tree t)) =
     ap header_kind (read ∙ header_at-Doc b t doc) in
     absurd (omega (arith, kind))
+
+-- In an object the words of all keys are there.
+pub words_there : (b : List ℕ) (t : Tree) (n : ℕ) → Doc b t → Ok (1073741824, n) ≡ header_at b 0
+    → 4 + 4 * n ≤ length b
+words_there b t n doc read = elim (leb_tells (4 + 4 * n) (length b)) [
+  | inl fits ↦ fits.1
+  | inr cut ↦
+      absurd (rw (payloads_end-short b n 4 (4 + 8 * n) (λ none. header_there b _ read) cut.1) at
+      (object_opened b t n doc read))
+]
+
+-- the first key of an object
+pub first_key_opened : (b : List ℕ) (t : Tree) (n : ℕ) → Doc b t
+    → Ok (1073741824, n) ≡ header_at b 0
+    → (AreParts (entries_of (key_run b n)) × AreKeyEntries (entries_of (key_run b n)))
+    × (Some (first_read (entries_of (key_run b n))) ≡ first_key_of t)
+first_key_opened b (object ps) n doc read =
+    let same : n ≡ pair_count ps = ap header_number (read ∙ header_at-Doc b (object ps) doc) in
+    rw same (first_key-Doc b ps doc)
+first_key_opened b t n doc read =
+    let kind : 1073741824 ≡ header_kind (Ok (header_of_tree t)) =
+    ap header_kind (read ∙ header_at-Doc b t doc) in
+    absurd (omega (arith, kind))
+
+-- no other header is that of an array, or of an object
+module _ (b : List ℕ) (t : Tree) (kind n : ℕ) (doc : Doc b t)
+    (read : Ok (kind, n) ≡ header_at b 0) where
+  same_kind : kind ≡ header_kind (Ok (header_of_tree t))
+  same_kind = ap header_kind (read ∙ header_at-Doc b t doc)
+
+  pub no_items : kind ≢ 2147483648 → None ≡ items_of t
+  no_items other = by t same_kind where
+    by : (t : Tree) → kind ≡ header_kind (Ok (header_of_tree t)) → None ≡ items_of t
+    by (array ts) same = absurd (other same)
+    by t same = refl
+
+  pub no_first_key : kind ≢ 1073741824 → None ≡ first_key_of t
+  no_first_key other = by t same_kind where
+    by : (t : Tree) → kind ≡ header_kind (Ok (header_of_tree t)) → None ≡ first_key_of t
+    by (object ps) same = absurd (other same)
+    by t same = refl
+
+  pub array_or_object : IsContainer t → kind ≢ 1073741824 → kind ≡ 2147483648
+  array_or_object container other = by t same_kind container where
+    by : (t : Tree) → kind ≡ header_kind (Ok (header_of_tree t)) → IsContainer t
+        → kind ≡ 2147483648
+    by (array ts) same container = same
+    by (object ps) same container = absurd (other same)
+    by (boolean true) same container = absurd (omega arith)
+    by (boolean false) same container = absurd (omega arith)
+    by t same container = absurd (omega arith)
 
 -- any other header is that of a scalar
 pub scalar_opened : (b : List ℕ) (t : Tree) (kind n : ℕ) → Doc b t → Ok (kind, n) ≡ header_at b 0

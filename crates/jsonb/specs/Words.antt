@@ -38,7 +38,7 @@ pub use Rattle.jsonb_codec.specs.Fault.{IsTreeFault}
 pub use Rattle.jsonb_codec.specs.JEntry.{jentry_at}
 pub use Rattle.jsonb_codec.specs.Reread.{MeansAgain}
 pub use Rattle.jsonb_codec.specs.Stored.{code_of_some}
-pub use Rattle.jsonb_codec.specs.WordBytes.{word_at}
+pub use Rattle.jsonb_codec.specs.WordBytes.{header_at, word_at}
 pub use Rattle.jsonb_codec.specs.declared.constants.TheConstants.{CONTAINER_TAG, EXTENSION_TAG}
 pub use Rattle.jsonb_codec.specs.declared.constants.TheConstants.{NUMBER_TAG}
 pub use Rattle.jsonb_codec.specs.declared.constants.TheConstants.{OBJECT_CONTAINER_TAG}

@@ -1,6 +1,6 @@
 //! Documents that were checked once and are not checked again by any later call.
 
-use crate::entries::{Cursor, count_under};
+use crate::entries::Cursor;
 use crate::item_type::JsonbItemType;
 use crate::lookup::{MAX_READS, Reads, count_pairs, find_value};
 use crate::node::Node;
@@ -9,7 +9,7 @@ use crate::owned::OwnedJsonb;
 use crate::raw::RawJsonb;
 use crate::text::{Layout, document_text, write_document};
 use crate::text_len::document_text_len;
-use jsonb_codec::constants::{ARRAY_CONTAINER_TAG, OBJECT_CONTAINER_TAG};
+use jsonb_codec::constants::{ARRAY_CONTAINER_TAG, OBJECT_CONTAINER_TAG, SCALAR_CONTAINER_TAG};
 use jsonb_codec::layer::{
     DocumentBytes, append_canonical_document, is_canonical_document, value_of_document,
 };
@@ -35,7 +35,7 @@ pub enum Contents<'a> {
 
 impl<'a> Document<'a> {
     ghost use Rattle.std.specs.Prelude.{◌≡◌, ◌↔◌, ◌<◌, ◌≤◌, ◌+◌, ◌*◌, ◌^◌, length, nat_eq};
-    ghost use Rattle.std.specs.Prelude.{None, Some, Err, IfOk, IfErr, IfSome, IsSome, IsTrue};
+    ghost use Rattle.std.specs.Prelude.{None, Some, Ok, Err, IfOk, IfErr, IfSome, IsSome, IsTrue};
     ghost use Rattle.std.specs.Prelude.{MatchOption, option_map, string_bytes};
     ghost use Rattle.jsonb_codec.specs.Contents.{PartMeans};
     ghost use Rattle.jsonb.specs.Lookup.{pair_count_in};
@@ -47,7 +47,9 @@ impl<'a> Document<'a> {
     ghost use Rattle.jsonb.specs.Words.{node_tree, value_of_key, words_for_key};
     ghost use Rattle.jsonb.specs.Words.{items_of, item_at_index, members_of, first_key_of};
     ghost use Rattle.jsonb.specs.Words.{IsContainer, HoldsNoScalar, owned_bytes, raw_bytes};
-    ghost use Rattle.jsonb.specs.Words.{length_64};
+    ghost use Rattle.jsonb.specs.Words.{length_64, header_at};
+    ghost use Rattle.jsonb_codec.specs.declared.constants.TheConstants.{ARRAY_CONTAINER_TAG};
+    ghost use Rattle.jsonb_codec.specs.declared.constants.TheConstants.{OBJECT_CONTAINER_TAG};
 
     /// Checks the bytes. `None` if they are not a document.
     pub fn new(bytes: &'a [u8]) -> Option<Self>
@@ -116,10 +118,11 @@ impl<'a> Document<'a> {
     pub fn kind(&self) -> JsonbItemType
         ensures { result ≡ kind_of_tree (document_tree self.now) }
     {
-        let Ok(kind) = self.as_raw().jsonb_item_type() else {
-            unreachable!();
-        };
-        kind
+        match self.header() {
+            (ARRAY_CONTAINER_TAG, count) => JsonbItemType::Array(count),
+            (OBJECT_CONTAINER_TAG, count) => JsonbItemType::Object(count),
+            _ => JsonbItemType::of_scalar(self.part().type_code),
+        }
     }
 
     /// The single part that the document consists of.
@@ -159,22 +162,9 @@ impl<'a> Document<'a> {
         ensures entries { IfSome result
             (AreStoredIn (document_bytes self.now) (document_tree self.now)) }
     {
-        let bytes = self.as_bytes();
-        let Ok((kind, count)) = read_header(bytes, 0) else {
-            unreachable!();
-        };
-        match kind {
-            ARRAY_CONTAINER_TAG => {
-                let items = Cursor::over_items(bytes, count);
-                Some(Contents::Array(Items::new(items)))
-            }
-            OBJECT_CONTAINER_TAG => {
-                let Ok(values) = Cursor::over_values(bytes, count) else {
-                    unreachable!();
-                };
-                let keys = Cursor::over_keys(bytes, count);
-                Some(Contents::Object(Members::new(keys, values)))
-            }
+        match self.header() {
+            (ARRAY_CONTAINER_TAG, count) => Some(Contents::Array(self.items_of(count))),
+            (OBJECT_CONTAINER_TAG, count) => Some(Contents::Object(self.members_of(count))),
             _ => None,
         }
     }
@@ -185,21 +175,54 @@ impl<'a> Document<'a> {
         requires { IsContainer (document_tree self.now) }
         ensures { contents_tree result ≡ document_tree self.now }
     {
-        let Some(contents) = self.contents() else {
-            unreachable!();
-        };
-        contents
+        match self.header() {
+            (OBJECT_CONTAINER_TAG, count) => Contents::Object(self.members_of(count)),
+            (_, count) => Contents::Array(self.items_of(count)),
+        }
+    }
+
+    // The kind in the header, and the count of items or pairs. That of a document can be read.
+    #[inline(always)]
+    fn header(&self) -> (u32, usize)
+        ensures value { Ok result ≡ header_at (document_bytes self.now) 0 }
+        ensures few { result.1 < 2 ^ 29 }
+    {
+        read_header(self.as_bytes(), 0).unwrap_or((SCALAR_CONTAINER_TAG, 0))
+    }
+
+    // The items of an array with this count in its header.
+    #[inline(always)]
+    fn items_of(&self, count: usize) -> Items<'a>
+        requires few { count < 2 ^ 29 }
+        requires header { Ok (ARRAY_CONTAINER_TAG, count) ≡ header_at (document_bytes self.now) 0 }
+        ensures tree { contents_tree (Contents.Array result) ≡ document_tree self.now }
+        ensures entries { AreStoredIn (document_bytes self.now) (document_tree self.now)
+            (Contents.Array result) }
+    {
+        Items::new(Cursor::over_items(self.as_bytes(), count))
+    }
+
+    // The members of an object with this count in its header.
+    #[inline(always)]
+    fn members_of(&self, count: usize) -> Members<'a>
+        requires few { count < 2 ^ 29 }
+        requires header { Ok (OBJECT_CONTAINER_TAG, count) ≡ header_at (document_bytes self.now) 0 }
+        ensures tree { contents_tree (Contents.Object result) ≡ document_tree self.now }
+        ensures entries { AreStoredIn (document_bytes self.now) (document_tree self.now)
+            (Contents.Object result) }
+    {
+        let bytes = self.as_bytes();
+        let keys = Cursor::over_keys(bytes, count);
+        Members::new(keys, Cursor::over_values_within(bytes, count))
     }
 
     /// The items of an array, in order. `None` if the document is not an array.
     pub fn items(&self) -> Option<Items<'a>>
         ensures { option_map rest_trees result ≡ items_of (document_tree self.now) }
     {
-        let bytes = self.as_bytes();
-        match count_under(bytes, ARRAY_CONTAINER_TAG) {
-            Ok(Some(count)) => Some(Items::new(Cursor::over_items(bytes, count))),
-            Ok(None) => None,
-            Err(_) => unreachable!(),
+        match self.header() {
+            (ARRAY_CONTAINER_TAG, count) => Some(self.items_of(count)),
+            _ => None,
         }
     }
 
@@ -220,14 +243,12 @@ impl<'a> Document<'a> {
         ensures { option_map (option_map (λ key. key.now)) result
             ≡ first_key_of (document_tree self.now) }
     {
-        let bytes = self.as_bytes();
-        match count_under(bytes, OBJECT_CONTAINER_TAG) {
-            Ok(Some(count)) => match Cursor::over_keys(bytes, count).next_part() {
-                Some(key) => Some(Some(key.text())),
-                None => Some(None),
-            },
-            Ok(None) => None,
-            Err(_) => unreachable!(),
+        let (OBJECT_CONTAINER_TAG, count) = self.header() else {
+            return None;
+        };
+        match Cursor::over_keys(self.as_bytes(), count).next_part() {
+            Some(key) => Some(Some(key.text())),
+            None => Some(None),
         }
     }
 
@@ -279,20 +300,13 @@ impl<'a> Document<'a> {
         ensures bound { reads.new ≤ reads.old + (2 * pair_count_in (document_tree self.now) + 1) }
     {
         let bytes = self.as_bytes();
-        let count = match count_pairs(bytes, reads) {
-            Ok(Some(count)) => count,
-            Ok(None) => return None,
-            Err(_) => unreachable!(),
-        };
+        let count = count_pairs(bytes, reads).ok()??;
         let is_name = |name: &[u8], key: &[u8]| name == key;
-        match find_value(bytes, count, name, &is_name, reads) {
-            Ok(Some(entry)) => Some(Part {
-                type_code: entry.type_code,
-                payload: entry.payload(bytes),
-            }),
-            Ok(None) => None,
-            Err(_) => unreachable!(),
-        }
+        let entry = find_value(bytes, count, name, &is_name, reads).ok()??;
+        Some(Part {
+            type_code: entry.type_code,
+            payload: entry.payload(bytes),
+        })
     }
 
     /// The compact text, without white space. `OutOfMemory` is the only error.

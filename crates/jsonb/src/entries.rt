@@ -116,15 +116,28 @@ pub fn payloads_end(bytes: &[u8], word: usize, start: usize, count: usize) -> Re
     ensures near { IfOk result (λ end. end ≤ start + 2 ^ 32 * count) }
 {
     // All words are checked to be present at once, so that the loop has a single exit.
-    let Some(mut words) = bytes.get(word..word + 4 * count) else {
+    if bytes.len() < word + 4 * count {
         return Err(Error::InvalidEOF);
-    };
+    }
+    Ok(payloads_end_within(bytes, word, start, count))
+}
+
+// The same, where all words are known to be there.
+#[inline(always)]
+fn payloads_end_within(bytes: &[u8], word: usize, start: usize, count: usize) -> usize
+    requires words { word + 4 * count ≤ 2 ^ 34 }
+    requires payloads { start + 2 ^ 32 * count ≤ 2 ^ 63 }
+    requires there { word + 4 * count ≤ length bytes.now }
+    ensures value { Ok result ≡ payloads_end bytes.now count word start }
+    ensures near { result ≤ start + 2 ^ 32 * count }
+{
+    let mut words = &bytes[word..word + 4 * count];
     let mut end = start;
     while let Ok(entry) = read_jentry(words, 0) {
         end += entry.length as usize;
         words = &words[4..];
     }
-    Ok(end)
+    end
 }
 
 /// A position among the entries of an array or object, from which they are read one by one up to
@@ -208,6 +221,17 @@ impl<'a> Cursor<'a> {
     {
         let start = payloads_end(bytes, 4, 4 + 8 * count, count)?;
         Ok(Cursor::new(bytes, 4 + 4 * count, start, count))
+    }
+
+    // The same, where the words of all keys are known to be there.
+    #[inline(always)]
+    pub(crate) fn over_values_within(bytes: &'a [u8], count: usize) -> Self
+        requires count { count < 2 ^ 29 }
+        requires there { 4 + 4 * count ≤ length bytes.now }
+        ensures { Ok result ≡ value_run bytes.entry.now count }
+    {
+        let start = payloads_end_within(bytes, 4, 4 + 8 * count, count);
+        Cursor::new(bytes, 4 + 4 * count, start, count)
     }
 
     /// The bytes that the entries are in.

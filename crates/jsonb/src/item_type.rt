@@ -1,6 +1,6 @@
 //! Kinds of values.
 
-ghost use Rattle.std.specs.Prelude.{◌≡◌};
+ghost use Rattle.std.specs.Prelude.{◌≡◌, IfOk};
 ghost use Rattle.jsonb.specs.Words.{kind, kind_of_type, kind_rank, rank_order};
 
 use jsonb_codec::constants::{
@@ -61,12 +61,23 @@ impl JsonbItemType {
         ensures { result ≡ kind_of_type type_code }
     {
         match type_code {
-            NULL_TAG => Ok(JsonbItemType::Null),
-            FALSE_TAG | TRUE_TAG => Ok(JsonbItemType::Boolean),
-            NUMBER_TAG => Ok(JsonbItemType::Number),
-            STRING_TAG => Ok(JsonbItemType::String),
-            EXTENSION_TAG => Ok(JsonbItemType::Extension),
+            NULL_TAG | FALSE_TAG | TRUE_TAG | NUMBER_TAG | STRING_TAG | EXTENSION_TAG => {
+                Ok(JsonbItemType::of_scalar(type_code))
+            }
             _ => Err(Error::InvalidJsonb),
+        }
+    }
+
+    // The kind of a scalar whose entry is known to have the type of one.
+    pub(crate) fn of_scalar(type_code: u32) -> JsonbItemType
+        ensures { IfOk (kind_of_type type_code) (λ kind. result ≡ kind) }
+    {
+        match type_code {
+            NULL_TAG => JsonbItemType::Null,
+            FALSE_TAG | TRUE_TAG => JsonbItemType::Boolean,
+            NUMBER_TAG => JsonbItemType::Number,
+            STRING_TAG => JsonbItemType::String,
+            _ => JsonbItemType::Extension,
         }
     }
 }

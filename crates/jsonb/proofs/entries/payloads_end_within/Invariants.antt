@@ -1,6 +1,6 @@
 use Rattle.std.proofs.Common.{◌+◌, ◌*◌, ◌^◌, ◌≤◌, length}
 use Rattle.jsonb.proofs.PayloadEnds.{EndsBy}
-use Rattle.jsonb.proofs.entries.payloads_end.Given as goal
+use Rattle.jsonb.proofs.entries.payloads_end_within.Given as goal
 
 abbrev pub invariant-loop-entry : goal.invariant-loop-entry
 invariant-loop-entry l = record {
