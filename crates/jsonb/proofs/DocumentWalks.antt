@@ -7,7 +7,7 @@ use Rattle.jsonb_value.specs.Tree.{Tree, array, object, Trees, Pairs, no_pairs, 
 use Rattle.jsonb_value.specs.Tree.{pair_count}
 use Rattle.jsonb_codec.specs.Doc.{Payload, Doc}
 use Rattle.jsonb.specs.ItemView.{ItemView}
-use Rattle.jsonb.specs.Item.{Entry}
+use Rattle.jsonb.specs.Item.{Code}
 use Rattle.jsonb.specs.StoredEntries.{IsArrayOfEntries, IsObjectOfEntries, entry_item, member_item}
 use Rattle.jsonb.specs.declared.iterator.ChildKind.{ChildKind}
 use Rattle.jsonb.specs.declared.iterator.ChildKind.TheVariants.{ArrayItem, ObjectKey, ObjectValue}
@@ -76,7 +76,7 @@ module _ (b : List ℕ) where
 -- each iterator on a document
 module _ (b : List ℕ) (t : Tree) (doc : Doc b t) where
   array_shown : (Shows : Trees → List (Result ItemView Error) → Type 0)
-      → ((ts : Trees) (cs : List Entry) → IsArrayOfEntries b ts cs
+      → ((ts : Trees) (cs : List Code) → IsArrayOfEntries b ts cs
       → ShowsTrees ts (map entry_item cs)
       → Shows ts (map entry_item cs))
       → WalksTrees Shows t (children_walk ArrayItem b)
@@ -86,7 +86,7 @@ module _ (b : List ℕ) (t : Tree) (doc : Doc b t) where
       rw shown.0 (shows ts a.entries a.stored shown.1)) t doc)
 
   values_shown : (Shows : Pairs → List (Result ItemView Error) → Type 0)
-      → ((ps : Pairs) (ms : List (List ℕ × Entry)) → IsObjectOfEntries b ps ms
+      → ((ps : Pairs) (ms : List (List ℕ × Code)) → IsObjectOfEntries b ps ms
       → ShowsTrees (value_trees ps) (map entry_item (maps.values_of ms))
       → Shows ps (map entry_item (maps.values_of ms)))
       → WalksObject Shows t (children_walk ObjectValue b)
@@ -97,7 +97,7 @@ module _ (b : List ℕ) (t : Tree) (doc : Doc b t) where
       rw (o.ends, o.values) (refl, rw shown.0 (shows ps o.members o.stored shown.1))) t doc)
 
   pairs_shown : (Shows : Pairs → List (Result (List ℕ × ItemView) Error) → Type 0)
-      → ((ps : Pairs) (ms : List (List ℕ × Entry)) → IsObjectOfEntries b ps ms
+      → ((ps : Pairs) (ms : List (List ℕ × Code)) → IsObjectOfEntries b ps ms
       → ShowsPairs ps (map member_item ms) → Shows ps (map member_item ms))
       → WalksObject Shows t (pairs_walk b)
   pairs_shown Shows shows = rw (count_under-Doc b t 1073741824 doc)

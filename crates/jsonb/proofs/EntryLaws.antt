@@ -12,10 +12,10 @@ use Rattle.jsonb_codec.specs.declared.constants.TheConstants.{SCALAR_CONTAINER_T
 use Rattle.jsonb_codec.specs.JEntry.{jentry_at, jentry_in}
 use Rattle.jsonb_codec.specs.WordBytes.{header_at}
 use Rattle.jsonb_codec.proofs.RoomLaws.{word_at-inside}
-use Rattle.jsonb.specs.declared.entries.Entry.{Entry as PlacedEntry}
+use Rattle.jsonb.specs.declared.entries.Entry.{Entry}
 use Rattle.jsonb.specs.Entries.{entries_of, entry_read, entry_there, left_after, payloads_end}
 use Rattle.jsonb.specs.Entries.{placed_at, placed_by, placed_from, run_from, until_error}
-use Rattle.jsonb.specs.Item.{Entry, entry_at, item_in, part_at, scalar_item}
+use Rattle.jsonb.specs.Item.{Code, entry_at, item_in, part_at, scalar_item}
 use Rattle.jsonb.specs.Parts.{length_in}
 use Rattle.jsonb.specs.Steps.{◌>>=◌}
 use Rattle.jsonb.proofs.PartLaws.{word_cut}
@@ -26,7 +26,7 @@ length-placed_from bytes zero word start = refl
 length-placed_from bytes (suc left) word start = ap suc (length-placed_from bytes left (word + 4) _)
 
 -- the error of a result, where there is one
-abbrev error_of : Result (List (Result PlacedEntry Error)) Error → Result PlacedEntry Error
+abbrev error_of : Result (List (Result Entry Error)) Error → Result Entry Error
 error_of (Ok entries) = Err InvalidEOF
 error_of (Err e) = Err e
 
@@ -50,14 +50,14 @@ until_error-ahead (Err e) rest = refl
 
 -- An entry that was read has the length of its word.
 module _ (bytes : List ℕ) (start : ℕ) where
-  placed_length-if : (jentry : JEntry) (entry : PlacedEntry) (inside : Bool)
+  placed_length-if : (jentry : JEntry) (entry : Entry) (inside : Bool)
       → (if inside
       then Ok (record { type_code = jentry.type_code; start = start; length = jentry.length })
       else Err InvalidJsonb) ≡ Ok entry → jentry.length ≡ entry.length
   placed_length-if jentry entry true is = cc
   placed_length-if jentry entry false is = absurd cc
 
-  placed_length : (r : Result JEntry Error) (entry : PlacedEntry)
+  placed_length : (r : Result JEntry Error) (entry : Entry)
       → r >>= placed_by bytes start ≡ Ok entry → length_in r ≡ entry.length
   placed_length (Ok jentry) entry is = placed_length-if jentry entry _ is
   placed_length (Err e) entry is = absurd cc
@@ -92,11 +92,11 @@ pub item_in-scalar : (bytes : List ℕ) (tag n : ℕ) → tag ≡ SCALAR_CONTAIN
 unfolding item_in
 item_in-scalar bytes tag n scalar header =
     rw (← header, scalar)
-    (ap (λ (r : Result Entry Error). r >>= scalar_item) (sym (entry_read-at bytes 8 4)))
+    (ap (λ (r : Result Code Error). r >>= scalar_item) (sym (entry_read-at bytes 8 4)))
 
 -- The first of a run, and those after it.
 module _ (bytes : List ℕ) (word start : ℕ) where
-  pub entries_of-first : (n left : ℕ) (entry : PlacedEntry) → n ≡ suc left
+  pub entries_of-first : (n left : ℕ) (entry : Entry) → n ≡ suc left
       → placed_at bytes word start ≡ Ok entry
       → entries_of (run_from bytes n word start)
       ≡ Ok (entry_there bytes entry)
@@ -104,7 +104,7 @@ module _ (bytes : List ℕ) (word start : ℕ) where
   entries_of-first n left entry some is =
       let long = placed_length bytes start (jentry_at bytes word) entry is in
       ap (λ (n : ℕ). entries_of (run_from bytes n word start)) some
-      ∙ ap (λ (r : Result PlacedEntry Error). until_error (entry_read bytes r
+      ∙ ap (λ (r : Result Entry Error). until_error (entry_read bytes r
       ∷ map (entry_read bytes)
       (placed_from bytes left (word + 4) (start + length_in (jentry_at bytes word))))) is
       ∙ ap (λ (k : ℕ). Ok (entry_there bytes entry)
@@ -116,30 +116,30 @@ module _ (bytes : List ℕ) (word start : ℕ) where
       (entries_of (run_from bytes left (word + 4) (start + length_in (jentry_at bytes word))))
   entries_of-ahead left =
       until_error-ahead (entry_read bytes (placed_at bytes word start)) _
-      ∙ ap (λ (r : Result Entry Error). ahead r
+      ∙ ap (λ (r : Result Code Error). ahead r
       (entries_of (run_from bytes left (word + 4) (start + length_in (jentry_at bytes word)))))
       (entry_read-at bytes start word)
 
   -- the same by the entry's bytes
-  pub entries_of-next : (left : ℕ) (jentry : JEntry) (entry : Entry)
+  pub entries_of-next : (left : ℕ) (jentry : JEntry) (entry : Code)
       → jentry_at bytes word ≡ Ok jentry → entry_at bytes word start ≡ Ok entry
       → entries_of (run_from bytes (suc left) word start)
       ≡ Ok entry ∷ entries_of (run_from bytes left (word + 4) (start + jentry.length))
   entries_of-next left jentry entry read is =
       entries_of-ahead left
-      ∙ ap₂ (λ (r : Result Entry Error) (k : ℕ). ahead r
+      ∙ ap₂ (λ (r : Result Code Error) (k : ℕ). ahead r
       (entries_of (run_from bytes left (word + 4) (start + k)))) is (ap length_in read)
 
 -- What is left after so many entries, given where their payloads end.
 module _ (bytes : List ℕ) (start : ℕ) (jentry : JEntry) where
-  passed_if : (inside : Bool) (n : ℕ) (others : List (Result PlacedEntry Error))
+  passed_if : (inside : Bool) (n : ℕ) (others : List (Result Entry Error))
       → left_after (suc n) ((if inside
       then Ok (record { type_code = jentry.type_code; start = start; length = jentry.length })
       else Err InvalidJsonb) ∷ others) ≡ left_after n others
   passed_if true n others = refl
   passed_if false n others = refl
 
-  passed : (word n : ℕ) (others : List (Result PlacedEntry Error))
+  passed : (word n : ℕ) (others : List (Result Entry Error))
       → jentry_at bytes word ≡ Ok jentry
       → left_after (suc n) (placed_at bytes word start ∷ others) ≡ left_after n others
   passed word n others read =
@@ -209,7 +209,7 @@ module _ (bytes : List ℕ) where
           ∙ cc (cut, same)
 
 -- All that there are, where there are fewer.
-left_after-all : (n : ℕ) (xs : List (Result PlacedEntry Error)) → length xs ≤ n
+left_after-all : (n : ℕ) (xs : List (Result Entry Error)) → length xs ≤ n
     → left_after n xs ≡ left_after (length xs) xs
 left_after-all zero [] few = refl
 left_after-all zero (x ∷ xs) few = absurd (omega arith)
@@ -221,7 +221,7 @@ left_after-all (suc n) (x ∷ xs) few = left_after-all n xs (omega arith)
 abbrev pub IsLess : ℕ → ℕ → ℕ → Type 0
 IsLess count left n = ((n ≡ count) × (count ≤ left)) ⊎ ((n ≡ left) × (left ≤ count))
 
-left_after-less : (count left n : ℕ) (xs : List (Result PlacedEntry Error)) → length xs ≡ left
+left_after-less : (count left n : ℕ) (xs : List (Result Entry Error)) → length xs ≡ left
     → IsLess count left n → (n ≤ left) × (left_after count xs ≡ left_after n xs)
 left_after-less count left n xs long (inl (same, few)) =
     (omega arith, ap (λ (m : ℕ). left_after m xs) (sym same))
@@ -231,7 +231,7 @@ left_after-less count left n xs long (inr (same, few)) = (
 )
 
 module _ (bytes : List ℕ) (count left n word start : ℕ) (less : IsLess count left n) where
-  abbrev all : List (Result PlacedEntry Error)
+  abbrev all : List (Result Entry Error)
   all = placed_from bytes left word start
 
   pub skipped : (end : ℕ) → payloads_end bytes n word start ≡ Ok end
@@ -246,7 +246,7 @@ module _ (bytes : List ℕ) (count left n word start : ℕ) (less : IsLess count
       let same = left_after-less count left n all (length-placed_from bytes left word start) less in
       same.1 ∙ left_after-cut bytes n left word start e same.0 is
 
-pub left_after-get : (n : ℕ) (xs ys : List (Result PlacedEntry Error)) → left_after n xs ≡ Ok ys
+pub left_after-get : (n : ℕ) (xs ys : List (Result Entry Error)) → left_after n xs ≡ Ok ys
     → slice_get ys 0 ≡ slice_get xs n
 left_after-get zero xs ys is = cc
 left_after-get (suc n) [] ys is = let none : [] ≡ ys = cc in ap (λ zs. slice_get zs 0) (sym none)
@@ -292,4 +292,4 @@ module _ (bytes : List ℕ) where
           let cut : d ≡ InvalidEOF = word_error bytes word d read in
           let here = rw (read, cut) at is in
           all_cut n count (word + 4) _ (omega arith) (omega (arith, word_short word d read))
-          ∙ ap (λ (r : Result (List (Result PlacedEntry Error)) Error). Some (error_of r)) here
+          ∙ ap (λ (r : Result (List (Result Entry Error)) Error). Some (error_of r)) here

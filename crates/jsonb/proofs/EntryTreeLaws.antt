@@ -15,7 +15,7 @@ use Rattle.jsonb.specs.declared.node.Node.{Node}
 use Rattle.jsonb.specs.ItemView.{ItemView}
 use Rattle.jsonb.specs.ItemView as items
 use Rattle.jsonb.specs.Code.{ItemMeans}
-use Rattle.jsonb.specs.Item.{Entry, item_of}
+use Rattle.jsonb.specs.Item.{Code, item_of}
 use Rattle.jsonb.specs.Building.{AreTexts, key_codes}
 use Rattle.jsonb.specs.StoredEntries.{AreCodesOf, AreMemberEntriesOf}
 use Rattle.jsonb.specs.Entries.{Run, entries_of, entry_read, key_run, until_error}
@@ -31,7 +31,7 @@ use Rattle.jsonb.proofs.StoredEntryLaws.{object_holds}
 use Rattle.jsonb.proofs.DocumentWalks.{object_payload}
 
 -- every entry of a run can be read
-length-until_error : (xs : List (Result Entry Error)) → AreParts (until_error xs)
+length-until_error : (xs : List (Result Code Error)) → AreParts (until_error xs)
     → length xs ≡ length (until_error xs)
 length-until_error [] h = refl
 length-until_error (Ok x ∷ xs) h = ap suc (length-until_error xs h.1)
@@ -59,9 +59,9 @@ entry_tree-is type payload t h =
 
 -- The entries of an array mean the trees of its items.
 abbrev Entries : Type 0
-Entries = List (Result Entry Error)
+Entries = List (Result Code Error)
 
-pub means_trees : (cs : List Entry) (ts : Trees) → AreCodesOf cs ts
+pub means_trees : (cs : List Code) (ts : Trees) → AreCodesOf cs ts
     → AreParts (map Ok cs) × (rest_trees (map Ok cs) ≡ tree_list ts)
 means_trees [] ts h = (tt, rw h)
 means_trees (c ∷ cs) no_trees h = absurd h
@@ -70,7 +70,7 @@ means_trees (c ∷ cs) (tree t ts) h =
     (((t, h.0), more.0), cc (entry_tree-is c.type c.payload t h.0, more.1))
 
 -- The entries of keys and values mean the pairs of an object.
-pub means_pairs : (ms : List (List ℕ × Entry)) (ps : Pairs)
+pub means_pairs : (ms : List (List ℕ × Code)) (ps : Pairs)
     → AreMemberEntriesOf (keys_of ms) (values_of ms) ps
     → AreTexts (keys_of ms)
     → AreMemberEntries (map Ok (key_codes (keys_of ms)), map Ok (values_of ms))
@@ -92,7 +92,7 @@ abbrev pub first_read : Entries → Option (List ℕ)
 first_read [] = None
 first_read (x ∷ xs) = Some (key_read x)
 
-first_is : (ms : List (List ℕ × Entry)) (ps : Pairs)
+first_is : (ms : List (List ℕ × Code)) (ps : Pairs)
     → AreMemberEntriesOf (keys_of ms) (values_of ms) ps
     → Some (first_read (map Ok (key_codes (keys_of ms)))) ≡ first_key_of (object ps)
 first_is [] ps h = ap (λ us. first_key_of (object us)) (sym h)

@@ -11,7 +11,7 @@ use Rattle.jsonb_codec.specs.Doc.{Doc, Scalar, Payload, type_of}
 use Rattle.jsonb.specs.declared.item.JsonbItem.{JsonbItem}
 use Rattle.jsonb.specs.ItemView.{ItemView, null, boolean, number, text, extension, raw}
 use Rattle.jsonb.specs.ItemView.{item_view, result_view}
-use Rattle.jsonb.specs.Item.{Entry, item_of, item_of_number, item_of_extension}
+use Rattle.jsonb.specs.Item.{Code, item_of, item_of_number, item_of_extension}
 use Rattle.jsonb.specs.Item.{entry_at, scalar_item, item_under, item_in}
 use Rattle.jsonb.specs.Code.{ItemMeans, HasCode, item_document, CanBeStored, scalar_bytes}
 use Rattle.jsonb.specs.DocumentWalk.{IsItemOf, IsItemIn}
@@ -85,7 +85,7 @@ stored_again (trees.object ps) p other short h = absurd (other refl)
 stored_again t p other short h = (refl, short)
 
 -- an entry inside a byte string, and its item
-pub entry_at-entry : (bytes : List ℕ) (i j : ℕ) (c : Entry) → IsTag c.type
+pub entry_at-entry : (bytes : List ℕ) (i j : ℕ) (c : Code) → IsTag c.type
     → length c.payload < 2 ^ 28 → At bytes i (word (c.type + length c.payload))
     → At bytes j c.payload → entry_at bytes i j ≡ Ok c
 unfolding entry_at

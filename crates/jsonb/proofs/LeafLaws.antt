@@ -2,33 +2,33 @@
 use Rattle.std.proofs.Common.{◌≡◌, ℕ, suc, ◌+◌, List, [], ◌∷◌, ◌++◌, length, refl, ap, arith}
 use Rattle.jsonb_codec.specs.WordBytes.{word}
 use Rattle.jsonb_codec.specs.Shape.{shape_count, entries, payloads, key_entries, key_payloads}
-use Rattle.jsonb.specs.Item.{Entry}
+use Rattle.jsonb.specs.Item.{Code}
 use Rattle.jsonb.specs.Building.{leaves, keyed_leaves, array_bytes, object_bytes, key_codes}
 
 -- The words of these entries.
-abbrev pub code_entries : List Entry → List ℕ
+abbrev pub code_entries : List Code → List ℕ
 code_entries codes = entries (leaves codes)
 
 -- The payloads of these entries.
-abbrev pub code_payloads : List Entry → List ℕ
+abbrev pub code_payloads : List Code → List ℕ
 code_payloads codes = payloads (leaves codes)
 
-count-leaves : (cs : List Entry) → shape_count (leaves cs) ≡ length cs
+count-leaves : (cs : List Code) → shape_count (leaves cs) ≡ length cs
 count-leaves [] = refl
 count-leaves (c ∷ cs) = ap suc (count-leaves cs)
 
-pub array_of-parts : (cs : List Entry)
+pub array_of-parts : (cs : List Code)
     → array_bytes cs ≡ word (2147483648 + length cs) ++ (code_entries cs ++ code_payloads cs)
 array_of-parts cs = rw (count-leaves cs) refl
 
-record KeyedParts (ks : List (List ℕ)) (cs : List Entry) : Type 0 where
+record KeyedParts (ks : List (List ℕ)) (cs : List Code) : Type 0 where
   counted : shape_count (keyed_leaves ks cs) ≡ length cs
   key_words : key_entries (keyed_leaves ks cs) ≡ code_entries (key_codes ks)
   words : entries (keyed_leaves ks cs) ≡ code_entries cs
   keys : key_payloads (keyed_leaves ks cs) ≡ code_payloads (key_codes ks)
   values : payloads (keyed_leaves ks cs) ≡ code_payloads cs
 
-keyed_parts : (ks : List (List ℕ)) (cs : List Entry) → length ks ≡ length cs → KeyedParts ks cs
+keyed_parts : (ks : List (List ℕ)) (cs : List Code) → length ks ≡ length cs → KeyedParts ks cs
 keyed_parts [] [] same =
     record { counted = refl; key_words = refl; words = refl; keys = refl; values = refl }
 keyed_parts [] (c ∷ cs) same = absurd (omega arith)
@@ -43,7 +43,7 @@ keyed_parts (k ∷ ks) (c ∷ cs) same =
       values = rw more.values;
     }
 
-pub object_of-parts : (ks : List (List ℕ)) (cs : List Entry) → length ks ≡ length cs
+pub object_of-parts : (ks : List (List ℕ)) (cs : List Code) → length ks ≡ length cs
     → object_bytes ks cs
     ≡ word (1073741824 + length cs)
     ++ (code_entries (key_codes ks)

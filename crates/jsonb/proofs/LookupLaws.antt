@@ -17,11 +17,11 @@ use Rattle.jsonb_value.specs.Tree.{Tree, Extension, null, boolean, number, text,
 use Rattle.jsonb_value.specs.Tree.{object, Pairs, no_pairs, pair, pair_count}
 use Rattle.jsonb_codec.specs.JEntry.{jentry_at}
 use Rattle.jsonb_codec.specs.Doc.{Payload, Doc}
-use Rattle.jsonb.specs.declared.entries.Entry.{Entry as PlacedEntry}
+use Rattle.jsonb.specs.declared.entries.Entry.{Entry}
 use Rattle.jsonb.specs.declared.item.JsonbItem.{JsonbItem}
 use Rattle.jsonb.specs.ItemView.{ItemView, item_view}
 use Rattle.jsonb.specs.Payloads.{has_known_tag}
-use Rattle.jsonb.specs.Item.{Entry, item_of, entry_at, part_at, item_of_number, item_of_extension}
+use Rattle.jsonb.specs.Item.{Code, item_of, entry_at, part_at, item_of_number, item_of_extension}
 use Rattle.jsonb.specs.Building.{key_codes}
 use Rattle.jsonb.proofs.LeafLaws.{code_entries, code_payloads}
 use Rattle.jsonb.specs.StoredEntries.{AreCodesOf, AreMemberEntriesOf, IsObjectOfEntries, find_entry}
@@ -48,13 +48,13 @@ use Rattle.std.proofs.lemmas.Map.Entries.{length-keys_of}
 use Rattle.jsonb_codec.specs.Parts.{IsPayloadOf}
 
 -- entries at their positions among the n keys' and n values', from number i
-record AreAt (bytes : List ℕ) (n i : ℕ) (cs : List Entry) : Type 0 where
+record AreAt (bytes : List ℕ) (n i : ℕ) (cs : List Code) : Type 0 where
   are : AreEntries cs
   entries : At bytes (4 + 4 * i) (code_entries cs)
   payloads : At bytes (part_start bytes n i) (code_payloads cs)
 
 -- one entry at its position, by its number
-record Part (bytes : List ℕ) (n i : ℕ) (c : Entry) : Type 0 where
+record Part (bytes : List ℕ) (n i : ℕ) (c : Code) : Type 0 where
   entry : entry_at bytes (4 + 4 * i) (part_start bytes n i) ≡ Ok c
   jentry : jentry_at bytes (4 + 4 * i)
       ≡ Ok record { type_code = c.type; length = length c.payload }
@@ -63,7 +63,7 @@ record Part (bytes : List ℕ) (n i : ℕ) (c : Entry) : Type 0 where
   short : length c.payload < 2 ^ 28
 
 -- the first entry, and the positions of the others
-first_part : (bytes : List ℕ) (n i : ℕ) (c : Entry) (cs : List Entry) → AreAt bytes n i (c ∷ cs)
+first_part : (bytes : List ℕ) (n i : ℕ) (c : Code) (cs : List Code) → AreAt bytes n i (c ∷ cs)
     → Part bytes n i c × AreAt bytes n (suc i) cs
 unfolding part_length
 first_part bytes n i c cs at =
@@ -87,7 +87,7 @@ first_part bytes n i c cs at =
       },
     )
 
-part_of : (bytes : List ℕ) (n i m part : ℕ) (cs : List Entry) (c : Entry) → AreAt bytes n i cs
+part_of : (bytes : List ℕ) (n i m part : ℕ) (cs : List Code) (c : Code) → AreAt bytes n i cs
     → part ≡ i + m → slice_get cs m ≡ Some c → Part bytes n part c
 part_of bytes n i m part [] c at e is = cc
 part_of bytes n i zero part (d ∷ cs) c at e is =
@@ -97,7 +97,7 @@ part_of bytes n i zero part (d ∷ cs) c at e is =
 part_of bytes n i (suc m) part (d ∷ cs) c at e is =
     part_of bytes n (suc i) m part cs c (first_part bytes n i d cs at).1 (omega arith) is
 
-module _ (size : ℕ) (bytes : List ℕ) (n i : ℕ) (c : Entry) (part : Part bytes n i c) where
+module _ (size : ℕ) (bytes : List ℕ) (n i : ℕ) (c : Code) (part : Part bytes n i c) where
   -- the key with this number, if it has the size
   asked : (test : Bool) → eqb (length c.payload) size ≡ test
       → key_of_size size bytes n i ≡ Ok (if test then Some c.payload else None)
@@ -131,12 +131,12 @@ module _ (answers : List ℕ → Bool → Type 0) (size : ℕ) where
       (passes 0 k refl, none_accepted ps (λ m. passes (suc m)))
 
   -- the first pair that is accepted, and the entry of its value
-  first_accepted : (cs : List Entry) (ps : Pairs) (m : ℕ) (key : List ℕ)
+  first_accepted : (cs : List Code) (ps : Pairs) (m : ℕ) (key : List ℕ)
       → AreCodesOf cs (value_trees ps) → slice_get (pair_keys ps) m ≡ Some key
       → length key ≡ size → answers key true
       → ((j : ℕ) (k : List ℕ) → j < m → slice_get (pair_keys ps) j ≡ Some k
       → IsPassed answers size k)
-      → (v : Tree) × (c : Entry) × (IsFirstAccepted answers size ps m v
+      → (v : Tree) × (c : Code) × (IsFirstAccepted answers size ps m v
       × (slice_get cs m ≡ Some c) × IsPayloadOf c.type c.payload v)
   first_accepted cs no_pairs m key mean is fits said passes = cc
   first_accepted [] (pair k t ps) m key mean is fits said passes = cc
@@ -149,7 +149,7 @@ module _ (answers : List ℕ → Bool → Type 0) (size : ℕ) where
       (v, d, ((passes 0 k (omega arith) refl, first), there, means))
 
 -- the total lengths of the keys and of the values
-length_before-entries : (bytes : List ℕ) (n i j : ℕ) (cs : List Entry) → AreAt bytes n i cs
+length_before-entries : (bytes : List ℕ) (n i j : ℕ) (cs : List Code) → AreAt bytes n i cs
     → j ≡ i + length cs
     → length_before bytes j ≡ length_before bytes i + length (code_payloads cs)
 length_before-entries bytes n i j [] at end =
@@ -164,7 +164,7 @@ length_before-entries bytes n i j (c ∷ cs) at end =
 
 -- the entries of an object at their positions, by number
 record Numbered (bytes : List ℕ) (ps : Pairs) : Type 0 where
-  members : List (List ℕ × Entry)
+  members : List (List ℕ × Code)
   stored : IsObjectOfEntries bytes ps members
   mean : AreCodesOf (values_of members) (value_trees ps)
   keys : AreAt bytes (pair_count ps) 0 (key_codes (pair_keys ps))
@@ -240,19 +240,19 @@ module _ (answers : List ℕ → Bool → Type 0) (size : ℕ) (b : List ℕ) wh
     key_part m k is = part_of b (pair_count ps) 0 m m _ _ at.keys (omega arith)
         (simp (slice_get-map, is))
 
-    value_part : (m : ℕ) (c : Entry) → slice_get (values_of at.members) m ≡ Some c
+    value_part : (m : ℕ) (c : Code) → slice_get (values_of at.members) m ≡ Some c
         → Part b (pair_count ps) (pair_count ps + m) c
     value_part m c = part_of b (pair_count ps) (pair_count ps) m _ _ c at.values refl
 
     -- the value of the accepted key, by its entry
-    record ValueAt (index : ℕ) (entry : Entry) : Type 0 where
+    record ValueAt (index : ℕ) (entry : Code) : Type 0 where
       value : Tree
       first : IsFirstAccepted answers size ps index value
       stored : slice_get (values_of at.members) index ≡ Some entry
       means : IsPayloadOf entry.type entry.payload value
       short : length entry.payload < 2 ^ 28
 
-    value_at : (index : ℕ) (entry : Entry) → IsAccepted answers size b (pair_count ps) index
+    value_at : (index : ℕ) (entry : Code) → IsAccepted answers size b (pair_count ps) index
         → value_entry b (pair_count ps) index ≡ Ok entry → ValueAt index entry
     value_at index entry key there =
         let named = slice_get-get_or (pair_keys ps) index []
@@ -410,7 +410,7 @@ module _ (answers : List ℕ → Bool → Type 0) (accepts : List ℕ → Bool) 
   -- A look-up in a document, by the entries that it reads: what its tree has at the key, and how
   -- many words are read.
   module _ (b : List ℕ) (n : ℕ) where
-    pub value_by_entry : (t : Tree) (entry : Entry) (reads : ℕ) → Doc b t
+    pub value_by_entry : (t : Tree) (entry : Code) (reads : ℕ) → Doc b t
         → Ok (Some n) ≡ count_under b 1073741824 → IsValueFound answers size b n entry reads
         → (v : Tree) × ((find accepts size t ≡ Some v) × (IsPayloadOf entry.type entry.payload v
         × (reads + 1 ≡ words_read accepts size t)))
@@ -466,7 +466,7 @@ module _ (answers : List ℕ → Bool → Type 0) (accepts : List ℕ → Bool) 
       rw (find_index-first ps h.index h.value h.first) (omega (arith, h.cost))
   words_found b t o reads h = h.1
 
-  pub find_entry-none : (ms : List (List ℕ × Entry)) (ps : Pairs)
+  pub find_entry-none : (ms : List (List ℕ × Code)) (ps : Pairs)
       → AreMemberEntriesOf (keys_of ms) (values_of ms) ps → NoneAccepted answers size ps
       → find_entry accepts size ms ≡ None
   find_entry-none [] ps h none = refl
@@ -474,7 +474,7 @@ module _ (answers : List ℕ → Bool → Type 0) (accepts : List ℕ → Bool) 
   find_entry-none (m ∷ ms) (pair k t ps) h none =
       rw (passed_by_test m.0 k h.0 none.0) (find_entry-none ms ps h.1.1 none.1)
 
-  pub find_entry-first : (ms : List (List ℕ × Entry)) (ps : Pairs) (i : ℕ) (v : Tree)
+  pub find_entry-first : (ms : List (List ℕ × Code)) (ps : Pairs) (i : ℕ) (v : Tree)
       → AreMemberEntriesOf (keys_of ms) (values_of ms) ps → IsFirstAccepted answers size ps i v
       → find_entry accepts size ms ≡ slice_get (values_of ms) i
   find_entry-first [] ps i v h first = absurd (rw h at first)
@@ -498,11 +498,11 @@ module _ (answers : List ℕ → Bool → Type 0) (accepts : List ℕ → Bool) 
 
 -- The entry that a look-up finds, by its result without its error.
 module _ (answers : List ℕ → Bool → Type 0) (size : ℕ) (b : List ℕ) (n reads : ℕ)
-    (r : Result (Option PlacedEntry) Error) (o : Option (Option PlacedEntry)) (is : o ≡ result_ok r)
+    (r : Result (Option Entry) Error) (o : Option (Option Entry)) (is : o ≡ result_ok r)
     (found : FindsEntry answers size b n r reads) where
-  pub entry_read : (x : Option PlacedEntry) → o ≡ Some x → FindsEntry answers size b n (Ok x) reads
+  pub entry_read : (x : Option Entry) → o ≡ Some x → FindsEntry answers size b n (Ok x) reads
   entry_read x some = by r (sym is ∙ some) found where
-    by : (r : Result (Option PlacedEntry) Error) → result_ok r ≡ Some x
+    by : (r : Result (Option Entry) Error) → result_ok r ≡ Some x
         → FindsEntry answers size b n r reads → FindsEntry answers size b n (Ok x) reads
     by (Ok y) some found =
         let same : y ≡ x = cc in subst (λ z. FindsEntry answers size b n (Ok z) reads) same found
@@ -510,7 +510,7 @@ module _ (answers : List ℕ → Bool → Type 0) (size : ℕ) (b : List ℕ) (n
 
   pub entry_unread : ((e : Error) → IsUnreadable answers size b n e → ⊥) → o ≡ None → ⊥
   entry_unread never none = by r (sym is ∙ none) found where
-    by : (r : Result (Option PlacedEntry) Error) → result_ok r ≡ None
+    by : (r : Result (Option Entry) Error) → result_ok r ≡ None
         → FindsEntry answers size b n r reads → ⊥
     by (Ok y) none found = absurd cc
     by (Err e) none found = never e found

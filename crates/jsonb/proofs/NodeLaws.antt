@@ -19,7 +19,7 @@ use Rattle.jsonb_codec.specs.Parts.{IsPayloadOf}
 use Rattle.jsonb.specs.declared.node.Node.{Node}
 use Rattle.jsonb.specs.declared.node.Node.TheVariants as nodes
 use Rattle.jsonb.specs.declared.document.Contents.TheVariants as contents
-use Rattle.jsonb.specs.Item.{Entry, item_of}
+use Rattle.jsonb.specs.Item.{Code, item_of}
 use Rattle.jsonb.specs.ItemView.{ItemView, raw}
 use Rattle.jsonb.specs.Building.{AreShort}
 use Rattle.jsonb.specs.Code.{ItemMeans}
@@ -41,7 +41,7 @@ use Rattle.jsonb.proofs.KindLaws.{container_cases, header_at-Doc, header_of_tree
 use Rattle.jsonb.proofs.StoredEntryLaws.{array_holds, object_holds, entry_item-tree}
 
 abbrev Entries : Type 0
-Entries = List (Result Entry Error)
+Entries = List (Result Code Error)
 
 -- the kind and the number in a header that was read
 abbrev header_kind : Result (ℕ × ℕ) Error → ℕ
@@ -176,7 +176,7 @@ scalar_opened b t kind n doc read no_array no_object container = container_cases
     doc
 
 -- The first of the members that are left, and those after it.
-pub first_left : (ks xs later others : Entries) (key value : Entry) → ks ≡ Ok key ∷ later
+pub first_left : (ks xs later others : Entries) (key value : Code) → ks ≡ Ok key ∷ later
     → xs ≡ Ok value ∷ others → AreMemberEntries (ks, xs)
     → (key.type ≡ 268435456) × AreMemberEntries (later, others)
 first_left ks xs later others key value e f h =
@@ -184,14 +184,14 @@ first_left ks xs later others key value e f h =
     (keys.0, ((parts.1, keys.1), (values.1, omega (arith, same))))
 
 -- the first member, and those after it, by what was read
-pub record IsFirstOf (members : List (List ℕ × Entry)) (key value : Entry)
+pub record IsFirstOf (members : List (List ℕ × Code)) (key value : Code)
     (later others : Entries) : Type 0 where
-  pub left : List (List ℕ × Entry)
+  pub left : List (List ℕ × Code)
   pub are : members ≡ (key.payload, value) ∷ left
   pub read : AreEntriesOf left (later, others)
 
-pub first_member : (members : List (List ℕ × Entry)) (ks xs later others : Entries)
-    (key value : Entry) → ks ≡ Ok key ∷ later → xs ≡ Ok value ∷ others
+pub first_member : (members : List (List ℕ × Code)) (ks xs later others : Entries)
+    (key value : Code) → ks ≡ Ok key ∷ later → xs ≡ Ok value ∷ others
     → AreEntriesOf members (ks, xs) → IsFirstOf members key value later others
 first_member [] ks xs later others key value e f (keys, values) = absurd cc
 first_member (m ∷ ms) ks xs later others key value e f (keys, values) =
@@ -203,7 +203,7 @@ first_member (m ∷ ms) ks xs later others key value e f (keys, values) =
       read = (cc, cc);
     }
 
-pub none_left : (members : List (List ℕ × Entry)) (xs : Entries) → AreEntriesOf members ([], xs)
+pub none_left : (members : List (List ℕ × Code)) (xs : Entries) → AreEntriesOf members ([], xs)
     → members ≡ []
 none_left [] xs read = refl
 none_left (m ∷ ms) xs (keys, values) = absurd cc
@@ -220,7 +220,7 @@ test_fails : (name k : List ℕ) → false ≡ pointwise nat_eq name k
 test_fails name k e = rw (← e, and-false)
 
 -- A member is passed over, or it has the name as its key.
-module _ (name : List ℕ) (key value : Entry) (members left : List (List ℕ × Entry))
+module _ (name : List ℕ) (key value : Code) (members left : List (List ℕ × Code))
     (are : members ≡ (key.payload, value) ∷ left) where
   pub passed : false ≡ pointwise nat_eq name key.payload
       → find_entry (pointwise nat_eq name) (length name) members
@@ -261,7 +261,7 @@ module _ (accepts : List ℕ → Bool) (size : ℕ) where
       → ((length key == size) && accepts key) ≡ ((length other == size) && accepts other)
   same_test key other = ap (λ key. (length key == size) && accepts key)
 
-  stored_item : (ms : List (List ℕ × Entry)) (ps : Pairs) (o : Option ItemView)
+  stored_item : (ms : List (List ℕ × Code)) (ps : Pairs) (o : Option ItemView)
       → AreMemberEntriesOf (keys_of ms) (values_of ms) ps → AreShort (values_of ms)
       → option_map entry_item (find_entry accepts size ms) ≡ option_map Ok o
       → IsItemFound (find_pair accepts size ps) o
@@ -303,9 +303,9 @@ module _ (accepts : List ℕ → Bool) (size : ℕ) where
   found_tree_of b t o is = node_found _ o (found_item_of b t _ is)
 
   -- The entry at the key, by the content of the document.
-  pub found_among : (b : List ℕ) (t : Tree) (members : Entries × Entries) (found : Option Entry)
+  pub found_among : (b : List ℕ) (t : Tree) (members : Entries × Entries) (found : Option Code)
       (o : Option ItemView) → AreStoredIn b t (contents.Object members)
-      → ((ms : List (List ℕ × Entry)) → AreEntriesOf ms members
+      → ((ms : List (List ℕ × Code)) → AreEntriesOf ms members
       → found ≡ find_entry accepts size ms)
       → option_map entry_item found ≡ option_map Ok o → IsFoundIn accepts size b t o
   found_among b (object ps) members found o (ms, (stored, are)) by is =

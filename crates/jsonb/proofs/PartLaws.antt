@@ -11,7 +11,7 @@ use Rattle.jsonb_codec.specs.JEntry.{jentry_in, jentry_at}
 use Rattle.jsonb_codec.specs.WordBytes.{word_at}
 use Rattle.jsonb_codec.specs.declared.jentry.JEntry.{JEntry}
 use Rattle.jsonb.specs.Steps.{◌>>=◌}
-use Rattle.jsonb.specs.declared.entries.Entry.{Entry as PlacedEntry}
+use Rattle.jsonb.specs.declared.entries.Entry.{Entry}
 use Rattle.jsonb.specs.Entries.{entry_there, placed_by}
 use Rattle.jsonb.specs.Item.{entry_at, part_at}
 use Rattle.jsonb.specs.Parts.{length_in, part_length, length_before, part_start, HasParts}
@@ -92,12 +92,12 @@ module _ (bytes : List ℕ) (n pair : ℕ) where
 
 -- The payload and the place of an entry, given its word and its offset.
 module _ (bytes : List ℕ) (start : ℕ) (jentry : JEntry) where
-  abbrev placed_if : Bool → Result PlacedEntry Error
+  abbrev placed_if : Bool → Result Entry Error
   placed_if inside = if inside
       then Ok (record { type_code = jentry.type_code; start = start; length = jentry.length })
       else Err InvalidJsonb
 
-  part_read-if : (inside : Bool) (entry : PlacedEntry) → placed_if inside ≡ Ok entry
+  part_read-if : (inside : Bool) (entry : Entry) → placed_if inside ≡ Ok entry
       → (if inside then Ok (take jentry.length (drop start bytes)) else Err InvalidJsonb)
       ≡ Ok (take entry.length (drop entry.start bytes))
   part_read-if true entry is = cc
@@ -108,7 +108,7 @@ module _ (bytes : List ℕ) (start : ℕ) (jentry : JEntry) where
   part_past-if true e is = absurd cc
   part_past-if false e is = cc
 
-  pub part_read : (entry : PlacedEntry) (payload : List ℕ) → Ok entry ≡ placed_by bytes start jentry
+  pub part_read : (entry : Entry) (payload : List ℕ) → Ok entry ≡ placed_by bytes start jentry
       → payload ≡ (entry_there bytes entry).payload
       → part_at bytes start jentry.length ≡ Ok payload
   unfolding part_at
@@ -119,7 +119,7 @@ module _ (bytes : List ℕ) (start : ℕ) (jentry : JEntry) where
   unfolding part_at
   part_past e is = part_past-if _ e (sym is)
 
-  placed_part-if : (inside : Bool) (entry : PlacedEntry)
+  placed_part-if : (inside : Bool) (entry : Entry)
       → nat_le (start + jentry.length) (length bytes) ≡ inside → placed_if inside ≡ Ok entry
       → (n part : ℕ)
       → Ok jentry ≡ jentry_at bytes (4 + 4 * part) → start ≡ part_start bytes n part
@@ -131,19 +131,19 @@ module _ (bytes : List ℕ) (start : ℕ) (jentry : JEntry) where
       rw this record { entry = sym read; start = begins; inside = omega arith }
   placed_part-if false entry inside is n part read begins = absurd cc
 
-  pub placed_part : (entry : PlacedEntry) → Ok entry ≡ placed_by bytes start jentry → (n part : ℕ)
+  pub placed_part : (entry : Entry) → Ok entry ≡ placed_by bytes start jentry → (n part : ℕ)
       → Ok jentry ≡ jentry_at bytes (4 + 4 * part) → start ≡ part_start bytes n part
       → IsPlaceOf bytes n part entry
   placed_part entry is n part read begins =
       placed_part-if _ entry refl (sym is) n part read begins
 
-  placed_type-if : (inside : Bool) (entry : PlacedEntry) → placed_if inside ≡ Ok entry
+  placed_type-if : (inside : Bool) (entry : Entry) → placed_if inside ≡ Ok entry
       → jentry.type_code ≡ entry.type_code
   placed_type-if true entry is = cc
   placed_type-if false entry is = absurd cc
 
   -- it is the value's entry
-  pub value_placed : (entry : PlacedEntry) → Ok entry ≡ placed_by bytes start jentry → (n pair : ℕ)
+  pub value_placed : (entry : Entry) → Ok entry ≡ placed_by bytes start jentry → (n pair : ℕ)
       → Ok jentry ≡ jentry_at bytes (4 + 4 * (n + pair)) → start ≡ part_start bytes n (n + pair)
       → value_entry bytes n pair ≡ Ok (entry_there bytes entry)
   value_placed entry is n pair read begins =

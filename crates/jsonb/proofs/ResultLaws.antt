@@ -13,7 +13,7 @@ use Rattle.jsonb_codec.proofs.TreeShapes.{type_of-shape_of, count-items_shapes}
 use Rattle.jsonb_codec.proofs.Lengths.{canon-scalar, canon-container}
 use Rattle.jsonb_codec.proofs.CanonLaws.{Doc-canon, type_of-norm}
 use Rattle.jsonb.specs.ItemView.{ItemView, raw}
-use Rattle.jsonb.specs.Item.{Entry}
+use Rattle.jsonb.specs.Item.{Code}
 use Rattle.jsonb.specs.Code.{scalar_bytes}
 use Rattle.jsonb.specs.Storage.{document_code, codes_of}
 use Rattle.jsonb.specs.Building.{AreShort, array_bytes, IsArrayOf}
@@ -31,10 +31,10 @@ map-map g f [] = refl
 map-map {C = C} g f (x ∷ xs) = cc (map-map g f xs)
 
 -- the entry means the tree
-abbrev pub IsCodeOf : Entry → Tree → Type 0
+abbrev pub IsCodeOf : Code → Tree → Type 0
 IsCodeOf c t = IsPayloadOf c.type c.payload t
 
-pub Children-AreCodesOf : (cs : List Entry) (ts : Trees) → AreCodesOf cs ts → AreShort cs
+pub Children-AreCodesOf : (cs : List Code) (ts : Trees) → AreCodesOf cs ts → AreShort cs
     → Children ts (code_entries cs) (code_payloads cs)
 Children-AreCodesOf [] no_trees h short = record { no_entries = refl; no_payloads = refl }
 Children-AreCodesOf [] (tree t ts) h short = cc
@@ -51,7 +51,7 @@ Children-AreCodesOf (c ∷ cs) (tree t ts) h short = record {
 }
 
 -- the array of entries that mean trees
-pub Doc-array_bytes : (cs : List Entry) (ts : Trees) → AreCodesOf cs ts → AreShort cs
+pub Doc-array_bytes : (cs : List Code) (ts : Trees) → AreCodesOf cs ts → AreShort cs
     → length cs < 2 ^ 29 → Doc (array_bytes cs) (array ts)
 Doc-array_bytes cs ts h short few =
     let n = length-AreCodesOf cs ts h in
@@ -114,7 +114,7 @@ document_code-canon b t is fits same =
           rw (document_code-container b (norm t) whole h)
           (same_code _ _ (sym container) (sym same ∙ canon-container t container))
 
-record AreWritten (cs : List Entry) (ts : Trees) : Type 0 where
+record AreWritten (cs : List Code) (ts : Trees) : Type 0 where
   entries : code_entries cs ≡ entries_of ts
   payloads : code_payloads cs ≡ payloads_of ts
   counted : length cs ≡ count ts

@@ -17,7 +17,7 @@ use Rattle.jsonb_codec.proofs.TreeShapes.{key_entries, key_payloads, value_entri
 use Rattle.jsonb_codec.proofs.TreeShapes.{PairsFit, Fits-parts, type_of-shape_of}
 use Rattle.jsonb_codec.proofs.TreeShapes.{count-pairs_shapes}
 use Rattle.jsonb.specs.ItemView.{ItemView}
-use Rattle.jsonb.specs.Item.{Entry}
+use Rattle.jsonb.specs.Item.{Code}
 use Rattle.jsonb.specs.Storage.{codes_of}
 use Rattle.jsonb.specs.Building.{AreKeys, AreTexts, AreShort, key_codes}
 use Rattle.jsonb.proofs.LeafLaws.{code_entries, code_payloads, object_of-parts}
@@ -60,7 +60,7 @@ AreCodesOf-keys no_pairs texts = refl
 AreCodesOf-keys (pair k t ps) texts = ((refl, (refl, texts.0)), AreCodesOf-keys ps texts.1)
 
 -- an object with ascending keys and entries that mean trees
-pub Doc-object_bytes : (ks : List (List ℕ)) (cs : List Entry) (ps : Pairs)
+pub Doc-object_bytes : (ks : List (List ℕ)) (cs : List Code) (ps : Pairs)
     → AreMemberEntriesOf ks cs ps
     → AreKeys ks → AreShort (key_codes ks) → AreShort cs → length cs < 2 ^ 29
     → Doc (object_bytes ks cs) (object ps)
@@ -108,7 +108,7 @@ AreMemberEntriesOf-documents (q ∷ qs) no_pairs h = absurd h
 AreMemberEntriesOf-documents (q ∷ qs) (pair k t ps) h =
     (h.0, (IsCodeOf-document_code q.1 t h.1.0, AreMemberEntriesOf-documents qs ps h.1.1))
 
-record AreWritten (ks : List (List ℕ)) (cs : List Entry) (ps : Pairs) : Type 0 where
+record AreWritten (ks : List (List ℕ)) (cs : List Code) (ps : Pairs) : Type 0 where
   key_words : code_entries (key_codes ks) ≡ key_entries ps
   keys : code_payloads (key_codes ks) ≡ key_payloads ps
   value_words : code_entries cs ≡ value_entries ps

@@ -14,7 +14,7 @@ use Rattle.jsonb_codec.specs.Shape.{Shapes, shape, leaf, shape_count, payload, A
 use Rattle.jsonb_codec.specs.Stored.{shapes_by}
 use Rattle.jsonb.specs.declared.item.JsonbItem.{JsonbItem}
 use Rattle.jsonb.specs.ItemView.{ItemView, item_view}
-use Rattle.jsonb.specs.Item.{Entry}
+use Rattle.jsonb.specs.Item.{Code}
 use Rattle.jsonb.specs.Storage.{AreStorable, AreHeld, IsHeld, IsStored, codes_of, stored_code}
 use Rattle.jsonb.specs.Building.{AreShort, key_codes, leaves, keyed_leaves}
 use Rattle.jsonb.specs.Building.{FitArray, IsArrayOf, FitObject, IsObjectOf, has_key}
@@ -26,7 +26,7 @@ use Rattle.jsonb.proofs.StorageLaws.{AreStorable-FitArray}
 use Rattle.jsonb.proofs.ObjectLaws.{key_test, key_cmp, is_some-cond}
 
 -- the entries of a list of values, given their codes
-abbrev entries_by : {A : Type 0} → (A → ℕ × List ℕ) → List A → List Entry
+abbrev entries_by : {A : Type 0} → (A → ℕ × List ℕ) → List A → List Code
 entries_by code xs = map (λ x. record { type = (code x).0; payload = (code x).1 }) xs
 
 -- Stored values have the shapes of leaves with their entries.
@@ -42,7 +42,7 @@ members_leaves key code (x ∷ xs) =
     ap (shape (key x) (leaf (code x).0 (code x).1)) (members_leaves key code xs)
 
 -- There are as many as entries, and they fit exactly if the entries are short.
-record AreCounted (ss : Shapes) (keys values : List Entry) : Type 0 where
+record AreCounted (ss : Shapes) (keys values : List Code) : Type 0 where
   counted : shape_count ss ≡ length values
   short : AllFit ss → AreShort keys × AreShort values
   fit : AreShort keys → AreShort values → AllFit ss

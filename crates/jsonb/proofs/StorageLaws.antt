@@ -11,7 +11,7 @@ use Rattle.jsonb_codec.specs.Parts.{IsPayloadOf}
 use Rattle.jsonb_codec.proofs.Lengths.{document_of-scalar}
 use Rattle.jsonb_codec.proofs.Words.{length-word, length-word-append, same_parts}
 use Rattle.jsonb.specs.ItemView.{ItemView, boolean, raw, owned}
-use Rattle.jsonb.specs.Item.{Entry}
+use Rattle.jsonb.specs.Item.{Code}
 use Rattle.jsonb.specs.Code.{HasCode, IsDocumentCode, scalar_bytes}
 use Rattle.jsonb.specs.Storage.{entry_under, scalar_entry, document_code, entry_of_item, IsStored}
 use Rattle.jsonb.specs.Storage.{AreStorable, codes_of}
@@ -35,7 +35,7 @@ document_code-container b t is h = rw (header_at-Doc b t (inr (is, h)))
     (record { type = 1342177280; payload = b }) ≡ record { type = 1342177280; payload = b }) t is
     (λ ts. refl) (λ ps. refl))
 
-pub same_code : (c d : Entry) → c.type ≡ d.type → c.payload ≡ d.payload → c ≡ d
+pub same_code : (c d : Code) → c.type ≡ d.type → c.payload ≡ d.payload → c ≡ d
 same_code c d = ap₂ (λ n p. record { type = n; payload = p })
 
 -- Scalars whose bytes are the same have the same payload.
@@ -68,7 +68,7 @@ IsDocumentCode-document_code b t (inr (is, h)) =
     rw (document_code-container b t is h) (inr (is, (refl, refl)))
 
 -- A document is stored with no other code.
-document_code-IsDocumentCode : (b : List ℕ) (t : Tree) (c : Entry) → Doc b t
+document_code-IsDocumentCode : (b : List ℕ) (t : Tree) (c : Code) → Doc b t
     → IsDocumentCode t b c.type c.payload → c ≡ document_code b
 document_code-IsDocumentCode b t c (inl (other, h)) (inl (q, k)) =
     rw (document_code-Scalar b t h) (same_code _ _ k.0
@@ -92,7 +92,7 @@ IsStored-HasCode (raw b) type p h = (h.0, h.1.0)
 IsStored-HasCode (owned b) type p h = (h.0, h.1.0)
 IsStored-HasCode x type p h = tt
 
-pub entry_of_item-HasCode : (x : ItemView) (c : Entry) → HasCode x c.type c.payload
+pub entry_of_item-HasCode : (x : ItemView) (c : Code) → HasCode x c.type c.payload
     → c ≡ entry_of_item x
 entry_of_item-HasCode (boolean false) c h = same_code _ _ h.0 h.1
 entry_of_item-HasCode (boolean true) c h = same_code _ _ h.0 h.1
@@ -108,7 +108,7 @@ AreCodes-codes_of (x ∷ xs) h =
     let more = AreCodes-codes_of xs h.1 in
     ((HasCode-entry_of_item x h.0.0, more.0), (h.0.1, more.1))
 
-pub codes_of-AreCodes : (xs : List ItemView) (cs : List Entry) → AreCodes xs cs → AreShort cs
+pub codes_of-AreCodes : (xs : List ItemView) (cs : List Code) → AreCodes xs cs → AreShort cs
     → (cs ≡ codes_of xs) × AreStorable xs
 codes_of-AreCodes [] cs h short = (h, tt)
 codes_of-AreCodes (x ∷ xs) [] h short = absurd h
@@ -122,7 +122,7 @@ codes_of-AreCodes (x ∷ xs) (c ∷ cs) h short =
 pub length-codes_of : (xs : List ItemView) → length (codes_of xs) ≡ length xs
 length-codes_of xs = length-map xs entry_of_item
 
-pub length-code_entries : (cs : List Entry) → length (code_entries cs) ≡ 4 * length cs
+pub length-code_entries : (cs : List Code) → length (code_entries cs) ≡ 4 * length cs
 length-code_entries [] = refl
 length-code_entries (c ∷ cs) =
     let more = length-code_entries cs in

@@ -14,7 +14,7 @@ use Rattle.jsonb_codec.specs.Doc.{Keys, Values, Children, Payload, type_of}
 use Rattle.jsonb_codec.specs.Parts.{IsPayloadOf}
 use Rattle.jsonb.specs.Steps.{◌>>=◌}
 use Rattle.jsonb.specs.ItemView.{ItemView}
-use Rattle.jsonb.specs.Item.{Entry, entry_at}
+use Rattle.jsonb.specs.Item.{Code, entry_at}
 use Rattle.jsonb.specs.Building.{AreShort, AreTexts, key_codes}
 use Rattle.jsonb.proofs.LeafLaws.{code_entries, code_payloads, array_of-parts, object_of-parts}
 use Rattle.jsonb.specs.Building.{array_bytes, object_bytes}
@@ -50,7 +50,7 @@ pub length-pair_keys : (ps : Pairs) → length (pair_keys ps) ≡ pair_count ps
 length-pair_keys no_pairs = refl
 length-pair_keys (pair k t ps) = ap suc (length-pair_keys ps)
 
-pub both_are : (ks : List (List ℕ)) (cs : List Entry) (ps : Pairs) → AreMemberEntriesOf ks cs ps
+pub both_are : (ks : List (List ℕ)) (cs : List Code) (ps : Pairs) → AreMemberEntriesOf ks cs ps
     → (ks ≡ pair_keys ps) × AreCodesOf cs (value_trees ps)
 both_are [] [] ps h = (cc h, cc h)
 both_are (k ∷ ks) (c ∷ cs) (pair l t ps) h =
@@ -58,27 +58,27 @@ both_are (k ∷ ks) (c ∷ cs) (pair l t ps) h =
     (cc (h.0, more.0), (h.1.0, more.1))
 both_are ks cs ps h = absurd h
 
-pub length-AreCodesOf : (cs : List Entry) (ts : Trees) → AreCodesOf cs ts → length cs ≡ count ts
+pub length-AreCodesOf : (cs : List Code) (ts : Trees) → AreCodesOf cs ts → length cs ≡ count ts
 length-AreCodesOf [] ts h = cc h
 length-AreCodesOf (c ∷ cs) no_trees h = absurd h
 length-AreCodesOf (c ∷ cs) (tree t ts) h = ap suc (length-AreCodesOf cs ts h.1)
 
-pub length-AreMemberEntriesOf : (ks : List (List ℕ)) (cs : List Entry) (ps : Pairs)
+pub length-AreMemberEntriesOf : (ks : List (List ℕ)) (cs : List Code) (ps : Pairs)
     → AreMemberEntriesOf ks cs ps
     → length cs ≡ pair_count ps
 length-AreMemberEntriesOf ks cs ps h =
     length-AreCodesOf cs (value_trees ps) (both_are ks cs ps h).1 ∙ count-value_trees ps
 
 -- an entry that is determined by its word
-pub record IsEntry (c : Entry) : Type 0 where
+pub record IsEntry (c : Code) : Type 0 where
   pub tag : IsTag c.type
   pub short : length c.payload < 2 ^ 28
 
-abbrev pub AreEntries : List Entry → Type 0
+abbrev pub AreEntries : List Code → Type 0
 AreEntries [] = Unit {0}
 AreEntries (c ∷ cs) = IsEntry c × AreEntries cs
 
-pub AreEntries-trees : (cs : List Entry) (ts : Trees) → AreCodesOf cs ts → AreShort cs
+pub AreEntries-trees : (cs : List Code) (ts : Trees) → AreCodesOf cs ts → AreShort cs
     → AreEntries cs
 AreEntries-trees [] ts h short = tt
 AreEntries-trees (c ∷ cs) no_trees h short = absurd h
@@ -87,7 +87,7 @@ AreEntries-trees (c ∷ cs) (tree t ts) h short = (
   AreEntries-trees cs ts h.1 short.1,
 )
 
-pub AreEntries-pairs : (ks : List (List ℕ)) (cs : List Entry) (ps : Pairs)
+pub AreEntries-pairs : (ks : List (List ℕ)) (cs : List Code) (ps : Pairs)
     → AreMemberEntriesOf ks cs ps
     → AreShort cs → AreEntries cs
 AreEntries-pairs ks cs ps h = AreEntries-trees cs (value_trees ps) (both_are ks cs ps h).1
@@ -98,13 +98,13 @@ AreEntries-keys (k ∷ ks) short =
     (record { tag = IsTag-type_of (text k); short = short.0 }, AreEntries-keys ks short.1)
 
 -- the first of the entries at an offset, and the position of the others
-pub record FirstEntry (bytes : List ℕ) (i j : ℕ) (c : Entry) (cs : List Entry) : Type 0 where
+pub record FirstEntry (bytes : List ℕ) (i j : ℕ) (c : Code) (cs : List Code) : Type 0 where
   pub jentry : jentry_at bytes i ≡ Ok record { type_code = c.type; length = length c.payload }
   pub entry : entry_at bytes i j ≡ Ok c
   pub other_entries : At bytes (i + 4) (code_entries cs)
   pub other_payloads : At bytes (j + length c.payload) (code_payloads cs)
 
-pub first_entry : (bytes : List ℕ) (i j : ℕ) (c : Entry) (cs : List Entry) → IsEntry c
+pub first_entry : (bytes : List ℕ) (i j : ℕ) (c : Code) (cs : List Code) → IsEntry c
     → At bytes i (code_entries (c ∷ cs)) → At bytes j (code_payloads (c ∷ cs))
     → FirstEntry bytes i j c cs
 first_entry bytes i j c cs is a b =
@@ -118,7 +118,7 @@ first_entry bytes i j c cs is a b =
     }
 
 -- what is read at the position of entries
-entries_of-entries : (bytes : List ℕ) (i j : ℕ) (cs : List Entry) → AreEntries cs
+entries_of-entries : (bytes : List ℕ) (i j : ℕ) (cs : List Code) → AreEntries cs
     → At bytes i (code_entries cs) → At bytes j (code_payloads cs)
     → entries_of (run_from bytes (length cs) i j) ≡ map Ok cs
 entries_of-entries bytes i j [] is a b = refl
@@ -128,7 +128,7 @@ entries_of-entries bytes i j (c ∷ cs) is a b =
     ∙ ap (λ rs. Ok c ∷ rs)
     (entries_of-entries bytes (i + 4) _ cs is.1 f.other_entries f.other_payloads)
 
-payloads_end-entries : (bytes : List ℕ) (i j : ℕ) (cs : List Entry) → AreEntries cs
+payloads_end-entries : (bytes : List ℕ) (i j : ℕ) (cs : List Code) → AreEntries cs
     → At bytes i (code_entries cs) → At bytes j (code_payloads cs)
     → payloads_end bytes (length cs) i j ≡ Ok (j + length (code_payloads cs))
 payloads_end-entries bytes i j [] is a b = ap Ok (omega arith)
@@ -140,14 +140,14 @@ payloads_end-entries bytes i j (c ∷ cs) is a b =
     ∙ ap Ok (omega arith))
 
 -- the item of an entry that means a tree
-pub entry_item-tree : (c : Entry) (t : Tree) → IsPayloadOf c.type c.payload t
+pub entry_item-tree : (c : Code) (t : Tree) → IsPayloadOf c.type c.payload t
     → length c.payload < 2 ^ 28 → (x : ItemView) × ((entry_item c ≡ Ok x) × IsItemOf t x)
 entry_item-tree c t h short =
     let (x, (item, is)) = IsItemOf-Payload t c.payload short h.1 in
     (x, (rw h.0 at item, is))
 
 -- the items of entries that mean trees
-pub shown_items : (cs : List Entry) (ts : Trees) → AreCodesOf cs ts → AreShort cs
+pub shown_items : (cs : List Code) (ts : Trees) → AreCodesOf cs ts → AreShort cs
     → (items_read (map Ok cs) ≡ map entry_item cs) × ShowsTrees ts (map entry_item cs)
 shown_items [] ts h short = (refl, rw h)
 shown_items (c ∷ cs) no_trees h short = absurd h
@@ -164,7 +164,7 @@ shown_keys (pair k t ps) texts =
     rw (item_of-text k texts.0) (cc (shown_keys ps texts.1))
 
 -- the items of members
-pub shown_members : (ms : List (List ℕ × Entry)) (ps : Pairs)
+pub shown_members : (ms : List (List ℕ × Code)) (ps : Pairs)
     → AreMemberEntriesOf (keys_of ms) (values_of ms) ps → AreTexts (keys_of ms)
     → AreShort (values_of ms)
     → (pair_items (map Ok (key_codes (keys_of ms))) (map Ok (values_of ms)) ≡ map member_item ms)
@@ -178,7 +178,7 @@ shown_members (m ∷ ms) (pair k t ps) h texts short =
 
 -- the entries of an array's children
 record FromChildren (ts : Trees) (e p : List ℕ) : Type 0 where
-  entries : List Entry
+  entries : List Code
   mean : AreCodesOf entries ts
   short : AreShort entries
   entries_are : e ≡ code_entries entries
@@ -202,7 +202,7 @@ from_children (tree t ts) e p h =
       payloads_are = (cc);
     }
 
-pub IsArrayOfEntries-Payload : (b : List ℕ) (ts : Trees) → Payload (array ts) b → (cs : List Entry)
+pub IsArrayOfEntries-Payload : (b : List ℕ) (ts : Trees) → Payload (array ts) b → (cs : List Code)
     × IsArrayOfEntries b ts cs
 IsArrayOfEntries-Payload b ts h =
     let body = h.later in
@@ -219,7 +219,7 @@ IsArrayOfEntries-Payload b ts h =
 
 -- the members of an object's pairs
 record FromPairs (ps : Pairs) (ke kp ve vp : List ℕ) : Type 0 where
-  members : List (List ℕ × Entry)
+  members : List (List ℕ × Code)
   mean : AreMemberEntriesOf (keys_of members) (values_of members) ps
   texts : AreTexts (keys_of members)
   short_keys : AreShort (key_codes (keys_of members))
@@ -258,7 +258,7 @@ from_pairs (pair k t ps) ke kp ve vp h v =
 
 -- the members of an object, whose keys are UTF-8
 object_members : (b : List ℕ) (ps : Pairs) → Payload (object ps) b
-    → (ms : List (List ℕ × Entry)) × (IsObjectOfEntries b ps ms × AreTexts (keys_of ms))
+    → (ms : List (List ℕ × Code)) × (IsObjectOfEntries b ps ms × AreTexts (keys_of ms))
 object_members b ps h =
     let body = h.1.later in
     let f = from_pairs ps _ _ _ _ body.keys body.values in
@@ -280,16 +280,16 @@ object_members b ps h =
     )
 
 pub IsObjectOfEntries-Payload : (b : List ℕ) (ps : Pairs) → Payload (object ps) b
-    → (ms : List (List ℕ × Entry)) × IsObjectOfEntries b ps ms
+    → (ms : List (List ℕ × Code)) × IsObjectOfEntries b ps ms
 IsObjectOfEntries-Payload b ps h = let (ms, (stored, texts)) = object_members b ps h in (ms, stored)
 
 -- the positions of an array's entries
-pub record ItemsAt (b : List ℕ) (cs : List Entry) : Type 0 where
+pub record ItemsAt (b : List ℕ) (cs : List Code) : Type 0 where
   pub header : header_at b 0 ≡ Ok (2147483648, length cs)
   pub entries_at : At b 4 (code_entries cs)
   pub payloads_at : At b (4 + 4 * length cs) (code_payloads cs)
 
-pub items_at : (b : List ℕ) (cs : List Entry) → length cs < 2 ^ 29 → b ≡ array_bytes cs
+pub items_at : (b : List ℕ) (cs : List Code) → length cs < 2 ^ 29 → b ≡ array_bytes cs
     → ItemsAt b cs
 items_at b cs few laid =
     let written = laid ∙ array_of-parts cs in
@@ -306,7 +306,7 @@ items_at b cs few laid =
     }
 
 -- the positions of an object's members
-pub record MembersAt (b : List ℕ) (ms : List (List ℕ × Entry)) : Type 0 where
+pub record MembersAt (b : List ℕ) (ms : List (List ℕ × Code)) : Type 0 where
   pub header : header_at b 0 ≡ Ok (1073741824, length ms)
   pub key_entries_at : At b 4 (code_entries (key_codes (keys_of ms)))
   pub entries_at : At b (4 + 4 * length ms) (code_entries (values_of ms))
@@ -318,7 +318,7 @@ pub length-key_codes : (ks : List (List ℕ)) → length (key_codes ks) ≡ leng
 length-key_codes [] = refl
 length-key_codes (k ∷ ks) = ap suc (length-key_codes ks)
 
-pub members_at : (b : List ℕ) (ms : List (List ℕ × Entry)) → length ms < 2 ^ 29
+pub members_at : (b : List ℕ) (ms : List (List ℕ × Code)) → length ms < 2 ^ 29
     → b ≡ object_bytes (keys_of ms) (values_of ms) → MembersAt b ms
 members_at b ms few written =
     let ke = code_entries (key_codes (keys_of ms)) in
@@ -352,13 +352,13 @@ members_at b ms few written =
     }
 
 -- what is read at the positions of an object's members
-record MembersRead (b : List ℕ) (ms : List (List ℕ × Entry)) : Type 0 where
+record MembersRead (b : List ℕ) (ms : List (List ℕ × Code)) : Type 0 where
   keys : entries_of (key_run b (length ms)) ≡ map Ok (key_codes (keys_of ms))
   end : ℕ
   ends : payloads_end b (length ms) 4 (4 + 8 * length ms) ≡ Ok end
   values : entries_of (run_from b (length ms) (4 + 4 * length ms) end) ≡ map Ok (values_of ms)
 
-members_read : (b : List ℕ) (ps : Pairs) (ms : List (List ℕ × Entry)) → IsObjectOfEntries b ps ms
+members_read : (b : List ℕ) (ps : Pairs) (ms : List (List ℕ × Code)) → IsObjectOfEntries b ps ms
     → MembersRead b ms
 members_read b ps ms h =
     let at = members_at b ms h.few h.written in
@@ -379,16 +379,16 @@ members_read b ps ms h =
     }
 
 -- the values that are read
-abbrev values_read : List ℕ → ℕ → Result (List (Result Entry Error)) Error
+abbrev values_read : List ℕ → ℕ → Result (List (Result Code Error)) Error
 values_read b n = value_run b n >>= λ run. Ok (entries_of run)
 
-values_are : (b : List ℕ) (ms : List (List ℕ × Entry)) → MembersRead b ms
+values_are : (b : List ℕ) (ms : List (List ℕ × Code)) → MembersRead b ms
     → values_read b (length ms) ≡ Ok (map Ok (values_of ms))
 values_are b ms read = rw read.ends (ap Ok read.values)
 
 -- what is read from an array, and from an object
 pub record ArrayHolds (b : List ℕ) (ts : Trees) : Type 0 where
-  pub entries : List Entry
+  pub entries : List Code
   pub stored : IsArrayOfEntries b ts entries
   pub read : entries_of (item_run b (count ts)) ≡ map Ok entries
 
@@ -405,7 +405,7 @@ array_holds b ts h =
     }
 
 pub record ObjectHolds (b : List ℕ) (ps : Pairs) : Type 0 where
-  pub members : List (List ℕ × Entry)
+  pub members : List (List ℕ × Code)
   pub stored : IsObjectOfEntries b ps members
   pub texts : AreTexts (keys_of members)
   pub counted : length members ≡ pair_count ps
@@ -434,7 +434,7 @@ object_holds b ps h =
     }
 
 -- The bytes determine the members of an object.
-read_one : (xs : List (Result Entry Error)) (cs ds : List Entry) → xs ≡ map Ok cs → xs ≡ map Ok ds
+read_one : (xs : List (Result Code Error)) (cs ds : List Code) → xs ≡ map Ok cs → xs ≡ map Ok ds
     → cs ≡ ds
 read_one xs [] [] h k = refl
 read_one xs (c ∷ cs) (d ∷ ds) h k =
@@ -446,7 +446,7 @@ payloads-key_codes : (ks : List (List ℕ)) → map (λ c. c.payload) (key_codes
 payloads-key_codes [] = refl
 payloads-key_codes (k ∷ ks) = cc (payloads-key_codes ks)
 
-same_members : (ms ns : List (List ℕ × Entry)) → keys_of ms ≡ keys_of ns
+same_members : (ms ns : List (List ℕ × Code)) → keys_of ms ≡ keys_of ns
     → values_of ms ≡ values_of ns → ms ≡ ns
 same_members [] [] h k = refl
 same_members (m ∷ ms) (n ∷ ns) h k =
@@ -457,7 +457,7 @@ same_members (m ∷ ms) (n ∷ ns) h k =
     ap₂ (λ x xs. x ∷ xs) (ap₂ (λ x c. (x, c)) key value) (same_members ms ns keys values)
 same_members ms ns h k = cc
 
-pub IsObjectOfEntries-one : (b : List ℕ) (ps qs : Pairs) (ms ns : List (List ℕ × Entry))
+pub IsObjectOfEntries-one : (b : List ℕ) (ps qs : Pairs) (ms ns : List (List ℕ × Code))
     → IsObjectOfEntries b ps ms → IsObjectOfEntries b qs ns → ms ≡ ns
 IsObjectOfEntries-one b ps qs ms ns h k =
     let left = members_read b ps ms h in
@@ -468,7 +468,7 @@ IsObjectOfEntries-one b ps qs ms ns h k =
     read_one _ _ _ left.keys (cc (n, right.keys)) in
     let left_values = values_are b ms left in
     let right_values = ap (values_read b) n ∙ values_are b ns right in
-    let entries : List Entry → List (Result Entry Error) = map Ok in
+    let entries : List Code → List (Result Code Error) = map Ok in
     let values : entries (values_of ms) ≡ entries (values_of ns) = cc in
     same_members ms ns
     (cc (payloads-key_codes (keys_of ms), codes, payloads-key_codes (keys_of ns)))

@@ -10,46 +10,46 @@ use Rattle.std.specs.BTreeMap.{insert_entry}
 use Rattle.jsonb_codec.specs.declared.constants.TheConstants.{STRING_TAG}
 use Rattle.jsonb_codec.specs.Shape.{Shapes, no_shapes, shape, leaf, array, object, payload}
 use Rattle.jsonb.specs.ItemView.{ItemView}
-use Rattle.jsonb.specs.Item.{Entry}
+use Rattle.jsonb.specs.Item.{Code}
 use Rattle.jsonb.specs.Code.{HasCode}
 
 -- The entries are those with which the items are stored, in order.
-abbrev pub AreCodes : List ItemView → List Entry → Type 0
+abbrev pub AreCodes : List ItemView → List Code → Type 0
 AreCodes [] codes = codes ≡ []
 AreCodes (x ∷ xs) [] = ⊥
 AreCodes (x ∷ xs) (c ∷ cs) = HasCode x c.type c.payload × AreCodes xs cs
 
 -- No payload exceeds its limit of 2 ^ 28 - 1 bytes.
-abbrev pub AreShort : List Entry → Type 0
+abbrev pub AreShort : List Code → Type 0
 AreShort [] = ⊤
 AreShort (c ∷ cs) = (length c.payload < 2 ^ 28) × AreShort cs
 
 -- Entries as the leaves of an array, which have no keys.
-abbrev pub leaves : List Entry → Shapes
+abbrev pub leaves : List Code → Shapes
 leaves [] = no_shapes
 leaves (c ∷ cs) = shape [] (leaf c.type c.payload) (leaves cs)
 
 -- Entries as the leaves of an object, at these keys.
-abbrev pub keyed_leaves : List (List ℕ) → List Entry → Shapes
+abbrev pub keyed_leaves : List (List ℕ) → List Code → Shapes
 keyed_leaves [] cs = no_shapes
 keyed_leaves (k ∷ ks) [] = no_shapes
 keyed_leaves (k ∷ ks) (c ∷ cs) = shape k (leaf c.type c.payload) (keyed_leaves ks cs)
 
 -- The array with these entries.
-abbrev pub array_bytes : List Entry → List ℕ
+abbrev pub array_bytes : List Code → List ℕ
 array_bytes codes = payload (array (leaves codes))
 
 -- The object with these keys and these entries of their values.
-abbrev pub object_bytes : List (List ℕ) → List Entry → List ℕ
+abbrev pub object_bytes : List (List ℕ) → List Code → List ℕ
 object_bytes keys codes = payload (object (keyed_leaves keys codes))
 
 -- The entries of these keys.
-abbrev pub key_codes : List (List ℕ) → List Entry
+abbrev pub key_codes : List (List ℕ) → List Code
 key_codes keys = map (λ k. record { type = STRING_TAG; payload = k }) keys
 
 -- Each item has an entry, and no payload and not the count exceeds its limit.
 pub record FitArray (xs : List ItemView) : Type 0 where
-  pub codes : List Entry
+  pub codes : List Code
   pub are : AreCodes xs codes
   pub short : AreShort codes
   pub few : length codes < 2 ^ 29
@@ -78,7 +78,7 @@ in_order xs = with_pairs [] xs
 
 -- Each value has an entry, and no key, no payload and not the count exceeds its limit.
 pub record FitObject (pairs : List (List ℕ × ItemView)) : Type 0 where
-  pub codes : List Entry
+  pub codes : List Code
   pub are : AreCodes (values_of pairs) codes
   pub short : AreShort codes
   pub short_keys : AreShort (key_codes (keys_of pairs))

@@ -4,7 +4,7 @@ use Rattle.jsonb_value.specs.Tree.{Tree, array, object}
 use Rattle.jsonb.specs.declared.document.Contents.{Contents}
 use Rattle.jsonb.specs.declared.document.Contents.TheVariants as contents
 use Rattle.jsonb.specs.EntryTrees.{rest_trees, rest_pairs}
-use Rattle.jsonb.specs.Item.{Entry}
+use Rattle.jsonb.specs.Item.{Code}
 use Rattle.jsonb.specs.Node.{array_of, object_of}
 use Rattle.jsonb.specs.StoredEntries.{AreEntriesOf, IsArrayOfEntries, IsObjectOfEntries}
 
@@ -16,7 +16,7 @@ contents_tree (contents.Object members) = object_of (rest_pairs members)
 -- The content is read from the entries in the document b of the tree.
 abbrev pub AreStoredIn : List ℕ → Tree → Contents → Type 0
 AreStoredIn b (array ts) (contents.Array items) =
-    (entries : List Entry) × (IsArrayOfEntries b ts entries × (items ≡ map Ok entries))
+    (entries : List Code) × (IsArrayOfEntries b ts entries × (items ≡ map Ok entries))
 AreStoredIn b (object ps) (contents.Object members) =
-    (stored : List (List ℕ × Entry)) × (IsObjectOfEntries b ps stored × AreEntriesOf stored members)
+    (stored : List (List ℕ × Code)) × (IsObjectOfEntries b ps stored × AreEntriesOf stored members)
 AreStoredIn b t content = ⊥

@@ -11,7 +11,7 @@ use Rattle.jsonb.specs.declared.iterator.ChildKind.{ChildKind}
 use Rattle.jsonb.specs.declared.iterator.ChildKind.TheVariants.{ArrayItem, ObjectKey, ObjectValue}
 use Rattle.jsonb.specs.ItemView.{ItemView}
 use Rattle.jsonb.specs.ItemView as items
-use Rattle.jsonb.specs.Item.{Entry, item_of}
+use Rattle.jsonb.specs.Item.{Code, item_of}
 use Rattle.jsonb.specs.Code.{ItemMeans, HasCode}
 use Rattle.jsonb.specs.Walk.{Walk}
 use Rattle.jsonb.specs.StoredEntries.{IsArrayOfEntries, IsObjectOfEntries, entry_item, member_item}
@@ -85,21 +85,21 @@ WalksPairs t r = r ≡ Ok None
 
 -- The results are the items of the entries in the document b of an array.
 pub record ShowsItems (b : List ℕ) (ts : Trees) (xs : List (Result ItemView Error)) : Type 0 where
-  pub entries : List Entry
+  pub entries : List Code
   pub stored : IsArrayOfEntries b ts entries
   pub items : xs ≡ map entry_item entries
 
 -- The results are the items of the values' entries in the document b of an object.
 pub record ShowsValueItems (b : List ℕ) (ps : Pairs)
     (xs : List (Result ItemView Error)) : Type 0 where
-  pub members : List (List ℕ × Entry)
+  pub members : List (List ℕ × Code)
   pub stored : IsObjectOfEntries b ps members
   pub items : xs ≡ map entry_item (values_of members)
 
 -- The results are the keys, with the items of the values' entries, in the document b of an object.
 pub record ShowsMembers (b : List ℕ) (ps : Pairs)
     (xs : List (Result (List ℕ × ItemView) Error)) : Type 0 where
-  pub members : List (List ℕ × Entry)
+  pub members : List (List ℕ × Code)
   pub stored : IsObjectOfEntries b ps members
   pub items : xs ≡ map member_item members
 

@@ -9,35 +9,35 @@ use Rattle.jsonb_codec.specs.declared.constants.TheConstants.{OBJECT_CONTAINER_T
 use Rattle.jsonb_codec.specs.declared.jentry.JEntry.{JEntry}
 use Rattle.jsonb_codec.specs.WordBytes.{header_at}
 use Rattle.jsonb_codec.specs.JEntry.{jentry_at}
-use Rattle.jsonb.specs.declared.entries.Entry.{Entry as PlacedEntry}
-use Rattle.jsonb.specs.Item.{Entry}
+use Rattle.jsonb.specs.declared.entries.Entry.{Entry}
+use Rattle.jsonb.specs.Item.{Code}
 use Rattle.jsonb.specs.Parts.{length_in}
 use Rattle.jsonb.specs.Steps.{◌>>=◌}
 
 -- The entry of this word, whose payload begins at `start` and must not run past the end.
-abbrev pub placed_by : List ℕ → ℕ → JEntry → Result PlacedEntry Error
+abbrev pub placed_by : List ℕ → ℕ → JEntry → Result Entry Error
 placed_by bytes start jentry =
     if nat_le (start + jentry.length) (length bytes)
     then Ok (record { type_code = jentry.type_code; start = start; length = jentry.length })
     else Err InvalidJsonb
 
 -- The entry whose word is at `word` and whose payload begins at `start`, with its place.
-abbrev pub placed_at : List ℕ → ℕ → ℕ → Result PlacedEntry Error
+abbrev pub placed_at : List ℕ → ℕ → ℕ → Result Entry Error
 placed_at bytes word start = jentry_at bytes word >>= placed_by bytes start
 
 -- The entry at a place: its type, and the bytes of its payload.
-abbrev pub entry_there : List ℕ → PlacedEntry → Entry
+abbrev pub entry_there : List ℕ → Entry → Code
 entry_there bytes entry =
     record { type = entry.type_code; payload = take entry.length (drop entry.start bytes) }
 
 -- The place is inside the bytes, and its type and length form one entry word.
-abbrev pub IsEntryIn : List ℕ → PlacedEntry → Type 0
+abbrev pub IsEntryIn : List ℕ → Entry → Type 0
 IsEntryIn bytes entry =
     (entry.start + entry.length ≤ length bytes) × (entry.type_code + entry.length < 2 ^ 31)
 
 -- The entries of `left` words from `word`, each by itself or with the error of reading it. Their
 -- payloads begin at `start`, one after the other; a word that is cut off counts as one of length 0.
-abbrev pub placed_from : List ℕ → ℕ → ℕ → ℕ → List (Result PlacedEntry Error)
+abbrev pub placed_from : List ℕ → ℕ → ℕ → ℕ → List (Result Entry Error)
 placed_from bytes zero word start = []
 placed_from bytes (suc left) word start = placed_at bytes word start
     ∷ placed_from bytes left (word + 4) (start + length_in (jentry_at bytes word))
@@ -51,14 +51,14 @@ entry_count header =
 
 -- All entries of an array or object, in order: of an object those of its keys and then those of its
 -- values.
-abbrev pub entries_in : List ℕ → Result (List (Result PlacedEntry Error)) Error
+abbrev pub entries_in : List ℕ → Result (List (Result Entry Error)) Error
 entries_in bytes = header_at bytes 0
     >>= λ header. Ok (placed_from bytes (entry_count header) 4 (4 + 4 * entry_count header))
 
 -- The entries that are left to be read, and the bytes that they are in.
 pub record Run : Type 0 where
   pub bytes : List ℕ
-  pub entries : List (Result PlacedEntry Error)
+  pub entries : List (Result Entry Error)
 
 -- The run of the entries of `left` words from `word`, whose payloads begin at `start`.
 abbrev pub run_from : List ℕ → ℕ → ℕ → ℕ → Run
@@ -90,22 +90,22 @@ value_run bytes n = payloads_end bytes n 4 (4 + 8 * n)
     >>= λ start. Ok (run_from bytes n (4 + 4 * n) start)
 
 -- What is left after the first entry: the others, and nothing after an error.
-abbrev pub others_left : List (Result PlacedEntry Error) → List (Result PlacedEntry Error)
+abbrev pub others_left : List (Result Entry Error) → List (Result Entry Error)
 others_left [] = []
 others_left (Ok entry ∷ others) = others
 others_left (Err e ∷ others) = []
 
 -- What is left after so many entries, whatever their payloads are; `InvalidEOF` if the word of one
 -- of them is cut off.
-abbrev pub left_after : ℕ → List (Result PlacedEntry Error)
-    → Result (List (Result PlacedEntry Error)) Error
+abbrev pub left_after : ℕ → List (Result Entry Error)
+    → Result (List (Result Entry Error)) Error
 left_after zero entries = Ok entries
 left_after (suc n) [] = Ok []
 left_after (suc n) (Err InvalidEOF ∷ others) = Err InvalidEOF
 left_after (suc n) (entry ∷ others) = left_after n others
 
 -- An entry that was read, with the bytes of its payload.
-abbrev pub entry_read : List ℕ → Result PlacedEntry Error → Result Entry Error
+abbrev pub entry_read : List ℕ → Result Entry Error → Result Code Error
 entry_read bytes (Ok entry) = Ok (entry_there bytes entry)
 entry_read bytes (Err e) = Err e
 
@@ -116,5 +116,5 @@ until_error (Ok x ∷ others) = Ok x ∷ until_error others
 until_error (Err e ∷ others) = Err e ∷ []
 
 -- The entries of a run with their payloads, up to the first error.
-abbrev pub entries_of : Run → List (Result Entry Error)
+abbrev pub entries_of : Run → List (Result Code Error)
 entries_of run = until_error (map (entry_read run.bytes) run.entries)

@@ -55,20 +55,20 @@ unfoldable pub part_at : List ℕ → ℕ → ℕ → Result (List ℕ) Error
 part_at bytes start n =
     if nat_le (start + n) (length bytes) then Ok (take n (drop start bytes)) else Err InvalidJsonb
 
--- An entry: its type, and the bytes of its payload.
-pub record Entry : Type 0 where
+-- The code of a value: the type of its entry, and the bytes of its payload.
+pub record Code : Type 0 where
   pub type : ℕ
   pub payload : List ℕ
 
 -- The entry whose word is at `place` and whose payload begins at `start`.
-unfoldable pub entry_at : List ℕ → ℕ → ℕ → Result Entry Error
+unfoldable pub entry_at : List ℕ → ℕ → ℕ → Result Code Error
 entry_at bytes place start = do
   jentry ← jentry_at bytes place
   payload ← part_at bytes start jentry.length
   Ok (record { type = jentry.type_code; payload = payload })
 
 -- The item of the entry under a scalar's header, which must not be a container.
-unfoldable pub scalar_item : Entry → Result ItemView Error
+unfoldable pub scalar_item : Code → Result ItemView Error
 scalar_item entry =
     if entry.type == CONTAINER_TAG then Err InvalidJsonb else item_of entry.type entry.payload
 

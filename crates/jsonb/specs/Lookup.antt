@@ -11,13 +11,13 @@ use Rattle.jsonb_value.specs.declared.error.Error.TheVariants.{InvalidJsonbExten
 use Rattle.jsonb_value.specs.Tree.{Tree, object, Pairs, no_pairs, pair, pair_count}
 use Rattle.jsonb_codec.specs.declared.constants.TheConstants.{OBJECT_CONTAINER_TAG}
 use Rattle.jsonb_codec.specs.WordBytes.{header_at}
-use Rattle.jsonb.specs.declared.entries.Entry.{Entry as PlacedEntry}
+use Rattle.jsonb.specs.declared.entries.Entry.{Entry}
 use Rattle.jsonb.specs.declared.item.JsonbItem.{JsonbItem}
 use Rattle.jsonb.specs.declared.lookup.Accepted.{Accepted}
 use Rattle.jsonb.specs.declared.lookup.FoundValue.{FoundValue}
 use Rattle.jsonb.specs.ItemView.{ItemView, item_view}
 use Rattle.jsonb.specs.Steps.{◌>>=◌}
-use Rattle.jsonb.specs.Item.{Entry}
+use Rattle.jsonb.specs.Item.{Code}
 use Rattle.jsonb.specs.Entries.{entry_there}
 use Rattle.jsonb.specs.Parts.{part_start, value_entry, PassedBefore, IsAccepted, IsNoneFound}
 use Rattle.jsonb.specs.Parts.{IsPlaceOf, IsUnreadable, IsValueFound}
@@ -50,7 +50,7 @@ pub record IsFound (answers : List ℕ → Bool → Type 0) (size : ℕ) (b : Li
   pub value : Tree
   pub first : IsFirstAccepted answers size ps index value
   pub item : IsItemOf value x
-  pub members : List (List ℕ × Entry)
+  pub members : List (List ℕ × Code)
   pub stored : IsObjectOfEntries b ps members
   pub entry : option_map entry_item (slice_get (values_of members) index) ≡ Some (Ok x)
   pub cost : reads ≡ pair_count ps + index + 2
@@ -134,7 +134,7 @@ FindsKey answers size b n (Err e) reads = IsUnreadable answers size b n e
 -- The result of searching n pairs, with the number of words read: the entry of the accepted key's
 -- value and where its payload begins, nothing if all keys are passed over, or the first error.
 abbrev pub FindsEntry : (List ℕ → Bool → Type 0) → ℕ → List ℕ → ℕ
-    → Result (Option PlacedEntry) Error → ℕ → Type 0
+    → Result (Option Entry) Error → ℕ → Type 0
 FindsEntry answers size b n (Ok None) reads = IsNoneFound answers size b n reads
 FindsEntry answers size b n (Ok (Some entry)) reads =
     IsValueFound answers size b n (entry_there b entry) reads
@@ -156,7 +156,7 @@ pub data LooksUpBytes (answers : List ℕ → Bool → Type 0) (size : ℕ) (b :
   all_passed : (n : ℕ) → count_under b OBJECT_CONTAINER_TAG ≡ Ok (Some n)
       → PassedBefore answers size b n n → r ≡ Ok None → reads ≡ n + 1
       → LooksUpBytes answers size b r reads
-  one_accepted : (n pair : ℕ) (entry : Entry) → count_under b OBJECT_CONTAINER_TAG ≡ Ok (Some n)
+  one_accepted : (n pair : ℕ) (entry : Code) → count_under b OBJECT_CONTAINER_TAG ≡ Ok (Some n)
       → IsAccepted answers size b n pair → value_entry b n pair ≡ Ok entry
       → r ≡ (entry_item entry >>= λ x. Ok (Some x)) → reads ≡ n + pair + 2
       → LooksUpBytes answers size b r reads

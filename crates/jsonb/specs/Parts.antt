@@ -6,8 +6,8 @@ use Rattle.std.specs.Prelude.{Err, IsOkAnd}
 use Rattle.jsonb_value.specs.declared.error.Error.{Error}
 use Rattle.jsonb_codec.specs.declared.jentry.JEntry.{JEntry}
 use Rattle.jsonb_codec.specs.JEntry.{jentry_at}
-use Rattle.jsonb.specs.declared.entries.Entry.{Entry as PlacedEntry}
-use Rattle.jsonb.specs.Item.{Entry, entry_at, part_at}
+use Rattle.jsonb.specs.declared.entries.Entry.{Entry}
+use Rattle.jsonb.specs.Item.{Code, entry_at, part_at}
 use Rattle.jsonb.specs.Steps.{◌>>=◌}
 
 -- The length in an entry word that was read; 0 for an error.
@@ -40,12 +40,12 @@ key_of_size size bytes n pair = do
       then (part_at bytes (part_start bytes n pair) size >>= λ key. Ok (Some key)) else Ok None
 
 -- The entry of this pair's value.
-abbrev pub value_entry : List ℕ → ℕ → ℕ → Result Entry Error
+abbrev pub value_entry : List ℕ → ℕ → ℕ → Result Code Error
 value_entry bytes n pair = entry_at bytes (4 + 4 * (n + pair)) (part_start bytes n (n + pair))
 
 -- The place of the payload of the entry with this number: its type and length are those in the
 -- entry's word, and it is inside the bytes.
-pub record IsPlaceOf (bytes : List ℕ) (n part : ℕ) (place : PlacedEntry) : Type 0 where
+pub record IsPlaceOf (bytes : List ℕ) (n part : ℕ) (place : Entry) : Type 0 where
   pub entry : jentry_at bytes (4 + 4 * part)
       ≡ Ok record { type_code = place.type_code; length = place.length }
   pub start : place.start ≡ part_start bytes n part
@@ -78,7 +78,7 @@ pub record IsNoneFound (answers : List ℕ → Bool → Type 0) (size : ℕ) (by
 -- The entry is that of the accepted key's value; the words read are the keys' entries and the
 -- values' up to this one.
 pub record IsValueFound (answers : List ℕ → Bool → Type 0) (size : ℕ) (bytes : List ℕ) (n : ℕ)
-    (entry : Entry) (reads : ℕ) : Type 0 where
+    (entry : Code) (reads : ℕ) : Type 0 where
   pub pair : ℕ
   pub key : IsAccepted answers size bytes n pair
   pub there : value_entry bytes n pair ≡ Ok entry

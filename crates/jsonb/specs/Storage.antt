@@ -14,25 +14,25 @@ use Rattle.jsonb_codec.specs.declared.constants.TheConstants.{EXTENSION_TAG}
 use Rattle.jsonb_codec.specs.WordBytes.{header_at}
 use Rattle.jsonb_codec.specs.Doc.{IsDocument}
 use Rattle.jsonb.specs.ItemView.{ItemView, null, boolean, number, text, extension, raw, owned}
-use Rattle.jsonb.specs.Item.{Entry, entry_at}
+use Rattle.jsonb.specs.Item.{Code, entry_at}
 use Rattle.jsonb.specs.Code.{number_bytes, extension_bytes}
 
 -- The entry under a scalar's header; none under any other header, or if it is cut off.
-abbrev pub entry_under : Result (ℕ × ℕ) Error → List ℕ → Option Entry
+abbrev pub entry_under : Result (ℕ × ℕ) Error → List ℕ → Option Code
 entry_under (Ok header) b =
     if header.0 == SCALAR_CONTAINER_TAG then result_ok (entry_at b 4 8) else None
 entry_under (Err e) b = None
 
 -- The entry of a scalar's document; none for any other bytes.
-unfoldable pub scalar_entry : List ℕ → Option Entry
+unfoldable pub scalar_entry : List ℕ → Option Code
 scalar_entry b = entry_under (header_at b 0) b
 
 -- The entry with which a document is stored: a scalar's own, or an array or object whole.
-abbrev pub document_code : List ℕ → Entry
+abbrev pub document_code : List ℕ → Code
 document_code b = unwrap_or (scalar_entry b) (record { type = CONTAINER_TAG; payload = b })
 
 -- The entry with which an item is stored, if it has one.
-abbrev pub entry_of_item : ItemView → Entry
+abbrev pub entry_of_item : ItemView → Code
 entry_of_item null = record { type = NULL_TAG; payload = [] }
 entry_of_item (boolean false) = record { type = FALSE_TAG; payload = [] }
 entry_of_item (boolean true) = record { type = TRUE_TAG; payload = [] }
@@ -44,7 +44,7 @@ entry_of_item (raw b) = document_code b
 entry_of_item (owned b) = document_code b
 
 -- The type and the payload of an entry, as a pair.
-abbrev pub pair_of : Entry → ℕ × List ℕ
+abbrev pub pair_of : Code → ℕ × List ℕ
 pair_of entry = (entry.type, entry.payload)
 
 -- The type and the payload with which an item is stored.
@@ -71,7 +71,7 @@ AreStorable [] = ⊤
 AreStorable (x ∷ xs) = IsStorable x × AreStorable xs
 
 -- The entries with which these items are stored.
-abbrev pub codes_of : List ItemView → List Entry
+abbrev pub codes_of : List ItemView → List Code
 codes_of xs = map entry_of_item xs
 
 -- The contents of an item are consistent: a number is in the range of its type, a text is UTF-8,

@@ -13,7 +13,7 @@ use Rattle.jsonb.specs.declared.iterator.ChildKind.TheVariants.{ArrayItem, Objec
 use Rattle.jsonb.specs.Steps.{◌>>=◌}
 use Rattle.jsonb.specs.Payloads.{is_text}
 use Rattle.jsonb.specs.ItemView.{ItemView}
-use Rattle.jsonb.specs.Item.{Entry, item_of}
+use Rattle.jsonb.specs.Item.{Code, item_of}
 use Rattle.jsonb.specs.Entries.{Run, entries_of, until_error, item_run, key_run, value_run}
 
 -- An iterator: the header's count, and the results that are left.
@@ -32,27 +32,27 @@ pub record Advances {A B : Type 0} (view : Result B Error → Result A Error) (o
   pub ended : IfSome result (λ item. IfErr item (λ _. new.rest ≡ []))
 
 -- The item of an entry that was read.
-abbrev pub item_read : Result Entry Error → Result ItemView Error
+abbrev pub item_read : Result Code Error → Result ItemView Error
 item_read read = read >>= λ entry. item_of entry.type entry.payload
 
 -- The items of entries, up to the first error.
-abbrev pub items_read : List (Result Entry Error) → List (Result ItemView Error)
+abbrev pub items_read : List (Result Code Error) → List (Result ItemView Error)
 items_read entries = until_error (map item_read entries)
 
 -- The key of an entry, which must be a string of UTF-8.
-abbrev pub key_of : Entry → Result (List ℕ) Error
+abbrev pub key_of : Code → Result (List ℕ) Error
 key_of entry = if entry.type == STRING_TAG
     then (if is_text entry.payload then Ok entry.payload else Err InvalidUtf8) else Err InvalidJsonb
 
 -- The key of one entry that was read, and the item of another.
-abbrev pub pair_read : Result Entry Error × Result Entry Error → Result (List ℕ × ItemView) Error
+abbrev pub pair_read : Result Code Error × Result Code Error → Result (List ℕ × ItemView) Error
 pair_read read = do
   key ← read.0 >>= key_of
   value ← item_read read.1
   Ok (key, value)
 
 -- The pairs of keys and values, up to the first error.
-abbrev pub pair_items : List (Result Entry Error) → List (Result Entry Error)
+abbrev pub pair_items : List (Result Code Error) → List (Result Code Error)
     → List (Result (List ℕ × ItemView) Error)
 pair_items keys values = until_error (map pair_read (zip keys values))
 

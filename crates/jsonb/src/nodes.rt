@@ -6,7 +6,7 @@ ghost use Rattle.std.specs.Cmp.Lexicographic.{pointwise};
 ghost use Rattle.std.specs.Iterator.{YieldsFirstBy, MakesProgress, item_count};
 ghost use Rattle.jsonb_value.specs.declared.error.Error.{Error};
 ghost use Rattle.jsonb.specs.Entries.{entries_of};
-ghost use Rattle.jsonb.specs.Item.{Entry};
+ghost use Rattle.jsonb.specs.Item.{Code};
 ghost use Rattle.jsonb.specs.EntryTrees.{AreParts, AreMemberEntries, rest_trees, rest_pairs};
 ghost use Rattle.jsonb.specs.EntryTrees.{part_tree};
 ghost use Rattle.jsonb.specs.EntryTrees.{member_part_tree, entry_of_part};
@@ -25,7 +25,7 @@ pub struct Items<'a> {
 }
 
 impl<'a> Model for Items<'a> {
-    ghost Value = { List (Result Entry Error) };
+    ghost Value = { List (Result Code Error) };
 
     ghost view = { λ s. entries_of s.entries };
 
@@ -98,7 +98,7 @@ pub struct Members<'a> {
 }
 
 impl<'a> Model for Members<'a> {
-    ghost Value = { List (Result Entry Error) × List (Result Entry Error) };
+    ghost Value = { List (Result Code Error) × List (Result Code Error) };
 
     ghost view = { λ s. (entries_of s.keys, entries_of s.values) };
 
@@ -129,7 +129,7 @@ impl<'a> Members<'a> {
     // The value of the first key that is this name, as a part.
     #[inline(always)]
     pub(crate) fn find(self, name: &str) -> Option<Part<'a>>
-        ensures { (members : List (List ℕ × Entry)) → AreEntriesOf members self.entry
+        ensures { (members : List (List ℕ × Code)) → AreEntriesOf members self.entry
             → option_map entry_of_part result
             ≡ find_entry (pointwise nat_eq name.now) (length name.now) members }
     {

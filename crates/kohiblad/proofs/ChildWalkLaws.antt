@@ -8,7 +8,7 @@ use Rattle.jsonb_codec.specs.declared.constants.TheConstants.{ARRAY_CONTAINER_TA
 use Rattle.jsonb_codec.specs.WordBytes.{header_at}
 use Rattle.jsonb.specs.Entries.{entry_there, payloads_end}
 use Rattle.jsonb.specs.Steps.{◌>>=◌}
-use Rattle.jsonb.specs.declared.entries.Entry.{Entry as PlacedEntry}
+use Rattle.jsonb.specs.declared.entries.Entry.{Entry}
 use Rattle.kohiblad.specs.declared.children.Child.{Child}
 use Rattle.kohiblad.specs.declared.children.KohibladCursor.{KohibladCursor}
 use Rattle.kohiblad.specs.declared.path_places.ChildWalk.{ChildWalk}
@@ -110,7 +110,7 @@ module _ (bytes : List ℕ) where
       ∙ ap₂ (λ (m : ℕ) (c : KohibladCursor). child ∷ walked_children bytes m c) same (sym moved)
 
 -- The places that are left in a walk over the children at a place.
-module _ (bytes inside : List ℕ) (place : PlacedEntry)
+module _ (bytes inside : List ℕ) (place : Entry)
     (is : inside ≡ (entry_there bytes place).payload) where
   pub no_place_left : (walk : ChildWalk)
       → None ≡ found_child (child_at_cursor inside walk.cursor)

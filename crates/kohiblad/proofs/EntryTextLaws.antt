@@ -14,7 +14,7 @@ use Rattle.jsonb.specs.declared.document.Document.{Document}
 use Rattle.jsonb.specs.declared.node.Node.{Node}
 use Rattle.jsonb.specs.declared.node.Node.TheVariants as nodes
 use Rattle.jsonb.proofs.DocumentLaws.{tree_of_bytes}
-use Rattle.jsonb.specs.declared.entries.Entry.{Entry as PlacedEntry}
+use Rattle.jsonb.specs.declared.entries.Entry.{Entry}
 use Rattle.kohiblad.specs.EntryTexts.{IsPayloadWithin, IsPrintedPart}
 use Rattle.kohiblad.specs.Places.{part_in}
 use Rattle.kohiblad.proofs.PartLaws.{place_value}
@@ -60,7 +60,7 @@ one_value d type p t u (small, (is, means)) (low, (also, meant)) =
 -- what holds of the value of an entry holds of the part at its position
 pub printed_part : (d type : ℕ) (p : List ℕ) (Is : Tree → Type 0)
     → ((t : Tree) → IsPayloadWithin d type p t → Is t) → (b : List ℕ) (t : Tree) (nth : ℕ)
-    (place : PlacedEntry) → Doc b t → part_in b nth ≡ Ok (Some place)
+    (place : Entry) → Doc b t → part_in b nth ≡ Ok (Some place)
     → entry_there b place ≡ record { type = type; payload = p } → IsPrintedPart d t nth Is
 printed_part d type p Is holds b t nth place document found is =
     let value = place_value b t nth place type p document found is in

@@ -7,8 +7,8 @@ use Rattle.jsonb_value.specs.declared.error.Error.{Error}
 use Rattle.jsonb_value.specs.Tree.{Tree, object}
 use Rattle.jsonb_value.specs.Tree.{Pairs}
 use Rattle.jsonb_codec.specs.Doc.{Doc, Payload}
-use Rattle.jsonb.specs.declared.entries.Entry.{Entry as PlacedEntry}
-use Rattle.jsonb.specs.Item.{Entry}
+use Rattle.jsonb.specs.declared.entries.Entry.{Entry}
+use Rattle.jsonb.specs.Item.{Code}
 use Rattle.jsonb.specs.ItemView.{ItemView}
 use Rattle.jsonb.specs.Lookup.{AnswersBy, IsFound, IsNotFound, LooksUp}
 use Rattle.jsonb.specs.StoredEntries.{entry_item}
@@ -19,8 +19,8 @@ use Rattle.kohiblad.specs.Places.{is_name, part_in, value_place, IsPlaceFound, I
 use Rattle.kohiblad.proofs.Lookups.{counted}
 use Rattle.kohiblad.proofs.PlaceLaws.{value_stored}
 
-value_with : (o : Option Entry) (x : ItemView) → option_map entry_item o ≡ Some (Ok x)
-    → (c : Entry) × (o ≡ Some c)
+value_with : (o : Option Code) (x : ItemView) → option_map entry_item o ≡ Some (Ok x)
+    → (c : Code) × (o ≡ Some c)
 value_with None x is = absurd cc
 value_with (Some c) x is = (c, refl)
 
@@ -58,7 +58,7 @@ module _ (name b : List ℕ) where
             Some at.place,
             (
               ap (part_in b) which ∙ at.found,
-              ap (λ (c : Entry). Some c) at.there ∙ sym (first ∙ there),
+              ap (λ (c : Code). Some c) at.there ∙ sym (first ∙ there),
             ),
           ),
         ),
@@ -79,7 +79,7 @@ module _ (name b : List ℕ) where
   by_item t (Err e) reads doc h = absurd h
 
   -- What the look-up finds in the bytes of a document is the position of the value.
-  pub found_stored : (t : Tree) (found : Result (Option PlacedEntry) Error) → Doc b t
+  pub found_stored : (t : Tree) (found : Result (Option Entry) Error) → Doc b t
       → IsPlaceFound name b found → IsValuePlace b t name found
   found_stored t found doc h =
       subst (IsValuePlace b t name) (sym h.place)

@@ -11,7 +11,7 @@ use Rattle.jsonb_codec.specs.JEntry.{jentry_at, jentry_in}
 use Rattle.jsonb_codec.specs.WordBytes.{header_at}
 use Rattle.jsonb_codec.specs.declared.jentry.JEntry.{JEntry}
 use Rattle.jsonb_codec.proofs.RoomLaws.{word_at-inside}
-use Rattle.jsonb.specs.declared.entries.Entry.{Entry as PlacedEntry}
+use Rattle.jsonb.specs.declared.entries.Entry.{Entry}
 use Rattle.jsonb.specs.declared.lookup.FoundValue.{FoundValue}
 use Rattle.jsonb.specs.Entries.{payloads_end}
 use Rattle.jsonb.specs.ItemView.{ItemView}
@@ -107,7 +107,7 @@ module _ (bytes : List ℕ) where
 
   -- the part of an object with a place
   part_placed : (n : ℕ) → count_under bytes OBJECT_CONTAINER_TAG ≡ Ok (Some n) → (part : ℕ)
-      → part < 2 * n → (entry : PlacedEntry) → IsPlaceOf bytes n part entry
+      → part < 2 * n → (entry : Entry) → IsPlaceOf bytes n part entry
       → part_in bytes part ≡ Ok (Some entry)
   part_placed n count part among entry is =
       let fits = word_there (4 + 4 * part) _ is.entry in
@@ -124,7 +124,7 @@ module _ (bytes : List ℕ) where
       ∙ rw (word, inside) refl
 
 -- The positions in the result of a look-up.
-abbrev pub places_of : Result (Option FoundValue) Error → Result (Option PlacedEntry) Error
+abbrev pub places_of : Result (Option FoundValue) Error → Result (Option Entry) Error
 places_of (Ok found) = Ok (option_map (λ (f : FoundValue). f.entry) found)
 places_of (Err e) = Err e
 

@@ -15,12 +15,12 @@ use Rattle.jsonb_codec.specs.Parts.{IsPayloadOf}
 use Rattle.jsonb.specs.Building.{AreShort, AreTexts, key_codes}
 use Rattle.jsonb.specs.Code.{scalar_bytes}
 use Rattle.jsonb.specs.Entries.{entry_there}
-use Rattle.jsonb.specs.Item.{Entry}
+use Rattle.jsonb.specs.Item.{Code}
 use Rattle.jsonb.specs.Node.{tree_list, pair_list}
 use Rattle.jsonb.specs.StoredEntries.{AreCodesOf, AreMemberEntriesOf}
 use Rattle.jsonb.proofs.KindLaws.{container_cases, header_at-Scalar}
 use Rattle.jsonb.proofs.StoredEntryLaws.{both_are, object_holds}
-use Rattle.jsonb.specs.declared.entries.Entry.{Entry as PlacedEntry}
+use Rattle.jsonb.specs.declared.entries.Entry.{Entry}
 use Rattle.kohiblad.specs.Parts.{is_entry_type, is_too_long, part_document, part_trees}
 use Rattle.kohiblad.specs.Parts.{IsPartDocument}
 use Rattle.kohiblad.specs.Places.{entry_document, part_in, IsPartPlace}
@@ -67,35 +67,35 @@ part_made type p t h fits =
     (subst (λ (n : ℕ). is_entry_type n ≡ true) h.0 (is_type t)) fits
 
 -- entries with the trees that they mean
-pub record EntryMeans (c : Entry) (t : Tree) : Type 0 where
+pub record EntryMeans (c : Code) (t : Tree) : Type 0 where
   pub means : IsPayloadOf c.type c.payload t
   pub short : length c.payload < 2 ^ 28
 
-abbrev pub EntriesMean : List Entry → List Tree → Type 0
+abbrev pub EntriesMean : List Code → List Tree → Type 0
 EntriesMean [] [] = Unit {0}
 EntriesMean [] (t ∷ ts) = ⊥
 EntriesMean (c ∷ cs) [] = ⊥
 EntriesMean (c ∷ cs) (t ∷ ts) = EntryMeans c t × EntriesMean cs ts
 
 -- an entry of some of these trees
-pub record IsAmong (ts : List Tree) (nth : ℕ) (c : Entry) : Type 0 where
+pub record IsAmong (ts : List Tree) (nth : ℕ) (c : Code) : Type 0 where
   pub tree : Tree
   pub there : slice_get ts nth ≡ Some tree
   pub entry : EntryMeans c tree
 
-pub entry_among : (cs : List Entry) (ts : List Tree) (nth : ℕ) (c : Entry) → EntriesMean cs ts
+pub entry_among : (cs : List Code) (ts : List Tree) (nth : ℕ) (c : Code) → EntriesMean cs ts
     → slice_get cs nth ≡ Some c → IsAmong ts nth c
 entry_among [] ts zero c h there = absurd cc
 entry_among [] ts (suc nth) c h there = absurd cc
 entry_among (x ∷ cs) [] nth c h there = absurd h
 entry_among (x ∷ cs) (t ∷ ts) zero c h there =
     let same : x ≡ c = cc in
-    record { tree = t; there = refl; entry = subst (λ (y : Entry). EntryMeans y t) same h.0 }
+    record { tree = t; there = refl; entry = subst (λ (y : Code). EntryMeans y t) same h.0 }
 entry_among (x ∷ cs) (t ∷ ts) (suc nth) c h there =
     let more = entry_among cs ts nth c h.1 there in
     record { tree = more.tree; there = more.there; entry = more.entry }
 
-EntriesMean-append : (cs ds : List Entry) (ts us : List Tree) → EntriesMean cs ts
+EntriesMean-append : (cs ds : List Code) (ts us : List Tree) → EntriesMean cs ts
     → EntriesMean ds us → EntriesMean (cs ++ ds) (ts ++ us)
 EntriesMean-append [] ds [] us h k = k
 EntriesMean-append [] ds (t ∷ ts) us h k = absurd h
@@ -103,7 +103,7 @@ EntriesMean-append (c ∷ cs) ds [] us h k = absurd h
 EntriesMean-append (c ∷ cs) ds (t ∷ ts) us h k =
     (h.0, EntriesMean-append cs ds ts us h.1 k)
 
-pub EntriesMean-items : (cs : List Entry) (ts : Trees) → AreCodesOf cs ts → AreShort cs
+pub EntriesMean-items : (cs : List Code) (ts : Trees) → AreCodesOf cs ts → AreShort cs
     → EntriesMean cs (tree_list ts)
 EntriesMean-items [] no_trees h short = tt
 EntriesMean-items [] (tree t ts) h short = absurd cc
@@ -111,7 +111,7 @@ EntriesMean-items (c ∷ cs) no_trees h short = absurd h
 EntriesMean-items (c ∷ cs) (tree t ts) h short =
     (record { means = h.0; short = short.0 }, EntriesMean-items cs ts h.1 short.1)
 
-EntriesMean-values : (ks : List (List ℕ)) (cs : List Entry) (ps : Pairs)
+EntriesMean-values : (ks : List (List ℕ)) (cs : List Code) (ps : Pairs)
     → AreMemberEntriesOf ks cs ps
     → AreShort cs → EntriesMean cs (values_of (pair_list ps))
 EntriesMean-values [] [] no_pairs h short = tt
@@ -122,7 +122,7 @@ EntriesMean-values (k ∷ ks) (c ∷ cs) no_pairs h short = absurd h
 EntriesMean-values (k ∷ ks) (c ∷ cs) (pair l t ps) h short =
     (record { means = h.1.0; short = short.0 }, EntriesMean-values ks cs ps h.1.1 short.1)
 
-EntriesMean-keys : (ks : List (List ℕ)) (cs : List Entry) (ps : Pairs) → AreMemberEntriesOf ks cs ps
+EntriesMean-keys : (ks : List (List ℕ)) (cs : List Code) (ps : Pairs) → AreMemberEntriesOf ks cs ps
     → AreTexts ks → AreShort (key_codes ks)
     → EntriesMean (key_codes ks) (map text (keys_of (pair_list ps)))
 EntriesMean-keys [] [] no_pairs h texts short = tt
@@ -136,7 +136,7 @@ EntriesMean-keys (k ∷ ks) (c ∷ cs) (pair l t ps) h texts short = (
 )
 
 -- the entry at the position of a part
-module _ (b : List ℕ) (nth : ℕ) (place : PlacedEntry)
+module _ (b : List ℕ) (nth : ℕ) (place : Entry)
     (found : part_in b nth ≡ Ok (Some place)) where
   among_items : (ts : Trees) → IsPartPlace b (array ts) nth (part_in b nth)
       → IsAmong (part_trees (array ts)) nth (entry_there b place)
@@ -184,7 +184,7 @@ short_enough type p short =
     ∙ and_false (not (type == CONTAINER_TAG))
 
 -- what is made of the part at a position
-pub place_document : (b : List ℕ) (t : Tree) (nth : ℕ) (place : PlacedEntry) (type : ℕ) (p : List ℕ)
+pub place_document : (b : List ℕ) (t : Tree) (nth : ℕ) (place : Entry) (type : ℕ) (p : List ℕ)
     → Doc b t → part_in b nth ≡ Ok (Some place)
     → entry_there b place ≡ record { type = type; payload = p }
     → (part_document type p ≡ Ok (entry_document (entry_there b place)))
@@ -196,13 +196,13 @@ place_document b t nth place type p document found is =
     let fits = short_enough entry.type entry.payload among.entry.short in
     let made = part_made entry.type entry.payload among.tree means fits in
     let doc = entry_doc entry.type entry.payload among.tree means fits in (
-      ap (λ (c : Entry). part_document c.type c.payload) (sym is)
+      ap (λ (c : Code). part_document c.type c.payload) (sym is)
           ∙ made,
       (among.tree, (among.there, doc)),
     )
 
 -- what the entry at a position means
-pub place_value : (b : List ℕ) (t : Tree) (nth : ℕ) (place : PlacedEntry) (type : ℕ) (p : List ℕ)
+pub place_value : (b : List ℕ) (t : Tree) (nth : ℕ) (place : Entry) (type : ℕ) (p : List ℕ)
     → Doc b t → part_in b nth ≡ Ok (Some place)
     → entry_there b place ≡ record { type = type; payload = p }
     → (u : Tree) × ((slice_get (part_trees t) nth ≡ Some u) × IsPayloadOf type p u)
@@ -211,6 +211,6 @@ place_value b t nth place type p document found is =
       among.tree,
       (
         among.there,
-        subst (λ (c : Entry). IsPayloadOf c.type c.payload among.tree) is among.entry.means,
+        subst (λ (c : Code). IsPayloadOf c.type c.payload among.tree) is among.entry.means,
       ),
     )

@@ -28,14 +28,14 @@ use Rattle.jsonb_codec.specs.WordBytes.{header_at, word}
 use Rattle.jsonb.specs.Children.{Pairwise}
 use Rattle.jsonb.specs.Entries.{entry_there}
 use Rattle.jsonb.specs.EntryTrees.{entry_tree}
-use Rattle.jsonb.specs.Item.{Entry}
+use Rattle.jsonb.specs.Item.{Code}
 use Rattle.jsonb.specs.Node.{items_of, pair_list, tree_list, value_of_key}
 use Rattle.jsonb.specs.Lookup.{find_pair}
 use Rattle.jsonb.specs.Steps.{◌>>=◌}
 use Rattle.jsonb.specs.StoredEntries.{AreMemberEntriesOf, IsArrayOfEntries, IsObjectOfEntries}
 use Rattle.jsonb.proofs.StoredEntryLaws.{IsArrayOfEntries-Payload, IsObjectOfEntries-Payload}
 use Rattle.jsonb.proofs.StoredEntryLaws.{items_at, members_at}
-use Rattle.jsonb.specs.declared.entries.Entry.{Entry as PlacedEntry}
+use Rattle.jsonb.specs.declared.entries.Entry.{Entry}
 use Rattle.jsonb.proofs.KindLaws.{At-entry, IsTag-type_of, container_cases, header_at-Scalar}
 use Rattle.jsonb.proofs.KindLaws.{header_at-array, header_at-object}
 use Rattle.jsonb.proofs.EntryTreeLaws.{entry_tree-is}
@@ -80,10 +80,10 @@ IsUnfiltered s = ⊤
 abbrev pub Holds : List ℕ → Child → Tree → Type 0
 Holds bytes child t = IsPlaceWithin bytes child.value × HoldsTree bytes child.value t
 
-holds_entry : (b : List ℕ) (place : PlacedEntry) (c : Entry) (t : Tree)
+holds_entry : (b : List ℕ) (place : Entry) (c : Code) (t : Tree)
     → entry_there b place ≡ c → IsPayloadOf c.type c.payload t → HoldsTree b place t
 holds_entry b place c t there =
-    subst (λ (e : Entry). IsPayloadOf e.type e.payload t) (sym there)
+    subst (λ (e : Code). IsPayloadOf e.type e.payload t) (sym there)
 
 -- The child at an index, if there is one, is related to the element there.
 abbrev pub IsNumbered : {A : Type 0} → List ℕ → (Child → A → Type 0) → List A → ℕ → Type 0
@@ -124,7 +124,7 @@ module _ {A : Type 0} (bytes : List ℕ) (R : Child → A → Type 0) (xs : List
 
 -- the children of an array
 module _ (b : List ℕ) (ts : Trees) (h : Payload (array ts) b) (i : ℕ) where
-  past_items : (cs : List Entry) (us : List Tree) (k : ℕ) → EntriesMean cs us
+  past_items : (cs : List Code) (us : List Tree) (k : ℕ) → EntriesMean cs us
       → slice_get cs k ≡ None → slice_get us k ≡ None
   past_items [] [] k mean past = refl
   past_items [] (u ∷ us) k mean past = absurd mean
@@ -141,8 +141,8 @@ module _ (b : List ℕ) (ts : Trees) (h : Payload (array ts) b) (i : ℕ) where
       ∙ ap (λ (k : ℕ). if nat_le n i then Ok None
       else child_of false (part_in b i) (part_in b k)) (zero-add i)
 
-  items_at_index : (cs : List Entry) → IsArrayOfEntries b ts cs
-      → ((c : Entry) × (i < length cs) × (slice_get cs i ≡ Some c) × (get_or cs i c ≡ c))
+  items_at_index : (cs : List Code) → IsArrayOfEntries b ts cs
+      → ((c : Code) × (i < length cs) × (slice_get cs i ≡ Some c) × (get_or cs i c ≡ c))
       ⊎ ((length cs ≤ i) × (slice_get cs i ≡ None))
       → IsNumbered b (Holds b) (tree_list ts) i
   items_at_index cs stored (inl (c, inside, there, here)) =
@@ -179,11 +179,11 @@ HoldsPair b child p = IfSome child.key (λ key. (entry_there b key).payload ≡ 
 -- the children of an object
 module _ (b : List ℕ) (ps : Pairs) (h : Payload (object ps) b) (i : ℕ) where
   -- the pair at the index of a member
-  abbrev IsPairAt : Pairs → ℕ → List ℕ × Entry → Type 0
+  abbrev IsPairAt : Pairs → ℕ → List ℕ × Code → Type 0
   IsPairAt qs k m = (t : Tree)
       × ((slice_get (pair_list qs) k ≡ Some (m.0, t)) × IsPayloadOf m.1.type m.1.payload t)
 
-  pair_at : (ms : List (List ℕ × Entry)) (qs : Pairs) (k : ℕ) (m : List ℕ × Entry)
+  pair_at : (ms : List (List ℕ × Code)) (qs : Pairs) (k : ℕ) (m : List ℕ × Code)
       → AreMemberEntriesOf (keys_of ms) (values_of ms) qs → slice_get ms k ≡ Some m
       → IsPairAt qs k m
   pair_at [] qs zero m mean there = absurd cc
@@ -195,7 +195,7 @@ module _ (b : List ℕ) (ps : Pairs) (h : Payload (object ps) b) (i : ℕ) where
       (t, (ap (λ (k : List ℕ). Some (k, t)) (sym mean.0), mean.1.0))
   pair_at (x ∷ ms) (pair l t qs) (suc k) m mean there = pair_at ms qs k m mean.1.1 there
 
-  past_pairs : (ms : List (List ℕ × Entry)) (qs : Pairs) (k : ℕ)
+  past_pairs : (ms : List (List ℕ × Code)) (qs : Pairs) (k : ℕ)
       → AreMemberEntriesOf (keys_of ms) (values_of ms) qs → slice_get ms k ≡ None
       → slice_get (pair_list qs) k ≡ None
   past_pairs [] no_pairs k mean past = refl
@@ -211,8 +211,8 @@ module _ (b : List ℕ) (ps : Pairs) (h : Payload (object ps) b) (i : ℕ) where
       ap (λ (r : Result (ℕ × ℕ) Error). (r >>= (λ (g : ℕ × ℕ). Ok (layout_under g)))
       >>= numbered_among b i) header
 
-  members_at_index : (ms : List (List ℕ × Entry)) → IsObjectOfEntries b ps ms
-      → ((m : List ℕ × Entry) × (i < length ms) × (slice_get ms i ≡ Some m) × (get_or ms i m ≡ m))
+  members_at_index : (ms : List (List ℕ × Code)) → IsObjectOfEntries b ps ms
+      → ((m : List ℕ × Code) × (i < length ms) × (slice_get ms i ≡ Some m) × (get_or ms i m ≡ m))
       ⊎ ((length ms ≤ i) × (slice_get ms i ≡ None))
       → IsNumbered b (HoldsPair b) (pair_list ps) i
   members_at_index ms stored (inl (m, inside, there, here)) =
@@ -229,7 +229,7 @@ module _ (b : List ℕ) (ps : Pairs) (h : Payload (object ps) b) (i : ℕ) where
             ∙ rw (test, key_found, value_found) refl,
         paired,
         (
-          ap (λ (e : Entry). e.payload) key.there,
+          ap (λ (e : Code). e.payload) key.there,
           refl,
           (value.inside, holds_entry b value.place m.1 t value.there means),
         ),
@@ -383,7 +383,7 @@ module _ (b : List ℕ) (name : List ℕ) where
   named_by true child t cs o held more = (held, refl)
   named_by false child t cs o held more = more
 
-  same_test : (key : Option PlacedEntry) (l : List ℕ) → is_some key ≡ true
+  same_test : (key : Option Entry) (l : List ℕ) → is_some key ≡ true
       → IfSome key (λ place. (entry_there b place).payload ≡ l)
       → child_has_key name b key ≡ ((length l == length name) && pointwise nat_eq name l)
   same_test None l some is = absurd cc
@@ -432,7 +432,7 @@ module _ (b : List ℕ) (ps : Pairs) (h : Payload (object ps) b) where
       rw (header_at-object b ps h) (members_held s plain)
 
 -- A place inside the bytes, where the tree is.
-abbrev pub Held : List ℕ → PlacedEntry → Tree → Type 0
+abbrev pub Held : List ℕ → Entry → Tree → Type 0
 Held bytes place t = IsPlaceWithin bytes place × HoldsTree bytes place t
 
 -- a child of the array or object at a place, as a place in all bytes
@@ -446,7 +446,7 @@ payload_moved bytes s l c k inside =
     ∙ take-take k (l - c) (drop c (drop s bytes)) (omega arith)
     ∙ ap (take k) (drop-drop c s bytes)
 
-child_moved : (bytes : List ℕ) (place : PlacedEntry) (child : Child) (t : Tree)
+child_moved : (bytes : List ℕ) (place : Entry) (child : Child) (t : Tree)
     → IsPlaceWithin bytes place
     → Holds (entry_there bytes place).payload child t
     → Held bytes (value_at place.start child) t
@@ -489,7 +489,7 @@ no_child t keys items (steps.Key k) = refl
 no_child t keys items step = refl
 
 -- The children to which a selector leads.
-module _ (bytes : List ℕ) (place : PlacedEntry) (inside : IsPlaceWithin bytes place) where
+module _ (bytes : List ℕ) (place : Entry) (inside : IsPlaceWithin bytes place) where
   chosen_moved : (cs : List Child) (ts : List Tree)
       → Pairwise (Holds (entry_there bytes place).payload) cs ts
       → Pairwise (Held bytes) (map (value_at place.start) cs) ts
@@ -528,12 +528,12 @@ module _ (bytes : List ℕ) (place : PlacedEntry) (inside : IsPlaceWithin bytes 
       scalar_held s t _ h.0 refl (none_at s plain t (no_child t (λ k. refl) refl) refl refl)
 
 -- A filter leads to the place itself, or to none.
-kept_held : (bytes : List ℕ) (place : PlacedEntry) (t : Tree) (b : Bool) → Held bytes place t
+kept_held : (bytes : List ℕ) (place : Entry) (t : Tree) (b : Bool) → Held bytes place t
     → Pairwise (Held bytes) (if b then place ∷ [] else []) (if b then t ∷ [] else [])
 kept_held bytes place t true held = (held, refl)
 kept_held bytes place t false held = refl
 
-filter_held : (condition : Condition) (bytes : List ℕ) (place : PlacedEntry) (t : Tree)
+filter_held : (condition : Condition) (bytes : List ℕ) (place : Entry) (t : Tree)
     → Held bytes place t
     → Pairwise (Held bytes) (places_at (selectors.Filter condition) bytes place)
     (filtered condition t)
@@ -541,7 +541,7 @@ filter_held condition bytes place t held =
     let same = entry_tree-is place.type_code (entry_there bytes place).payload t held.1 in
     rw same (kept_held bytes place t (holds condition t) held)
 
-pub other_places : (s : Selector) (bytes : List ℕ) (place : PlacedEntry)
+pub other_places : (s : Selector) (bytes : List ℕ) (place : Entry)
     → ((condition : Condition) → s ≡ selectors.Filter condition → ⊥)
     → ((indexes : Vec Bound) → s ≡ selectors.Indexes indexes → ⊥)
     → child_places s bytes place ≡ places_at s bytes place
@@ -563,7 +563,7 @@ single_child (steps.Key k) t = refl
 single_child (steps.Index i) t = refl
 single_child (steps.FromEnd i) t = refl
 
-step_places : (s : Step) (bytes : List ℕ) (place : PlacedEntry) (t : Tree) → Held bytes place t
+step_places : (s : Step) (bytes : List ℕ) (place : Entry) (t : Tree) → Held bytes place t
     → Pairwise (Held bytes) (child_places (step_selector s) bytes place)
     (option_to_list (child_at s t))
 step_places s bytes place t held =
@@ -571,7 +571,7 @@ step_places s bytes place t held =
     (step_held bytes place held.0 (step_selector s) (step_unfiltered s) t held.1)
 
 -- What is at the places of the items at indexes.
-one_held : (bytes : List ℕ) (places : List PlacedEntry) (o : Option Tree)
+one_held : (bytes : List ℕ) (places : List Entry) (o : Option Tree)
     → Pairwise (Held bytes) places (option_to_list o)
     → Pairwise (Held bytes) (option_to_list (first_place places)) (option_to_list o)
 one_held bytes [] None h = refl
@@ -579,7 +579,7 @@ one_held bytes [] (Some u) h = absurd cc
 one_held bytes (p ∷ places) None h = absurd h
 one_held bytes (p ∷ places) (Some u) h = (h.0, refl)
 
-listed_held : (indexes : List Bound) (bytes : List ℕ) (place : PlacedEntry) (t : Tree)
+listed_held : (indexes : List Bound) (bytes : List ℕ) (place : Entry) (t : Tree)
     → Held bytes place t
     → Pairwise (Held bytes) (listed_places bytes place indexes) (trees_at indexes t)
 listed_held [] bytes place t held = refl
@@ -592,11 +592,11 @@ listed_held (index ∷ indexes) bytes place t held =
     (listed_held indexes bytes place t held)
 
 -- The first index that is left was passed, and there is an item or none.
-module _ (bytes : List ℕ) (place : PlacedEntry) (indexes : List Bound) (n : ℕ) (index : Bound)
-    (step : Step) (whole : List PlacedEntry) (low : n < length indexes)
+module _ (bytes : List ℕ) (place : Entry) (indexes : List Bound) (n : ℕ) (index : Bound)
+    (step : Step) (whole : List Entry) (low : n < length indexes)
     (is : index ≡ slice_index_or indexes n index) (to : step ≡ step_at index)
     (left : listed_places bytes place (drop n indexes) ≡ whole) where
-  abbrev places_after : List PlacedEntry
+  abbrev places_after : List Entry
   places_after = listed_places bytes place (drop (n + 1) indexes)
 
   one_passed : whole ≡ option_to_list (step_place step bytes place) ++ places_after
@@ -604,15 +604,15 @@ module _ (bytes : List ℕ) (place : PlacedEntry) (indexes : List Bound) (n : �
       sym left ∙ ap (listed_places bytes place) (index_there indexes n index low is)
       ∙ ap (λ s. option_to_list (step_place s bytes place) ++ places_after) (sym to)
 
-  pub item_next : (item : PlacedEntry) → Some item ≡ step_place step bytes place
+  pub item_next : (item : Entry) → Some item ≡ step_place step bytes place
       → whole ≡ item ∷ places_after
   item_next item found = one_passed ∙ ap (λ o. option_to_list o ++ places_after) (sym found)
 
   pub item_missing : None ≡ step_place step bytes place → places_after ≡ whole
   item_missing none = sym (one_passed ∙ ap (λ o. option_to_list o ++ places_after) (sym none))
 
-pub none_listed : (bytes : List ℕ) (place : PlacedEntry) (indexes : List Bound) (n : ℕ)
-    (whole : List PlacedEntry) → length indexes ≤ n
+pub none_listed : (bytes : List ℕ) (place : Entry) (indexes : List Bound) (n : ℕ)
+    (whole : List Entry) → length indexes ≤ n
     → listed_places bytes place (drop n indexes) ≡ whole
     → (whole ≡ []) × (listed_places bytes place (drop n indexes) ≡ [])
 none_listed bytes place indexes n whole past left =
@@ -621,7 +621,7 @@ none_listed bytes place indexes n whole past left =
     (sym left ∙ none, none)
 
 -- What is at the places to which a selector leads.
-selector_held : (s : Selector) (bytes : List ℕ) (place : PlacedEntry) (t : Tree)
+selector_held : (s : Selector) (bytes : List ℕ) (place : Entry) (t : Tree)
     → Held bytes place t
     → Pairwise (Held bytes) (places_at s bytes place) (children_at s t)
 selector_held (selectors.Filter condition) bytes place t held =
@@ -631,7 +631,7 @@ selector_held (selectors.Indexes indexes) bytes place t held =
 selector_held s bytes place t held = step_held bytes place held.0 s tt t held.1
 
 -- What is at the places to which a path with wildcards leads.
-pub selected_held : (path : List Selector) (bytes : List ℕ) (place : PlacedEntry) (t : Tree)
+pub selected_held : (path : List Selector) (bytes : List ℕ) (place : Entry) (t : Tree)
     → Held bytes place t
     → Pairwise (Held bytes) (selected_from path bytes place) (selected path t)
 selected_held [] bytes place t held = (held, refl)
@@ -641,27 +641,27 @@ selected_held (s ∷ path) bytes place t held =
     (places_at s bytes place) (children_at s t) (selector_held s bytes place t held)
 
 -- Each of the places to which a selector leads holds a tree.
-parts_held : (bytes : List ℕ) (places : List PlacedEntry) (ts : List Tree)
+parts_held : (bytes : List ℕ) (places : List Entry) (ts : List Tree)
     → Pairwise (Held bytes) places ts → AreAllParts bytes places
 parts_held bytes [] ts held = tt
 parts_held bytes (place ∷ places) [] held = absurd held
 parts_held bytes (place ∷ places) (t ∷ ts) held =
     ((t, held.0.0, held.0.1), parts_held bytes places ts held.1)
 
-parts_at : (s : Selector) (bytes : List ℕ) (place : PlacedEntry) → IsPart bytes place
+parts_at : (s : Selector) (bytes : List ℕ) (place : Entry) → IsPart bytes place
     → AreAllParts bytes (places_at s bytes place)
 parts_at s bytes place part =
     parts_held bytes (places_at s bytes place) (children_at s part.0)
     (selector_held s bytes place part.0 (part.1, part.2))
 
-pub walk_parts : (s : Selector) (bytes : List ℕ) (place : PlacedEntry) (walk : PlaceWalk)
+pub walk_parts : (s : Selector) (bytes : List ℕ) (place : Entry) (walk : PlaceWalk)
     → IsPart bytes place → walk_places (indexes_of s) bytes place walk ≡ places_at s bytes place
     → AreAllParts bytes (walk_places (indexes_of s) bytes place walk)
 walk_parts s bytes place walk part e =
     subst (AreAllParts bytes) (sym e) (parts_at s bytes place part)
 
 -- The places to which the first step of a path leads are those from which the others go on.
-pub places_first : (path : List Selector) (s : Selector) (bytes : List ℕ) (place : PlacedEntry)
+pub places_first : (path : List Selector) (s : Selector) (bytes : List ℕ) (place : Entry)
     (walk : PlaceWalk) (found : List KohibladPlace) → 1 ≤ length path → get_or path 0 s ≡ s
     → walk_places (indexes_of s) bytes place walk ≡ places_at s bytes place
     → found ++ map found_answer
@@ -682,19 +682,19 @@ places_first (x ∷ rest) s bytes place walk found some first e =
     all
 
 -- A filter that keeps what is at a place leads on from there.
-kept_place : (f : PlacedEntry → List PlacedEntry) (place : PlacedEntry) (b : Bool) → b ≡ true
+kept_place : (f : Entry → List Entry) (place : Entry) (b : Bool) → b ≡ true
     → flat_map f (if b then place ∷ [] else []) ≡ f place
 kept_place f place b is =
     ap (λ (k : Bool). flat_map f (if k then place ∷ [] else [])) is ∙ append-nil (f place)
 
-kept_first : (s : Selector) (f : PlacedEntry → List PlacedEntry) (bytes : List ℕ)
-    (place : PlacedEntry)
+kept_first : (s : Selector) (f : Entry → List Entry) (bytes : List ℕ)
+    (place : Entry)
     → filter_keeps s bytes place ≡ true → flat_map f (places_at s bytes place) ≡ f place
 kept_first (selectors.Filter condition) f bytes place is =
     kept_place f place (holds condition (entry_tree (entry_there bytes place))) is
 kept_first s f bytes place is = let never : false ≡ true = is in absurd (cc)
 
-pub kept_on : (path : List Selector) (s : Selector) (bytes : List ℕ) (place : PlacedEntry)
+pub kept_on : (path : List Selector) (s : Selector) (bytes : List ℕ) (place : Entry)
     → 1 ≤ length path → get_or path 0 s ≡ s → filter_keeps s bytes place ≡ true
     → selected_from path bytes place
     ≡ selected_from (take (length path - 1) (drop 1 path)) bytes place
@@ -707,9 +707,9 @@ kept_on (x ∷ rest) s bytes place some first is =
     ∙ ap (λ later. selected_from later bytes place) (sym all)
 
 -- What is at the place to which a path leads.
-first_held : (bytes : List ℕ) (places : List PlacedEntry) (o : Option Tree)
-    (f : PlacedEntry → Option PlacedEntry) (g : Tree → Option Tree)
-    → ((p : PlacedEntry) (u : Tree) → Held bytes p u → HoldsFound bytes (f p) (g u))
+first_held : (bytes : List ℕ) (places : List Entry) (o : Option Tree)
+    (f : Entry → Option Entry) (g : Tree → Option Tree)
+    → ((p : Entry) (u : Tree) → Held bytes p u → HoldsFound bytes (f p) (g u))
     → Pairwise (Held bytes) places (option_to_list o)
     → HoldsFound bytes (at_place (first_place places) f) (if_there o g)
 first_held bytes [] None f g each h = tt
@@ -717,7 +717,7 @@ first_held bytes [] (Some u) f g each h = absurd cc
 first_held bytes (p ∷ places) None f g each h = absurd h
 first_held bytes (p ∷ places) (Some u) f g each h = each p u h.0
 
-pub end_held : (path : List Step) (bytes : List ℕ) (place : PlacedEntry) (t : Tree)
+pub end_held : (path : List Step) (bytes : List ℕ) (place : Entry) (t : Tree)
     → Held bytes place t → HoldsFound bytes (place_from path bytes place) (found_at path t)
 end_held [] bytes place t held = held.1
 end_held (s ∷ path) bytes place t held =
@@ -728,7 +728,7 @@ end_held (s ∷ path) bytes place t held =
 
 -- The place of a whole document.
 abbrev IsWhole : List ℕ → Tree → Type 0
-IsWhole bytes t = (place : PlacedEntry) × ((whole_place bytes ≡ Ok place) × Held bytes place t)
+IsWhole bytes t = (place : Entry) × ((whole_place bytes ≡ Ok place) × Held bytes place t)
 
 whole_container : (bytes : List ℕ) (t : Tree) (tag n : ℕ) → header_at bytes 0 ≡ Ok (tag, n)
     → whole_under bytes (Ok (tag, n))
@@ -744,7 +744,7 @@ whole_container bytes t tag n header is type means = (
 
 whole_scalar : (bytes : List ℕ) (t : Tree) → Scalar t bytes → IsWhole bytes t
 whole_scalar bytes t h =
-    let c : Entry = record { type = type_of t; payload = h.payload } in
+    let c : Code = record { type = type_of t; payload = h.payload } in
     let at = At-entry bytes t h in
     let entries = subst (At bytes 4) (sym (append-nil _))
     (At-left bytes 4 (word (type_of t + length h.payload)) h.payload at) in
@@ -787,7 +787,7 @@ place_holds bytes t path doc =
     rw is (end_held path bytes place t held)
 
 -- The whole of a document is at its place.
-pub whole_part : (bytes : List ℕ) (place : PlacedEntry) → IsDocument bytes
+pub whole_part : (bytes : List ℕ) (place : Entry) → IsDocument bytes
     → whole_place bytes ≡ Ok place → IsPart bytes place
 whole_part bytes place (t, doc) found =
     let (whole, (is, held)) = whole_held bytes t doc in

@@ -16,7 +16,7 @@ use Rattle.jsonb.specs.Building.{key_codes}
 use Rattle.jsonb.proofs.LeafLaws.{code_entries, code_payloads, object_of-parts}
 use Rattle.jsonb.specs.Entries.{Run, entries_in, entry_count, entry_there, left_after, payloads_end}
 use Rattle.jsonb.specs.Entries.{placed_at, placed_from, run_in}
-use Rattle.jsonb.specs.Item.{Entry}
+use Rattle.jsonb.specs.Item.{Code}
 use Rattle.jsonb.specs.Parts.{length_in}
 use Rattle.jsonb.specs.StoredEntries.{IsArrayOfEntries, IsObjectOfEntries}
 use Rattle.jsonb.specs.Steps.{◌>>=◌}
@@ -30,17 +30,17 @@ use Rattle.jsonb.proofs.StoredEntryLaws.{AreEntries-pairs, IsArrayOfEntries-Payl
 use Rattle.jsonb.proofs.StoredEntryLaws.{IsObjectOfEntries-Payload}
 use Rattle.jsonb.proofs.StoredEntryLaws.{first_entry, items_at, length-key_codes, members_at}
 use Rattle.jsonb.proofs.StorageLaws.{length-code_entries}
-use Rattle.jsonb.specs.declared.entries.Entry.{Entry as PlacedEntry}
+use Rattle.jsonb.specs.declared.entries.Entry.{Entry}
 use Rattle.kohiblad.specs.Children.{some_entry}
 use Rattle.kohiblad.specs.Places.{all_entries, item_part, member_places, member_there}
 use Rattle.kohiblad.specs.Places.{member_under, part_in, place_of_item}
 use Rattle.kohiblad.specs.Places.{IsItemPlace, IsPartPlace, AreMemberPlaces}
 
 -- The entries under a header.
-abbrev parts_under : List ℕ → ℕ × ℕ → List (Result PlacedEntry Error)
+abbrev parts_under : List ℕ → ℕ × ℕ → List (Result Entry Error)
 parts_under bytes header = placed_from bytes (entry_count header) 4 (4 + 4 * entry_count header)
 
-one_part : (r : Result PlacedEntry Error) → option_transpose (Some r) ≡ some_entry r
+one_part : (r : Result Entry Error) → option_transpose (Some r) ≡ some_entry r
 one_part (Ok entry) = refl
 one_part (Err e) = refl
 
@@ -83,7 +83,7 @@ module _ (bytes : List ℕ) (header : ℕ × ℕ) (is : header_at bytes 0 ≡ Ok
 
 -- The part to which a cursor over all entries comes.
 module _ (bytes : List ℕ) (number : ℕ) (run : Run) (is : run_in bytes ≡ Ok run) where
-  entries_by : (r : Result (List (Result PlacedEntry Error)) Error)
+  entries_by : (r : Result (List (Result Entry Error)) Error)
       → r >>= (λ entries. Ok (record { bytes = bytes; entries = entries })) ≡ Ok run
       → r ≡ Ok run.entries
   entries_by (Ok entries) is = cc
@@ -94,7 +94,7 @@ module _ (bytes : List ℕ) (number : ℕ) (run : Run) (is : run_in bytes ≡ Ok
       sym (ap (λ r. r >>= (λ parts. option_transpose (slice_get parts number)))
       (entries_by (entries_in bytes) is))
 
-  pub part_after : (left : List (Result PlacedEntry Error))
+  pub part_after : (left : List (Result Entry Error))
       → left_after number run.entries ≡ Ok left
       → option_transpose (slice_get left 0) ≡ part_in bytes number
   part_after left after =
@@ -122,13 +122,13 @@ module _ (bytes : List ℕ) (number : ℕ) (run : Run) (is : run_in bytes ≡ Ok
       ∙ number_listed
 
 -- The place of an entry that is stored in the bytes, and where it was found.
-pub record IsPlaced (bytes : List ℕ) (Found : PlacedEntry → Type 0) (c : Entry) : Type 0 where
-  pub place : PlacedEntry
+pub record IsPlaced (bytes : List ℕ) (Found : Entry → Type 0) (c : Code) : Type 0 where
+  pub place : Entry
   pub found : Found place
   pub there : entry_there bytes place ≡ c
   pub inside : place.start + place.length ≤ length bytes
 
-pub place_stored : (bytes : List ℕ) (i j : ℕ) (c : Entry) (cs : List Entry) → AreEntries (c ∷ cs)
+pub place_stored : (bytes : List ℕ) (i j : ℕ) (c : Code) (cs : List Code) → AreEntries (c ∷ cs)
     → At bytes i (code_entries (c ∷ cs)) → At bytes j (code_payloads (c ∷ cs))
     → IsPlaced bytes (λ place. placed_at bytes i j ≡ Ok place) c
 place_stored bytes i j c cs is a b =
@@ -145,7 +145,7 @@ place_stored bytes i j c cs is a b =
     }
 
 -- The entry with a number among those that are stored.
-nth_stored : (bytes : List ℕ) (n k i j : ℕ) (cs : List Entry) (c : Entry) → n ≡ length cs
+nth_stored : (bytes : List ℕ) (n k i j : ℕ) (cs : List Code) (c : Code) → n ≡ length cs
     → AreEntries cs → At bytes i (code_entries cs) → At bytes j (code_payloads cs)
     → slice_get cs k ≡ Some c
     → IsPlaced bytes (λ place. slice_get (placed_from bytes n i j) k ≡ Some (Ok place)) c
@@ -157,7 +157,7 @@ nth_stored bytes (suc n) zero i j (x ∷ cs) c count is a b there =
     let first = place_stored bytes i j x cs is a b in
     record {
       place = first.place;
-      found = ap (λ (r : Result PlacedEntry Error). Some r) first.found;
+      found = ap (λ (r : Result Entry Error). Some r) first.found;
       there = first.there ∙ same;
       inside = first.inside;
     }
@@ -170,7 +170,7 @@ nth_stored bytes (suc n) (suc k) i j (x ∷ cs) c count is a b there =
     f.other_payloads there)
 
 -- The parts of the bytes are these entries.
-pub record HoldEntries (b : List ℕ) (cs : List Entry) : Type 0 where
+pub record HoldEntries (b : List ℕ) (cs : List Code) : Type 0 where
   header : ℕ × ℕ
   is : header_at b 0 ≡ Ok header
   count : entry_count header ≡ length cs
@@ -179,11 +179,11 @@ pub record HoldEntries (b : List ℕ) (cs : List Entry) : Type 0 where
   payloads_at : At b (4 + 4 * length cs) (code_payloads cs)
 
 -- The part with a number.
-abbrev pub IsPartAt : List ℕ → ℕ → Entry → Type 0
+abbrev pub IsPartAt : List ℕ → ℕ → Code → Type 0
 IsPartAt b k = IsPlaced b (λ place. part_in b k ≡ Ok (Some place))
 
-module _ (b : List ℕ) (cs : List Entry) (h : HoldEntries b cs) where
-  pub part_at : (k : ℕ) (c : Entry) → slice_get cs k ≡ Some c → IsPartAt b k c
+module _ (b : List ℕ) (cs : List Code) (h : HoldEntries b cs) where
+  pub part_at : (k : ℕ) (c : Code) → slice_get cs k ≡ Some c → IsPartAt b k c
   part_at k c there =
       let count = h.count in
       let at = nth_stored b (entry_count h.header) k 4 (4 + 4 * entry_count h.header) cs c count
@@ -197,19 +197,19 @@ module _ (b : List ℕ) (cs : List Entry) (h : HoldEntries b cs) where
       }
 
   part_by : (k : ℕ)
-      → ((c : Entry) × (k < length cs) × (slice_get cs k ≡ Some c) × (slice_index_or cs k c ≡ c))
+      → ((c : Code) × (k < length cs) × (slice_get cs k ≡ Some c) × (slice_index_or cs k c ≡ c))
       ⊎ ((length cs ≤ k) × (slice_get cs k ≡ None))
-      → (o : Option PlacedEntry) × ((part_in b k ≡ Ok o)
+      → (o : Option Entry) × ((part_in b k ≡ Ok o)
       × (option_map (entry_there b) o ≡ slice_get cs k))
   part_by k (inl (c, among, there, here)) =
       let at = part_at k c there in
-      (Some at.place, (at.found, ap (λ (e : Entry). Some e) at.there ∙ sym there))
+      (Some at.place, (at.found, ap (λ (e : Code). Some e) at.there ∙ sym there))
   part_by k (inr (past, none)) =
       let count = h.count in
       (None, (part_past b h.header h.is k (omega (arith, count)), sym none))
 
 -- An array's items.
-pub hold_items : (b : List ℕ) (ts : Trees) (cs : List Entry) → IsArrayOfEntries b ts cs
+pub hold_items : (b : List ℕ) (ts : Trees) (cs : List Code) → IsArrayOfEntries b ts cs
     → HoldEntries b cs
 hold_items b ts cs h =
     let at = items_at b cs h.few h.written in
@@ -241,11 +241,11 @@ place_of_item_stored b (array ts) index (inl (other, h)) = absurd (other refl)
 place_of_item_stored b t index (inl (other, h)) =
     ap (λ (r : Result (ℕ × ℕ) Error). r >>= item_part b index) (header_at-Scalar b t h)
 
-AreEntries-append : (cs ds : List Entry) → AreEntries cs → AreEntries ds → AreEntries (cs ++ ds)
+AreEntries-append : (cs ds : List Code) → AreEntries cs → AreEntries ds → AreEntries (cs ++ ds)
 AreEntries-append [] ds is are = are
 AreEntries-append (c ∷ cs) ds is are = (is.0, AreEntries-append cs ds is.1 are)
 
-code_entries-append : (cs ds : List Entry)
+code_entries-append : (cs ds : List Code)
     → code_entries (cs ++ ds) ≡ code_entries cs ++ code_entries ds
 code_entries-append [] ds = refl
 code_entries-append (c ∷ cs) ds =
@@ -253,17 +253,17 @@ code_entries-append (c ∷ cs) ds =
     ap (λ (x : List ℕ). word (c.type + length c.payload) ++ x) (code_entries-append cs ds)
     ∙ sym (append_assoc e (code_entries cs) (code_entries ds))
 
-code_payloads-append : (cs ds : List Entry)
+code_payloads-append : (cs ds : List Code)
     → code_payloads (cs ++ ds) ≡ code_payloads cs ++ code_payloads ds
 code_payloads-append [] ds = refl
 code_payloads-append (c ∷ cs) ds =
     ap (λ (x : List ℕ). c.payload ++ x) (code_payloads-append cs ds)
     ∙ sym (append_assoc c.payload (code_payloads cs) (code_payloads ds))
 
-length-all_keys : (ms : List (List ℕ × Entry)) → length (key_codes (keys_of ms)) ≡ length ms
+length-all_keys : (ms : List (List ℕ × Code)) → length (key_codes (keys_of ms)) ≡ length ms
 length-all_keys ms = length-key_codes (keys_of ms) ∙ length-keys_of ms
 
-key_at_index : (ms : List (List ℕ × Entry)) (ds : List Entry) (i : ℕ) (m : List ℕ × Entry)
+key_at_index : (ms : List (List ℕ × Code)) (ds : List Code) (i : ℕ) (m : List ℕ × Code)
     → slice_get ms i ≡ Some m
     → slice_get (key_codes (keys_of ms) ++ ds) i ≡ Some record { type = 268435456; payload = m.0 }
 key_at_index [] ds zero m there = absurd cc
@@ -271,20 +271,20 @@ key_at_index [] ds (suc i) m there = absurd cc
 key_at_index (x ∷ ms) ds zero m there = cc
 key_at_index (x ∷ ms) ds (suc i) m there = key_at_index ms ds i m there
 
-value_at_index : (ms : List (List ℕ × Entry)) (i : ℕ) (m : List ℕ × Entry) → slice_get ms i ≡ Some m
+value_at_index : (ms : List (List ℕ × Code)) (i : ℕ) (m : List ℕ × Code) → slice_get ms i ≡ Some m
     → slice_get (values_of ms) i ≡ Some m.1
 value_at_index [] zero m there = absurd cc
 value_at_index [] (suc i) m there = absurd cc
 value_at_index (x ∷ ms) zero m there = cc
 value_at_index (x ∷ ms) (suc i) m there = value_at_index ms i m there
 
-after_keys : (cs ds : List Entry) (k i : ℕ) (c : Entry) → k ≡ length cs + i
+after_keys : (cs ds : List Code) (k i : ℕ) (c : Code) → k ≡ length cs + i
     → slice_get ds i ≡ Some c → slice_get (cs ++ ds) k ≡ Some c
 after_keys [] ds k i c e there = let same : k ≡ i = omega arith in ap (slice_get ds) same ∙ there
 after_keys (x ∷ cs) ds zero i c e there = absurd (omega arith)
 after_keys (x ∷ cs) ds (suc k) i c e there = after_keys cs ds k i c (omega arith) there
 
-hold_members : (b : List ℕ) (ps : Pairs) (ms : List (List ℕ × Entry)) → IsObjectOfEntries b ps ms
+hold_members : (b : List ℕ) (ps : Pairs) (ms : List (List ℕ × Code)) → IsObjectOfEntries b ps ms
     → HoldEntries b (all_entries ms)
 hold_members b ps ms h =
     let ks = key_codes (keys_of ms) in
@@ -311,14 +311,14 @@ hold_members b ps ms h =
           (code_payloads (all_entries ms)) (omega (arith, long)) both;
     }
 
-module _ (b : List ℕ) (ps : Pairs) (ms : List (List ℕ × Entry)) (h : IsObjectOfEntries b ps ms)
+module _ (b : List ℕ) (ps : Pairs) (ms : List (List ℕ × Code)) (h : IsObjectOfEntries b ps ms)
     (index : ℕ) where
-  pub member_key_at : (m : List ℕ × Entry) → slice_get ms index ≡ Some m
+  pub member_key_at : (m : List ℕ × Code) → slice_get ms index ≡ Some m
       → IsPartAt b index (record { type = 268435456; payload = m.0 })
   member_key_at m there = part_at b (all_entries ms) (hold_members b ps ms h) index _
       (key_at_index ms (values_of ms) index m there)
 
-  pub value_stored : (c : Entry) → slice_get (values_of ms) index ≡ Some c
+  pub value_stored : (c : Code) → slice_get (values_of ms) index ≡ Some c
       → IsPartAt b (length ms + index) c
   value_stored c there =
       let number_of : length ms + index ≡ length (key_codes (keys_of ms)) + index =
@@ -327,14 +327,14 @@ module _ (b : List ℕ) (ps : Pairs) (ms : List (List ℕ × Entry)) (h : IsObje
       (after_keys (key_codes (keys_of ms)) (values_of ms) (length ms + index) index c number_of
       there)
 
-  pub member_value_at : (m : List ℕ × Entry) → slice_get ms index ≡ Some m
+  pub member_value_at : (m : List ℕ × Code) → slice_get ms index ≡ Some m
       → IsPartAt b (length ms + index) m.1
   member_value_at m there = value_stored m.1 (value_at_index ms index m there)
 
   member_at :
-      ((m : List ℕ × Entry) × (index < length ms) × (slice_get ms index ≡ Some m)
+      ((m : List ℕ × Code) × (index < length ms) × (slice_get ms index ≡ Some m)
       × (slice_index_or ms index m ≡ m)) ⊎ ((length ms ≤ index) × (slice_get ms index ≡ None))
-      → (o : Option (PlacedEntry × PlacedEntry))
+      → (o : Option (Entry × Entry))
       × ((member_under b index (1073741824, length ms) ≡ Ok o)
       × (option_map (member_there b) o ≡ slice_get ms index))
   member_at (inl (m, inside, there, here)) =
@@ -346,7 +346,7 @@ module _ (b : List ℕ) (ps : Pairs) (ms : List (List ℕ × Entry)) (h : IsObje
         Some (key.place, value.place),
         (
           rw (test, key_found, value_found) refl,
-          ap₂ (λ (k v : Entry). Some (k.payload, v)) key.there value.there ∙ sym there,
+          ap₂ (λ (k v : Code). Some (k.payload, v)) key.there value.there ∙ sym there,
         ),
       )
   member_at (inr (past, absent)) =

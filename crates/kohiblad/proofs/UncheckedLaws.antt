@@ -10,12 +10,12 @@ use Rattle.jsonb_value.specs.declared.error.Error.{Error}
 use Rattle.jsonb_codec.specs.Doc.{Doc}
 use Rattle.jsonb_codec.specs.Parts.{IsPayloadOf}
 use Rattle.jsonb.specs.Entries.{entry_there}
-use Rattle.jsonb.specs.Item.{Entry}
+use Rattle.jsonb.specs.Item.{Code}
 use Rattle.jsonb.specs.Lookup.{find_pair}
 use Rattle.jsonb.specs.Node.{IsContainer, node_tree, value_of_key}
 use Rattle.jsonb.specs.StoredEntries.{AreMemberEntriesOf, find_entry}
 use Rattle.jsonb.specs.declared.node.Node.{Node}
-use Rattle.jsonb.specs.declared.entries.Entry.{Entry as PlacedEntry}
+use Rattle.jsonb.specs.declared.entries.Entry.{Entry}
 use Rattle.jsonb.proofs.KindLaws.{container_cases}
 use Rattle.jsonb_functions.specs.Found.{found_at, if_there}
 use Rattle.jsonb_functions.specs.declared.path.Step.{Step}
@@ -41,28 +41,28 @@ no_document b t document empty =
 -- The whole of a document has a place.
 pub whole_there : (b : List ℕ) (t : Tree) (e : Error) → Doc b t → Err e ≡ whole_place b → ⊥
 whole_there b t e document failed =
-    subst (λ (r : Result PlacedEntry Error). HoldsFound b (path_place_in [] b r) (Some t))
+    subst (λ (r : Result Entry Error). HoldsFound b (path_place_in [] b r) (Some t))
     (sym failed) (place_holds b t [] document)
 
 -- The place of a key's value holds the value.
 module _ (b name : List ℕ) where
-  chosen : (first : Bool) (c : Entry) (t : Tree) (others : Option Entry) (left : Option Tree)
+  chosen : (first : Bool) (c : Code) (t : Tree) (others : Option Code) (left : Option Tree)
       → IsPayloadOf c.type c.payload t
-      → ((o : Option PlacedEntry) → option_map (entry_there b) o ≡ others → HoldsFound b o left)
-      → (o : Option PlacedEntry)
+      → ((o : Option Entry) → option_map (entry_there b) o ≡ others → HoldsFound b o left)
+      → (o : Option Entry)
       → option_map (entry_there b) o ≡ (if first then Some c else others)
       → HoldsFound b o (if first then Some t else left)
   chosen true c t others left means later None is = absurd cc
   chosen true c t others left means later (Some place) is =
       let same : entry_there b place ≡ c = cc in
-      subst (λ (e : Entry). IsPayloadOf e.type e.payload t) (sym same) means
+      subst (λ (e : Code). IsPayloadOf e.type e.payload t) (sym same) means
   chosen false c t others left means later o is = later o is
 
   accepts : List ℕ → Bool
   accepts key = (length key == length name) && is_name name key
 
-  held_among : (ms : List (List ℕ × Entry)) (ps : Pairs)
-      → AreMemberEntriesOf (keys_of ms) (values_of ms) ps → (o : Option PlacedEntry)
+  held_among : (ms : List (List ℕ × Code)) (ps : Pairs)
+      → AreMemberEntriesOf (keys_of ms) (values_of ms) ps → (o : Option Entry)
       → option_map (entry_there b) o ≡ find_entry (is_name name) (length name) ms
       → HoldsFound b o (find_pair (is_name name) (length name) ps)
   held_among [] no_pairs mean None is = tt
@@ -79,7 +79,7 @@ module _ (b name : List ℕ) where
       (find_entry (is_name name) (length name) ms) (find_pair (is_name name) (length name) ps)
       mean.1.0 (λ o is. held_among ms ps mean.1.1 o is) o is)
 
-  pub key_held : (t : Tree) (found : Result (Option PlacedEntry) Error)
+  pub key_held : (t : Tree) (found : Result (Option Entry) Error)
       → IsValuePlace b t name found → IsOkAnd found (λ o. HoldsFound b o (value_of_key name t))
   key_held (object ps) found (ms, (stored, (o, (is, there)))) =
       rw is (held_among ms ps stored.mean o there)
@@ -96,7 +96,7 @@ one_step (first ∷ []) other s some few is = let same : first ≡ s = is in rw 
 one_step (first ∷ (second ∷ path)) other s some few is = absurd (omega (arith, few))
 
 pub one_key_held : (b : List ℕ) (t : Tree) (key : Bor (List ℕ))
-    (found : Result (Option PlacedEntry) Error) → IsValuePlace b t key.now found
+    (found : Result (Option Entry) Error) → IsValuePlace b t key.now found
     → IsOkAnd found (λ o. HoldsFound b o (found_at (Key key ∷ []) t))
 one_key_held b (array ts) key found is = rw is tt
 one_key_held b t key found is =

@@ -12,7 +12,7 @@ use Rattle.jsonb_codec.specs.JEntry.{jentry_at}
 use Rattle.jsonb_codec.specs.WordBytes.{header_at}
 use Rattle.jsonb.specs.Entries.{entry_count, payloads_end, placed_at, placed_by}
 use Rattle.jsonb.specs.Steps.{◌>>=◌}
-use Rattle.jsonb.specs.declared.entries.Entry.{Entry as PlacedEntry}
+use Rattle.jsonb.specs.declared.entries.Entry.{Entry}
 use Rattle.kohiblad.specs.declared.children.Child.{Child}
 use Rattle.kohiblad.specs.declared.children.KohibladCursor.{KohibladCursor}
 use Rattle.kohiblad.specs.declared.children.ChildLayout.{ChildLayout}
@@ -49,7 +49,7 @@ module _ (bytes : List ℕ) (v : ℕ) (e : JEntry) where
       (λ x more. end_step n (i + 4) (s + x.length) j (omega arith) more there) here
 
 -- The payload of an entry that was read ends where the next one begins.
-module _ (bytes : List ℕ) (v : ℕ) (entry : PlacedEntry) where
+module _ (bytes : List ℕ) (v : ℕ) (entry : Entry) where
   abbrev EndsBy : Result JEntry Error → Type 0
   EndsBy r = (e : JEntry) × ((r ≡ Ok e) × (v + e.length ≡ end_of entry))
 
@@ -70,16 +70,16 @@ entries_laid : (header : ℕ × ℕ) (layout : ChildLayout) → layout_under hea
 entries_laid (tag, n) layout laid = grind arith
 
 -- The key of a child, if it has one, and its value.
-key_same : (keyed : Bool) (r q value : Result (Option PlacedEntry) Error)
+key_same : (keyed : Bool) (r q value : Result (Option Entry) Error)
     → (keyed ≡ true → r ≡ q) → child_of keyed r value ≡ child_of keyed q value
 key_same true r q value same = ap (λ k. child_of true k value) (same refl)
 key_same false r q value same = refl
 
-abbrev IsKey : Bool → Result PlacedEntry Error → Option PlacedEntry → Type 0
-IsKey true r o = (key : PlacedEntry) × ((r ≡ Ok key) × (o ≡ Some key))
+abbrev IsKey : Bool → Result Entry Error → Option Entry → Type 0
+IsKey true r o = (key : Entry) × ((r ≡ Ok key) × (o ≡ Some key))
 IsKey false r o = o ≡ None
 
-child_found_by : (keyed : Bool) (r q : Result PlacedEntry Error) (child : Child)
+child_found_by : (keyed : Bool) (r q : Result Entry Error) (child : Child)
     → child_of keyed (some_entry r) (some_entry q) ≡ Ok (Some child)
     → IsKey keyed r child.key × (q ≡ Ok child.value)
 child_found_by true (Ok key) (Ok value) child is =
@@ -91,13 +91,13 @@ child_found_by false r (Ok value) child is =
 child_found_by keyed r q child is = absurd cc
 
 -- No child is found where a part of it cannot be.
-no_value : (keyed : Bool) (key value : Result (Option PlacedEntry) Error) (e : Error)
+no_value : (keyed : Bool) (key value : Result (Option Entry) Error) (e : Error)
     → value ≡ Err e → None ≡ found_child (child_of keyed key value)
 no_value true (Ok key) value e is = sym (ap (λ v. found_child (child_of true (Ok key) v)) is)
 no_value true (Err d) value e is = refl
 no_value false key value e is = sym (ap (λ v. found_child (child_of false key v)) is)
 
-no_key : (keyed : Bool) (start : Result ℕ Error) (key value : Result (Option PlacedEntry) Error)
+no_key : (keyed : Bool) (start : Result ℕ Error) (key value : Result (Option Entry) Error)
     (e : Error) → (if keyed then start else Ok 0) ≡ Err e → (start ≡ Err e → key ≡ Err e)
     → None ≡ found_child (child_of keyed key value)
 no_key true start key value e is cut =
@@ -167,15 +167,15 @@ module _ (bytes : List ℕ) (i : ℕ) (header : ℕ × ℕ) (is : header_at byte
         ∙ ap (child_of layout.keyed (part_in bytes i))
         (sym (part_here (first + i) v (omega (arith, among)) value_is))
 
-    key_next : (keyed : Bool) (key : Option PlacedEntry)
+    key_next : (keyed : Bool) (key : Option Entry)
         → (if keyed then payload_start bytes layout i else Ok 0) ≡ Ok k
         → IsKey keyed (placed_at bytes (4 + 4 * i) k) key
         → (if keyed then payload_start bytes layout (suc i) else Ok 0) ≡ Ok (key_end key k)
     key_next true key starts (entry, (found, is)) =
         next_start bytes k entry i _ starts found
-        ∙ ap (λ (o : Option PlacedEntry). Ok (key_end o k)) (sym is)
+        ∙ ap (λ (o : Option Entry). Ok (key_end o k)) (sym is)
     key_next false key starts is =
-        starts ∙ ap (λ (o : Option PlacedEntry). Ok (key_end o k)) (sym is)
+        starts ∙ ap (λ (o : Option Entry). Ok (key_end o k)) (sym is)
 
     next_if : (child : Child) (past : Bool)
         → (if past then Ok None else child_of layout.keyed (part_at_cursor bytes i k)

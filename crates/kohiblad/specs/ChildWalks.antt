@@ -2,7 +2,7 @@
 use Rattle.std.specs.Prelude.{ℕ, zero, suc, ◌+◌, ◌≤◌, List, [], length, map, Option, None}
 use Rattle.std.specs.Prelude.{Result, Ok, Err}
 use Rattle.jsonb_value.specs.declared.error.Error.{Error}
-use Rattle.jsonb.specs.declared.entries.Entry.{Entry as PlacedEntry}
+use Rattle.jsonb.specs.declared.entries.Entry.{Entry}
 use Rattle.kohiblad.specs.declared.children.Child.{Child}
 use Rattle.kohiblad.specs.declared.children.KohibladCursor.{KohibladCursor}
 use Rattle.kohiblad.specs.declared.path_places.ChildWalk.{ChildWalk}
@@ -11,7 +11,7 @@ use Rattle.kohiblad.specs.PathPlaces.{first_child, value_at}
 use Rattle.jsonb.specs.Entries.{entry_there}
 
 -- The place does not run past the end of the bytes.
-abbrev pub IsPlaceWithin : List ℕ → PlacedEntry → Type 0
+abbrev pub IsPlaceWithin : List ℕ → Entry → Type 0
 IsPlaceWithin bytes place = place.start + place.length ≤ length bytes
 
 -- The child, if one was found.
@@ -30,6 +30,6 @@ abbrev pub children_left : List ℕ → ChildWalk → List Child
 children_left bytes walk = walked_children bytes walk.left walk.cursor
 
 -- The places of the values that are left in a walk over the children at a place.
-abbrev pub places_left : List ℕ → PlacedEntry → ChildWalk → List PlacedEntry
+abbrev pub places_left : List ℕ → Entry → ChildWalk → List Entry
 places_left bytes place walk =
     map (value_at place.start) (children_left (entry_there bytes place).payload walk)

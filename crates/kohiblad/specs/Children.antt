@@ -8,7 +8,7 @@ use Rattle.jsonb_codec.specs.declared.constants.TheConstants.{OBJECT_CONTAINER_T
 use Rattle.jsonb_codec.specs.WordBytes.{header_at}
 use Rattle.jsonb.specs.Entries.{IsEntryIn, payloads_end, placed_at}
 use Rattle.jsonb.specs.Steps.{◌>>=◌}
-use Rattle.jsonb.specs.declared.entries.Entry.{Entry as PlacedEntry}
+use Rattle.jsonb.specs.declared.entries.Entry.{Entry}
 use Rattle.kohiblad.specs.declared.children.Child.{Child}
 use Rattle.kohiblad.specs.declared.children.KohibladCursor.{KohibladCursor}
 use Rattle.kohiblad.specs.declared.children.ChildLayout.{ChildLayout}
@@ -62,12 +62,12 @@ IsBegun (Ok None) before after status = (status ≡ none) × (after ≡ before)
 IsBegun (Err e) before after status = (status ≡ code e) × (after ≡ before)
 
 -- A child with this value, and with this key if there are keys; or the first error.
-abbrev pub child_of : Bool → Result (Option PlacedEntry) Error → Result (Option PlacedEntry) Error
+abbrev pub child_of : Bool → Result (Option Entry) Error → Result (Option Entry) Error
     → Result (Option Child) Error
 child_of keyed first second = do
   key ← (if keyed then first else Ok None)
   value ← second
-  Ok (option_map (λ (entry : PlacedEntry). record { key = key; value = entry }) value)
+  Ok (option_map (λ (entry : Entry). record { key = key; value = entry }) value)
 
 -- The child at an index, by the parts of the bytes. `None` after the last child.
 abbrev pub numbered_among : List ℕ → ℕ → Option ChildLayout → Result (Option Child) Error
@@ -81,12 +81,12 @@ abbrev pub numbered_child : List ℕ → ℕ → Result (Option Child) Error
 numbered_child bytes index = layout_in bytes >>= numbered_among bytes index
 
 -- An entry that was read, or the error.
-abbrev pub some_entry : Result PlacedEntry Error → Result (Option PlacedEntry) Error
+abbrev pub some_entry : Result Entry Error → Result (Option Entry) Error
 some_entry (Ok entry) = Ok (Some entry)
 some_entry (Err e) = Err e
 
 -- The entry of a part whose payload is said to begin at `start`.
-abbrev pub part_at_cursor : List ℕ → ℕ → ℕ → Result (Option PlacedEntry) Error
+abbrev pub part_at_cursor : List ℕ → ℕ → ℕ → Result (Option Entry) Error
 part_at_cursor bytes part start = some_entry (placed_at bytes (4 + 4 * part) start)
 
 -- The child at any cursor: its entry words are found by the index, its payloads by the offsets in
@@ -103,11 +103,11 @@ abbrev pub child_at_cursor : List ℕ → KohibladCursor → Result (Option Chil
 child_at_cursor bytes cursor = layout_in bytes >>= child_among bytes cursor
 
 -- The offset at which the payload of an entry ends.
-abbrev pub end_of : PlacedEntry → ℕ
+abbrev pub end_of : Entry → ℕ
 end_of entry = entry.start + entry.length
 
 -- The offset at which a key ends, or `before` if there is none.
-abbrev pub key_end : Option PlacedEntry → ℕ → ℕ
+abbrev pub key_end : Option Entry → ℕ → ℕ
 key_end (Some key) before = end_of key
 key_end None before = before
 

@@ -5,7 +5,7 @@ use Rattle.jsonb_value.specs.declared.error.Error.TheVariants.{InvalidJsonb, Inv
 use Rattle.jsonb_value.specs.declared.error.Error.TheVariants.{OutOfMemory}
 use Rattle.jsonb_value.specs.Meaning.{Meaning, document, other_bytes}
 use Rattle.jsonb_codec.specs.Depth.{IsDocumentWithin}
-use Rattle.jsonb.specs.declared.entries.Entry.{Entry as PlacedEntry}
+use Rattle.jsonb.specs.declared.entries.Entry.{Entry}
 use Rattle.jsonb_functions.specs.declared.path.Step.{Step}
 use Rattle.jsonb_functions.specs.declared.selection.Selector.{Selector}
 use Rattle.jsonb_functions.specs.PathDocument.{path_tree}
@@ -62,7 +62,7 @@ IsPathPlaceWithin depth bytes path answer =
     ⊎ (IsDocumentWithin depth bytes × IsPathPlace bytes path answer)
 
 -- A place that was found, as C receives it.
-abbrev pub found_answer : PlacedEntry → KohibladPlace
+abbrev pub found_answer : Entry → KohibladPlace
 found_answer place = place_answer (Ok (Some place))
 
 -- The places that the path of a UTF-8 text selects are handed over; a text that is not a path is

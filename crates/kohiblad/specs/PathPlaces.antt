@@ -10,7 +10,7 @@ use Rattle.jsonb_codec.specs.Parts.{IsPayloadOf}
 use Rattle.jsonb_codec.specs.WordBytes.{header_at}
 use Rattle.jsonb.specs.Children.{Pairwise}
 use Rattle.jsonb.specs.EntryTrees.{entry_tree}
-use Rattle.jsonb.specs.declared.entries.Entry.{Entry as PlacedEntry}
+use Rattle.jsonb.specs.declared.entries.Entry.{Entry}
 use Rattle.jsonb_functions.specs.Filter.{holds}
 use Rattle.jsonb_functions.specs.Selected.{items_before, items_through, step_at}
 use Rattle.jsonb_functions.specs.declared.path.Step.{Step}
@@ -37,7 +37,7 @@ children_from bytes index (suc n) =
     first_child (numbered_child bytes index) (children_from bytes (suc index) n)
 
 -- The child has this key.
-abbrev pub child_has_key : List ℕ → List ℕ → Option PlacedEntry → Bool
+abbrev pub child_has_key : List ℕ → List ℕ → Option Entry → Bool
 child_has_key name bytes None = false
 child_has_key name bytes (Some key) = is_name name (entry_there bytes key).payload
 
@@ -89,7 +89,7 @@ abbrev pub chosen_children : Selector → List ℕ → List Child
 chosen_children selector bytes = chosen_under selector bytes (header_at bytes 0)
 
 -- The place of a child's value, in the bytes in which its array or object begins at `start`.
-abbrev pub value_at : ℕ → Child → PlacedEntry
+abbrev pub value_at : ℕ → Child → Entry
 value_at start child = record {
   type_code = child.value.type_code;
   start = start + child.value.start;
@@ -97,7 +97,7 @@ value_at start child = record {
 }
 
 -- The places of the children to which a selector leads from a place; none from a scalar's.
-abbrev pub child_places : Selector → List ℕ → PlacedEntry → List PlacedEntry
+abbrev pub child_places : Selector → List ℕ → Entry → List Entry
 child_places selector bytes place =
     if place.type_code == CONTAINER_TAG
     then map (value_at place.start) (chosen_children selector (entry_there bytes place).payload)
@@ -110,35 +110,35 @@ step_selector (steps.Index i) = selectors.Index i
 step_selector (steps.FromEnd i) = selectors.FromEnd i
 
 -- The first place, if there is one.
-abbrev pub first_place : List PlacedEntry → Option PlacedEntry
+abbrev pub first_place : List Entry → Option Entry
 first_place [] = None
 first_place (place ∷ places) = Some place
 
 -- The place of the child to which a step leads from a place, if there is one.
-abbrev pub step_place : Step → List ℕ → PlacedEntry → Option PlacedEntry
+abbrev pub step_place : Step → List ℕ → Entry → Option Entry
 step_place s bytes place = first_place (child_places (step_selector s) bytes place)
 
 -- The places of the items at indexes, in the order of these.
-abbrev pub listed_places : List ℕ → PlacedEntry → List Bound → List PlacedEntry
+abbrev pub listed_places : List ℕ → Entry → List Bound → List Entry
 listed_places bytes place indexes =
     flat_map (λ index. option_to_list (step_place (step_at index) bytes place)) indexes
 
 -- The places to which a selector leads from a place: those of children, those of the items at
 -- indexes, or that place itself, if the condition of a filter holds on the tree of its entry.
-abbrev pub places_at : Selector → List ℕ → PlacedEntry → List PlacedEntry
+abbrev pub places_at : Selector → List ℕ → Entry → List Entry
 places_at (selectors.Indexes indexes) bytes place = listed_places bytes place indexes.items
 places_at (selectors.Filter condition) bytes place =
     if holds condition (entry_tree (entry_there bytes place)) then place ∷ [] else []
 places_at selector bytes place = child_places selector bytes place
 
 -- The places to which a path leads from a place, in the order in which they are stored.
-abbrev pub selected_from : List Selector → List ℕ → PlacedEntry → List PlacedEntry
+abbrev pub selected_from : List Selector → List ℕ → Entry → List Entry
 selected_from [] bytes place = place ∷ []
 selected_from (selector ∷ path) bytes place =
     flat_map (λ next. selected_from path bytes next) (places_at selector bytes place)
 
 -- The place of a whole array or object, or that of a scalar's payload after its two words.
-abbrev pub whole_under : List ℕ → Result (ℕ × ℕ) Error → Result PlacedEntry Error
+abbrev pub whole_under : List ℕ → Result (ℕ × ℕ) Error → Result Entry Error
 whole_under bytes (Err e) = Err e
 whole_under bytes (Ok header) =
     if header.0 == ARRAY_CONTAINER_TAG
@@ -147,49 +147,49 @@ whole_under bytes (Ok header) =
     then Ok (record { type_code = CONTAINER_TAG; start = 0; length = length bytes })
     else placed_at bytes 4 8
 
-abbrev pub whole_place : List ℕ → Result PlacedEntry Error
+abbrev pub whole_place : List ℕ → Result Entry Error
 whole_place bytes = whole_under bytes (header_at bytes 0)
 
 -- The places to which a path leads from the place of the whole document.
-abbrev pub selected_in : List Selector → List ℕ → Result PlacedEntry Error → List PlacedEntry
+abbrev pub selected_in : List Selector → List ℕ → Result Entry Error → List Entry
 selected_in path bytes (Ok place) = selected_from path bytes place
 selected_in path bytes (Err e) = []
 
 -- The places of the values that a path selects in a document, in the order in which they are
 -- stored.
-abbrev pub selected_places : List Selector → List ℕ → List PlacedEntry
+abbrev pub selected_places : List Selector → List ℕ → List Entry
 selected_places path bytes = selected_in path bytes (whole_place bytes)
 
 -- What a function answers at a place, if there is one.
-abbrev pub at_place : Option PlacedEntry → (PlacedEntry → Option PlacedEntry) → Option PlacedEntry
+abbrev pub at_place : Option Entry → (Entry → Option Entry) → Option Entry
 at_place None f = None
 at_place (Some place) f = f place
 
 -- The place to which a path leads from a place, if it leads to a value.
-abbrev pub place_from : List Step → List ℕ → PlacedEntry → Option PlacedEntry
+abbrev pub place_from : List Step → List ℕ → Entry → Option Entry
 place_from [] bytes place = Some place
 place_from (s ∷ path) bytes place =
     at_place (step_place s bytes place) (λ child. place_from path bytes child)
 
 -- The place to which a path leads from the place of the whole document.
-abbrev pub path_place_in : List Step → List ℕ → Result PlacedEntry Error → Option PlacedEntry
+abbrev pub path_place_in : List Step → List ℕ → Result Entry Error → Option Entry
 path_place_in path bytes (Ok place) = place_from path bytes place
 path_place_in path bytes (Err e) = None
 
 -- The place of the value at the end of a path in a document, if the path leads to one.
-abbrev pub path_place : List Step → List ℕ → Option PlacedEntry
+abbrev pub path_place : List Step → List ℕ → Option Entry
 path_place path bytes = path_place_in path bytes (whole_place bytes)
 
 -- The entry at the place holds the tree.
-abbrev pub HoldsTree : List ℕ → PlacedEntry → Tree → Type 0
+abbrev pub HoldsTree : List ℕ → Entry → Tree → Type 0
 HoldsTree bytes place t = IsPayloadOf place.type_code (entry_there bytes place).payload t
 
 -- The entries at the places hold these trees, one each.
-abbrev pub HoldTrees : List ℕ → List PlacedEntry → List Tree → Type 0
+abbrev pub HoldTrees : List ℕ → List Entry → List Tree → Type 0
 HoldTrees bytes places ts = Pairwise (HoldsTree bytes) places ts
 
 -- The entry at the place holds the tree, and there is a place exactly if there is a tree.
-abbrev pub HoldsFound : List ℕ → Option PlacedEntry → Option Tree → Type 0
+abbrev pub HoldsFound : List ℕ → Option Entry → Option Tree → Type 0
 HoldsFound bytes (Some place) (Some t) = HoldsTree bytes place t
 HoldsFound bytes (Some place) None = ⊥
 HoldsFound bytes None (Some t) = ⊥

@@ -4,7 +4,7 @@ ghost use Rattle.std.specs.Prelude.{◌≡◌, ℕ, List, Ok, Some, IfSome, IfNo
 ghost use Rattle.kohiblad.specs.Words.{code, compact, document_tree, entry_fault, entry_there};
 ghost use Rattle.kohiblad.specs.Words.{node_tree, part_in, pretty};
 ghost use Rattle.kohiblad.specs.Words.{Doc, HasPayload, IsLongWrittenOut, IsPayloadWithin};
-ghost use Rattle.kohiblad.specs.Words.{IsPrintedPart, IsRefused, IsWrittenOut, PlacedEntry, Tree};
+ghost use Rattle.kohiblad.specs.Words.{IsPrintedPart, IsRefused, IsWrittenOut, Entry, Tree};
 
 use crate::answer::{code, refuse};
 use crate::places::is_entry_type;
@@ -36,7 +36,7 @@ pub extern "C" fn kohiblad_print_at(
         → IsRefused (code (entry_fault type_code)) out.old out.new length.new result }
 
     // At the position of a part of a document, the text is that of the part's tree.
-    ensures place { (bytes : List ℕ) (t : Tree) (number : ℕ) (place : PlacedEntry) → Doc bytes t
+    ensures place { (bytes : List ℕ) (t : Tree) (number : ℕ) (place : Entry) → Doc bytes t
         → part_in bytes number ≡ Ok (Some place)
         → entry_there bytes place ≡ record { type = type_code; payload = payload.now }
         → IsPrintedPart depth t number
@@ -70,7 +70,7 @@ pub extern "C" fn kohiblad_pretty_at(
         → IsRefused (code (entry_fault type_code)) out.old out.new length.new result }
 
     // At the position of a part of a document, the text is that of the part's tree.
-    ensures place { (bytes : List ℕ) (t : Tree) (number : ℕ) (place : PlacedEntry) → Doc bytes t
+    ensures place { (bytes : List ℕ) (t : Tree) (number : ℕ) (place : Entry) → Doc bytes t
         → part_in bytes number ≡ Ok (Some place)
         → entry_there bytes place ≡ record { type = type_code; payload = payload.now }
         → IsPrintedPart depth t number

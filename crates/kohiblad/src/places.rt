@@ -2,7 +2,7 @@
 
 ghost use Rattle.std.specs.Prelude.{◌≡◌, ◌≢◌, ◌+◌, ◌<◌, ◌^◌, ℕ, List, length, false, Option};
 ghost use Rattle.std.specs.Prelude.{Some, Result, Ok, Err, IfOk, IsUtf8};
-ghost use Rattle.kohiblad.specs.Words.{Error, PlacedEntry, code, IsAnswered, IsHandedOver};
+ghost use Rattle.kohiblad.specs.Words.{Error, Entry, code, IsAnswered, IsHandedOver};
 ghost use Rattle.kohiblad.specs.Words.{IsRefused, Tree, Doc, IsPayloadOf, IsItemPlace};
 ghost use Rattle.kohiblad.specs.Words.{AreMemberPlaces, IsEntryIn, IsPlaceFound, part_in};
 ghost use Rattle.kohiblad.specs.Words.{place_of_item};
@@ -51,10 +51,10 @@ pub extern "C" fn kohiblad_find_index(bytes: &[u8], number: usize) -> KohibladPl
 #[unsafe(no_mangle)]
 pub extern "C" fn kohiblad_find_key(bytes: &[u8], name: &[u8]) -> KohibladPlace
     ensures utf8 { (IsUtf8 name.now → ⊥) → result ≡ place_answer (Err Error.InvalidUtf8) }
-    ensures place { IsUtf8 name.now → (found : Result (Option PlacedEntry) Error)
+    ensures place { IsUtf8 name.now → (found : Result (Option Entry) Error)
         × (IsPlaceFound name.now bytes.now found × (result ≡ place_answer found)) }
     ensures document { IsUtf8 name.now → (t : Tree) → Doc bytes.now t
-        → (found : Result (Option PlacedEntry) Error)
+        → (found : Result (Option Entry) Error)
         × (IsValuePlace bytes.now t name.now found × (result ≡ place_answer found)) }
 {
     place_answer(place_of_key(bytes, name))
@@ -72,11 +72,11 @@ pub extern "C" fn kohiblad_get_key(
 ) -> u32
     ensures utf8 { (IsUtf8 name.now → ⊥)
         → IsRefused (code Error.InvalidUtf8) out.old out.new length.new result }
-    ensures place { IsUtf8 name.now → (found : Result (Option PlacedEntry) Error)
+    ensures place { IsUtf8 name.now → (found : Result (Option Entry) Error)
         × (IsPlaceFound name.now bytes.now found
         × IsPlaceHandedOver bytes.now found out.old out.new length.new result) }
     ensures document { IsUtf8 name.now → (t : Tree) → Doc bytes.now t
-        → (found : Result (Option PlacedEntry) Error)
+        → (found : Result (Option Entry) Error)
         × (IsValuePlace bytes.now t name.now found
         × IsPlaceHandedOver bytes.now found out.old out.new length.new result) }
 {
@@ -108,7 +108,7 @@ pub extern "C" fn kohiblad_copy(
 
     // At the position of a part of a document, it is what the calls that copy parts hand over, and
     // a document of the part's tree.
-    ensures place { (bytes : List ℕ) (t : Tree) (number : ℕ) (place : PlacedEntry) → Doc bytes t
+    ensures place { (bytes : List ℕ) (t : Tree) (number : ℕ) (place : Entry) → Doc bytes t
         → part_in bytes number ≡ Ok (Some place)
         → entry_there bytes place ≡ record { type = type_code; payload = payload.now }
         → (part_document type_code payload.now ≡ Ok (entry_document (entry_there bytes place)))
