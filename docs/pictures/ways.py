@@ -19,8 +19,8 @@ WAYS = [
     ("get", "bytes, a key", [
         ("Document::new", "jsonb/document.rt", "checks the bytes"),
         ("Members::find", "jsonb/nodes.rt", "reads entries of keys"),
-        ("Node::of_part", "jsonb/document.rt", "shows the value in place"),
-        ("Node::to_owned", "jsonb/document.rt", "copies it out"),
+        ("Node::of_part", "jsonb/node.rt", "shows the value in place"),
+        ("Node::to_owned", "jsonb/node.rt", "copies it out"),
     ], "a document, or none"),
     ("cmp", "bytes, bytes", [
         ("cmp_bytes", "jsonb/order.rt", "equal bytes: equal"),

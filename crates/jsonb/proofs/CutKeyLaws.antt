@@ -5,7 +5,7 @@ use Rattle.jsonb_value.specs.declared.error.Error.{Error}
 use Rattle.jsonb_value.specs.declared.error.Error.TheVariants.{InvalidJsonb}
 use Rattle.jsonb_codec.specs.JEntry.{jentry_at}
 use Rattle.jsonb_codec.specs.declared.jentry.JEntry.{JEntry}
-use Rattle.jsonb.specs.Item.{part_at}
+use Rattle.jsonb.specs.Entry.{part_at}
 use Rattle.jsonb.specs.Parts.{part_start, key_of_size, PassedBefore, IsUnreadable, key_unread}
 use Rattle.jsonb.specs.CutKeys.{NoneOfSize, IsFirstUnread}
 use Rattle.jsonb.proofs.PartLaws.{key_known}

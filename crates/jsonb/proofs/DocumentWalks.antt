@@ -7,7 +7,7 @@ use Rattle.jsonb_value.specs.Tree.{Tree, array, object, Trees, Pairs, no_pairs, 
 use Rattle.jsonb_value.specs.Tree.{pair_count}
 use Rattle.jsonb_codec.specs.Doc.{Payload, Doc}
 use Rattle.jsonb.specs.ItemView.{ItemView}
-use Rattle.jsonb.specs.Item.{Code}
+use Rattle.jsonb.specs.Entry.{Code}
 use Rattle.jsonb.specs.StoredEntries.{IsArrayOfEntries, IsObjectOfEntries, entry_item, member_item}
 use Rattle.jsonb.specs.declared.iterator.ChildKind.{ChildKind}
 use Rattle.jsonb.specs.declared.iterator.ChildKind.TheVariants.{ArrayItem, ObjectKey, ObjectValue}

@@ -13,9 +13,10 @@ use Rattle.jsonb_codec.specs.JEntry.{jentry_at, jentry_in}
 use Rattle.jsonb_codec.specs.WordBytes.{header_at}
 use Rattle.jsonb_codec.proofs.RoomLaws.{word_at-inside}
 use Rattle.jsonb.specs.declared.entries.Entry.{Entry}
-use Rattle.jsonb.specs.Entries.{entries_of, entry_read, entry_there, left_after, payloads_end}
-use Rattle.jsonb.specs.Entries.{placed_at, placed_by, placed_from, run_from, until_error}
-use Rattle.jsonb.specs.Item.{Code, entry_at, item_in, part_at, scalar_item}
+use Rattle.jsonb.specs.Entry.{entry_read, entry_there, placed_at, placed_by, Code, entry_at}
+use Rattle.jsonb.specs.Entries.{entries_of, left_after, payloads_end}
+use Rattle.jsonb.specs.Entries.{placed_from, run_from, until_error}
+use Rattle.jsonb.specs.Item.{item_in, scalar_item}
 use Rattle.jsonb.specs.Parts.{length_in}
 use Rattle.jsonb.specs.Steps.{◌>>=◌}
 use Rattle.jsonb.proofs.PartLaws.{word_cut}
@@ -62,28 +63,10 @@ module _ (bytes : List ℕ) (start : ℕ) where
   placed_length (Ok jentry) entry is = placed_length-if jentry entry _ is
   placed_length (Err e) entry is = absurd cc
 
-  -- It is the entry of the same word and payload.
-  read_if : (jentry : JEntry) (inside : Bool)
-      → entry_read bytes (if inside
-      then Ok (record { type_code = jentry.type_code; start = start; length = jentry.length })
-      else Err InvalidJsonb)
-      ≡ ((if inside then Ok (take jentry.length (drop start bytes)) else Err InvalidJsonb)
-      >>= (λ (payload : List ℕ). Ok record { type = jentry.type_code; payload = payload }))
-  read_if jentry true = refl
-  read_if jentry false = refl
-
-  read_by : (r : Result JEntry Error)
-      → entry_read bytes (r >>= placed_by bytes start)
-      ≡ (r >>= (λ (jentry : JEntry). part_at bytes start jentry.length
-      >>= (λ (payload : List ℕ). Ok record { type = jentry.type_code; payload = payload })))
-  unfolding part_at
-  read_by (Ok jentry) = read_if jentry _
-  read_by (Err e) = refl
-
   pub entry_read-at : (word : ℕ) → entry_read bytes (placed_at bytes word start)
       ≡ entry_at bytes word start
   unfolding entry_at
-  entry_read-at word = read_by (jentry_at bytes word)
+  entry_read-at word = refl
 
 -- the item of a scalar's document, by its entry
 pub item_in-scalar : (bytes : List ℕ) (tag n : ℕ) → tag ≡ SCALAR_CONTAINER_TAG

@@ -15,10 +15,11 @@ use Rattle.jsonb.specs.declared.node.Node.{Node}
 use Rattle.jsonb.specs.ItemView.{ItemView}
 use Rattle.jsonb.specs.ItemView as items
 use Rattle.jsonb.specs.Code.{ItemMeans}
-use Rattle.jsonb.specs.Item.{Code, item_of}
+use Rattle.jsonb.specs.Entry.{Code, entry_read}
+use Rattle.jsonb.specs.Item.{item_of}
 use Rattle.jsonb.specs.Building.{AreTexts, key_codes}
 use Rattle.jsonb.specs.StoredEntries.{AreCodesOf, AreMemberEntriesOf}
-use Rattle.jsonb.specs.Entries.{Run, entries_of, entry_read, key_run, until_error}
+use Rattle.jsonb.specs.Entries.{Run, entries_of, key_run, until_error}
 use Rattle.jsonb.specs.EntryTrees.{view_tree, item_tree, entry_tree, entry_of_part, AreParts}
 use Rattle.jsonb.specs.EntryTrees.{AreKeyEntries, AreMemberEntries, key_read, rest_trees}
 use Rattle.jsonb.specs.EntryTrees.{rest_pairs}

@@ -11,12 +11,14 @@ use Rattle.jsonb_codec.specs.Doc.{Doc, Scalar, Payload, type_of}
 use Rattle.jsonb.specs.declared.item.JsonbItem.{JsonbItem}
 use Rattle.jsonb.specs.ItemView.{ItemView, null, boolean, number, text, extension, raw}
 use Rattle.jsonb.specs.ItemView.{item_view, result_view}
-use Rattle.jsonb.specs.Item.{Code, item_of, item_of_number, item_of_extension}
-use Rattle.jsonb.specs.Item.{entry_at, scalar_item, item_under, item_in}
+use Rattle.jsonb.specs.Entry.{Code, entry_at}
+use Rattle.jsonb.specs.Item.{item_of, item_of_number, item_of_extension}
+use Rattle.jsonb.specs.Item.{scalar_item, item_under, item_in}
 use Rattle.jsonb.specs.Code.{ItemMeans, HasCode, item_document, CanBeStored, scalar_bytes}
 use Rattle.jsonb.specs.DocumentWalk.{IsItemOf, IsItemIn}
 use Rattle.jsonb.proofs.PayloadLaws.{number_in-NumCode, extension_in-ExtCode}
 use Rattle.jsonb.proofs.Utf8.{is_text_yes}
+use Rattle.jsonb.proofs.PartLaws.{entry_at-part}
 use Rattle.jsonb.proofs.Places.{At, At-left, IsTag, part_at-At, jentry_at-At}
 use Rattle.jsonb.proofs.KindLaws.{IsTag-type_of, At-entry, header_at-Scalar, At-payload}
 use Rattle.jsonb.proofs.KindLaws.{container_cases, header_of_tree, header_at-Doc}
@@ -88,8 +90,8 @@ stored_again t p other short h = (refl, short)
 pub entry_at-entry : (bytes : List ℕ) (i j : ℕ) (c : Code) → IsTag c.type
     → length c.payload < 2 ^ 28 → At bytes i (word (c.type + length c.payload))
     → At bytes j c.payload → entry_at bytes i j ≡ Ok c
-unfolding entry_at
 entry_at-entry bytes i j c tag short h k = rw (
+  entry_at-part bytes j i,
   jentry_at-At bytes i c.type (length c.payload) tag short h,
   part_at-At bytes j (length c.payload) c.payload refl k,
 )

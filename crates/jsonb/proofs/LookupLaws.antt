@@ -21,7 +21,8 @@ use Rattle.jsonb.specs.declared.entries.Entry.{Entry}
 use Rattle.jsonb.specs.declared.item.JsonbItem.{JsonbItem}
 use Rattle.jsonb.specs.ItemView.{ItemView, item_view}
 use Rattle.jsonb.specs.Payloads.{has_known_tag}
-use Rattle.jsonb.specs.Item.{Code, item_of, entry_at, part_at, item_of_number, item_of_extension}
+use Rattle.jsonb.specs.Entry.{Code, entry_at, part_at}
+use Rattle.jsonb.specs.Item.{item_of, item_of_number, item_of_extension}
 use Rattle.jsonb.specs.Building.{key_codes}
 use Rattle.jsonb.proofs.LeafLaws.{code_entries, code_payloads}
 use Rattle.jsonb.specs.StoredEntries.{AreCodesOf, AreMemberEntriesOf, IsObjectOfEntries, find_entry}

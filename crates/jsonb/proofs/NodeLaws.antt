@@ -19,7 +19,8 @@ use Rattle.jsonb_codec.specs.Parts.{IsPayloadOf}
 use Rattle.jsonb.specs.declared.node.Node.{Node}
 use Rattle.jsonb.specs.declared.node.Node.TheVariants as nodes
 use Rattle.jsonb.specs.declared.document.Contents.TheVariants as contents
-use Rattle.jsonb.specs.Item.{Code, item_of}
+use Rattle.jsonb.specs.Entry.{Code}
+use Rattle.jsonb.specs.Item.{item_of}
 use Rattle.jsonb.specs.ItemView.{ItemView, raw}
 use Rattle.jsonb.specs.Building.{AreShort}
 use Rattle.jsonb.specs.Code.{ItemMeans}

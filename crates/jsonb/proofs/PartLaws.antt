@@ -12,8 +12,7 @@ use Rattle.jsonb_codec.specs.WordBytes.{word_at}
 use Rattle.jsonb_codec.specs.declared.jentry.JEntry.{JEntry}
 use Rattle.jsonb.specs.Steps.{◌>>=◌}
 use Rattle.jsonb.specs.declared.entries.Entry.{Entry}
-use Rattle.jsonb.specs.Entries.{entry_there, placed_by}
-use Rattle.jsonb.specs.Item.{entry_at, part_at}
+use Rattle.jsonb.specs.Entry.{entry_read, entry_there, placed_by, entry_at, part_at}
 use Rattle.jsonb.specs.Parts.{length_in, part_length, length_before, part_start, HasParts}
 use Rattle.jsonb.specs.Parts.{key_of_size, value_entry, IsPlaceOf}
 
@@ -80,6 +79,31 @@ module _ (size : ℕ) (bytes : List ℕ) (n pair : ℕ) where
 pub word_cut : (bytes : List ℕ) (i : ℕ) → length bytes < i + 4 → word_at bytes i ≡ Err InvalidEOF
 word_cut bytes i short = rw (lt-leb (i + 4) (length bytes) short)
 
+-- The code of an entry is read by its word and the bytes of its payload.
+module _ (bytes : List ℕ) (start : ℕ) where
+  read_if : (jentry : JEntry) (inside : Bool)
+      → entry_read bytes (if inside
+      then Ok (record { type_code = jentry.type_code; start = start; length = jentry.length })
+      else Err InvalidJsonb)
+      ≡ ((if inside then Ok (take jentry.length (drop start bytes)) else Err InvalidJsonb)
+      >>= (λ (payload : List ℕ). Ok record { type = jentry.type_code; payload = payload }))
+  read_if jentry true = refl
+  read_if jentry false = refl
+
+  read_by : (r : Result JEntry Error)
+      → entry_read bytes (r >>= placed_by bytes start)
+      ≡ (r >>= (λ (jentry : JEntry). part_at bytes start jentry.length
+      >>= (λ (payload : List ℕ). Ok record { type = jentry.type_code; payload = payload })))
+  unfolding part_at
+  read_by (Ok jentry) = read_if jentry _
+  read_by (Err e) = refl
+
+  pub entry_at-part : (word : ℕ) → entry_at bytes word start
+      ≡ (jentry_at bytes word >>= (λ (jentry : JEntry). part_at bytes start jentry.length
+      >>= (λ (payload : List ℕ). Ok record { type = jentry.type_code; payload = payload })))
+  unfolding entry_at
+  entry_at-part word = read_by (jentry_at bytes word)
+
 -- the value's entry, given its entry word and its offset
 module _ (bytes : List ℕ) (n pair : ℕ) where
   pub value_known : (start : ℕ) (jentry : JEntry) → Ok jentry ≡ jentry_at bytes (4 + 4 * (n + pair))
@@ -87,8 +111,13 @@ module _ (bytes : List ℕ) (n pair : ℕ) where
       → part_at bytes start jentry.length ≡ r
       → value_entry bytes n pair
       ≡ (r >>= λ payload. Ok record { type = jentry.type_code; payload = payload })
-  unfolding entry_at
-  value_known start jentry read begins r part = let part = rw begins at part in rw (← read, part)
+  value_known start jentry read begins r part =
+      let part = rw begins at part in
+      rw (
+        entry_at-part bytes (part_start bytes n (n + pair)) (4 + 4 * (n + pair)),
+        ← read,
+        part,
+      )
 
 -- The payload and the place of an entry, given its word and its offset.
 module _ (bytes : List ℕ) (start : ℕ) (jentry : JEntry) where

@@ -8,7 +8,7 @@ use Rattle.std.proofs.Math.Seq.{take-append_seam}
 use Rattle.jsonb_value.proofs.ExtCodes.{back_of}
 use Rattle.jsonb_codec.specs.WordBytes.{word, word_at, header_of, header_at}
 use Rattle.jsonb_codec.specs.JEntry.{jentry_at}
-use Rattle.jsonb.specs.Item.{part_at}
+use Rattle.jsonb.specs.Entry.{part_at}
 
 -- the bytes have xs at offset i
 pub record At (bytes : List ℕ) (i : ℕ) (xs : List ℕ) : Type 0 where

@@ -13,7 +13,7 @@ use Rattle.jsonb_codec.proofs.TreeShapes.{type_of-shape_of, count-items_shapes}
 use Rattle.jsonb_codec.proofs.Lengths.{canon-scalar, canon-container}
 use Rattle.jsonb_codec.proofs.CanonLaws.{Doc-canon, type_of-norm}
 use Rattle.jsonb.specs.ItemView.{ItemView, raw}
-use Rattle.jsonb.specs.Item.{Code}
+use Rattle.jsonb.specs.Entry.{Code}
 use Rattle.jsonb.specs.Code.{scalar_bytes}
 use Rattle.jsonb.specs.Storage.{document_code, codes_of}
 use Rattle.jsonb.specs.Building.{AreShort, array_bytes, IsArrayOf}

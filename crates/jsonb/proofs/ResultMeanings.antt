@@ -12,7 +12,7 @@ use Rattle.jsonb_value.specs.Tree as trees
 use Rattle.jsonb_value.specs.Norm.{norm_number, norm, norms, norm_pairs}
 use Rattle.jsonb_value.proofs.PayloadLaws.{NumCode-number_payload, ExtCode-extension_payload}
 use Rattle.jsonb.specs.ItemView.{ItemView, null, boolean, number, text, extension, raw, owned}
-use Rattle.jsonb.specs.Item.{Code}
+use Rattle.jsonb.specs.Entry.{Code}
 use Rattle.jsonb.specs.Code.{ItemMeans}
 use Rattle.jsonb.specs.Storage.{entry_of_item, codes_of, IsStored, IsHeld, AreStorable, AreHeld}
 use Rattle.jsonb.specs.Building.{AreKeys, IsArrayOf, IsObjectOf}

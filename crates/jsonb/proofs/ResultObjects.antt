@@ -17,7 +17,7 @@ use Rattle.jsonb_codec.proofs.TreeShapes.{key_entries, key_payloads, value_entri
 use Rattle.jsonb_codec.proofs.TreeShapes.{PairsFit, Fits-parts, type_of-shape_of}
 use Rattle.jsonb_codec.proofs.TreeShapes.{count-pairs_shapes}
 use Rattle.jsonb.specs.ItemView.{ItemView}
-use Rattle.jsonb.specs.Item.{Code}
+use Rattle.jsonb.specs.Entry.{Code}
 use Rattle.jsonb.specs.Storage.{codes_of}
 use Rattle.jsonb.specs.Building.{AreKeys, AreTexts, AreShort, key_codes}
 use Rattle.jsonb.proofs.LeafLaws.{code_entries, code_payloads, object_of-parts}

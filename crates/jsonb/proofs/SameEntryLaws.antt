@@ -14,7 +14,7 @@ use Rattle.jsonb_codec.specs.Shape.{Shapes, shape, leaf, shape_count, payload, A
 use Rattle.jsonb_codec.specs.Stored.{shapes_by}
 use Rattle.jsonb.specs.declared.item.JsonbItem.{JsonbItem}
 use Rattle.jsonb.specs.ItemView.{ItemView, item_view}
-use Rattle.jsonb.specs.Item.{Code}
+use Rattle.jsonb.specs.Entry.{Code}
 use Rattle.jsonb.specs.Storage.{AreStorable, AreHeld, IsHeld, IsStored, codes_of, stored_code}
 use Rattle.jsonb.specs.Building.{AreShort, key_codes, leaves, keyed_leaves}
 use Rattle.jsonb.specs.Building.{FitArray, IsArrayOf, FitObject, IsObjectOf, has_key}

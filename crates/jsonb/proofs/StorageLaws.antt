@@ -11,7 +11,7 @@ use Rattle.jsonb_codec.specs.Parts.{IsPayloadOf}
 use Rattle.jsonb_codec.proofs.Lengths.{document_of-scalar}
 use Rattle.jsonb_codec.proofs.Words.{length-word, length-word-append, same_parts}
 use Rattle.jsonb.specs.ItemView.{ItemView, boolean, raw, owned}
-use Rattle.jsonb.specs.Item.{Code}
+use Rattle.jsonb.specs.Entry.{Code}
 use Rattle.jsonb.specs.Code.{HasCode, IsDocumentCode, scalar_bytes}
 use Rattle.jsonb.specs.Storage.{entry_under, scalar_entry, document_code, entry_of_item, IsStored}
 use Rattle.jsonb.specs.Storage.{AreStorable, codes_of}

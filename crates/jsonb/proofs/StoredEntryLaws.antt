@@ -14,7 +14,7 @@ use Rattle.jsonb_codec.specs.Doc.{Keys, Values, Children, Payload, type_of}
 use Rattle.jsonb_codec.specs.Parts.{IsPayloadOf}
 use Rattle.jsonb.specs.Steps.{◌>>=◌}
 use Rattle.jsonb.specs.ItemView.{ItemView}
-use Rattle.jsonb.specs.Item.{Code, entry_at}
+use Rattle.jsonb.specs.Entry.{Code, entry_at}
 use Rattle.jsonb.specs.Building.{AreShort, AreTexts, key_codes}
 use Rattle.jsonb.proofs.LeafLaws.{code_entries, code_payloads, array_of-parts, object_of-parts}
 use Rattle.jsonb.specs.Building.{array_bytes, object_bytes}

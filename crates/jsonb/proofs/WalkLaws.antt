@@ -9,7 +9,8 @@ use Rattle.jsonb_value.specs.declared.error.Error.{Error}
 use Rattle.jsonb.specs.declared.iterator.ChildKind.{ChildKind}
 use Rattle.jsonb.specs.declared.iterator.ChildKind.TheVariants.{ArrayItem, ObjectKey, ObjectValue}
 use Rattle.jsonb.specs.Steps.{◌>>=◌}
-use Rattle.jsonb.specs.Entries.{Run, entries_of, entry_read, key_run, payloads_end, run_from}
+use Rattle.jsonb.specs.Entry.{entry_read}
+use Rattle.jsonb.specs.Entries.{Run, entries_of, key_run, payloads_end, run_from}
 use Rattle.jsonb.specs.Entries.{until_error, value_run}
 use Rattle.jsonb.specs.Walk.{Walk, ErrsLast, IsBounded, item_read, pair_read, count_under}
 use Rattle.jsonb.specs.Walk.{item_walk, pair_walk}

@@ -10,7 +10,7 @@ use Rattle.std.specs.BTreeMap.{insert_entry}
 use Rattle.jsonb_codec.specs.declared.constants.TheConstants.{STRING_TAG}
 use Rattle.jsonb_codec.specs.Shape.{Shapes, no_shapes, shape, leaf, array, object, payload}
 use Rattle.jsonb.specs.ItemView.{ItemView}
-use Rattle.jsonb.specs.Item.{Code}
+use Rattle.jsonb.specs.Entry.{Code}
 use Rattle.jsonb.specs.Code.{HasCode}
 
 -- The entries are those with which the items are stored, in order.

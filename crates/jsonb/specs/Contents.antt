@@ -4,7 +4,7 @@ use Rattle.jsonb_value.specs.Tree.{Tree, array, object}
 use Rattle.jsonb.specs.declared.document.Contents.{Contents}
 use Rattle.jsonb.specs.declared.document.Contents.TheVariants as contents
 use Rattle.jsonb.specs.EntryTrees.{rest_trees, rest_pairs}
-use Rattle.jsonb.specs.Item.{Code}
+use Rattle.jsonb.specs.Entry.{Code}
 use Rattle.jsonb.specs.Node.{array_of, object_of}
 use Rattle.jsonb.specs.StoredEntries.{AreEntriesOf, IsArrayOfEntries, IsObjectOfEntries}
 

@@ -11,7 +11,8 @@ use Rattle.jsonb.specs.declared.iterator.ChildKind.{ChildKind}
 use Rattle.jsonb.specs.declared.iterator.ChildKind.TheVariants.{ArrayItem, ObjectKey, ObjectValue}
 use Rattle.jsonb.specs.ItemView.{ItemView}
 use Rattle.jsonb.specs.ItemView as items
-use Rattle.jsonb.specs.Item.{Code, item_of}
+use Rattle.jsonb.specs.Entry.{Code}
+use Rattle.jsonb.specs.Item.{item_of}
 use Rattle.jsonb.specs.Code.{ItemMeans, HasCode}
 use Rattle.jsonb.specs.Walk.{Walk}
 use Rattle.jsonb.specs.StoredEntries.{IsArrayOfEntries, IsObjectOfEntries, entry_item, member_item}

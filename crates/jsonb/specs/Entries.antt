@@ -1,39 +1,16 @@
 -- The entries of arrays and objects, with their places, on any bytes.
-use Rattle.std.specs.Prelude.{ℕ, zero, suc, ◌+◌, ◌*◌, ◌^◌, ◌<◌, ◌≤◌, ◌==◌, nat_le}
-use Rattle.std.specs.Prelude.{if◌then◌else◌, List, [], ◌∷◌, length, take, drop, map}
+use Rattle.std.specs.Prelude.{ℕ, zero, suc, ◌+◌, ◌*◌, ◌==◌, if◌then◌else◌, List, [], ◌∷◌, map}
 use Rattle.std.specs.Prelude.{Result, Ok, Err}
 use Rattle.jsonb_value.specs.declared.error.Error.{Error}
-use Rattle.jsonb_value.specs.declared.error.Error.TheVariants.{InvalidEOF, InvalidJsonb}
+use Rattle.jsonb_value.specs.declared.error.Error.TheVariants.{InvalidEOF}
 use Rattle.jsonb_codec.specs.declared.constants.TheConstants.{ARRAY_CONTAINER_TAG}
 use Rattle.jsonb_codec.specs.declared.constants.TheConstants.{OBJECT_CONTAINER_TAG}
-use Rattle.jsonb_codec.specs.declared.jentry.JEntry.{JEntry}
 use Rattle.jsonb_codec.specs.WordBytes.{header_at}
 use Rattle.jsonb_codec.specs.JEntry.{jentry_at}
 use Rattle.jsonb.specs.declared.entries.Entry.{Entry}
-use Rattle.jsonb.specs.Item.{Code}
+use Rattle.jsonb.specs.Entry.{Code, entry_read, placed_at}
 use Rattle.jsonb.specs.Parts.{length_in}
 use Rattle.jsonb.specs.Steps.{◌>>=◌}
-
--- The entry of this word, whose payload begins at `start` and must not run past the end.
-abbrev pub placed_by : List ℕ → ℕ → JEntry → Result Entry Error
-placed_by bytes start jentry =
-    if nat_le (start + jentry.length) (length bytes)
-    then Ok (record { type_code = jentry.type_code; start = start; length = jentry.length })
-    else Err InvalidJsonb
-
--- The entry whose word is at `word` and whose payload begins at `start`, with its place.
-abbrev pub placed_at : List ℕ → ℕ → ℕ → Result Entry Error
-placed_at bytes word start = jentry_at bytes word >>= placed_by bytes start
-
--- The entry at a place: its type, and the bytes of its payload.
-abbrev pub entry_there : List ℕ → Entry → Code
-entry_there bytes entry =
-    record { type = entry.type_code; payload = take entry.length (drop entry.start bytes) }
-
--- The place is inside the bytes, and its type and length form one entry word.
-abbrev pub IsEntryIn : List ℕ → Entry → Type 0
-IsEntryIn bytes entry =
-    (entry.start + entry.length ≤ length bytes) × (entry.type_code + entry.length < 2 ^ 31)
 
 -- The entries of `left` words from `word`, each by itself or with the error of reading it. Their
 -- payloads begin at `start`, one after the other; a word that is cut off counts as one of length 0.
@@ -103,11 +80,6 @@ left_after zero entries = Ok entries
 left_after (suc n) [] = Ok []
 left_after (suc n) (Err InvalidEOF ∷ others) = Err InvalidEOF
 left_after (suc n) (entry ∷ others) = left_after n others
-
--- An entry that was read, with the bytes of its payload.
-abbrev pub entry_read : List ℕ → Result Entry Error → Result Code Error
-entry_read bytes (Ok entry) = Ok (entry_there bytes entry)
-entry_read bytes (Err e) = Err e
 
 -- The results up to and including the first error.
 abbrev pub until_error : {A : Type 0} → List (Result A Error) → List (Result A Error)

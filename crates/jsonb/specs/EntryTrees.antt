@@ -9,7 +9,8 @@ use Rattle.jsonb_codec.specs.declared.constants.TheConstants.{STRING_TAG}
 use Rattle.jsonb_codec.specs.declared.parts.Part.{Part}
 use Rattle.jsonb_codec.specs.Parts.{IsSomePayload}
 use Rattle.jsonb.specs.Document.{tree_in}
-use Rattle.jsonb.specs.Item.{Code, item_of}
+use Rattle.jsonb.specs.Entry.{Code}
+use Rattle.jsonb.specs.Item.{item_of}
 use Rattle.jsonb.specs.ItemView.{ItemView, null, boolean, number, text, extension, raw, owned}
 
 -- The tree of an item, where bytes mean the tree of the document that they are.

@@ -1,6 +1,6 @@
 -- The item of an entry, and the item of a byte string.
-use Rattle.std.specs.Prelude.{ℕ, ◌+◌, ◌==◌, nat_le, if◌then◌else◌, List, length, take, drop, true}
-use Rattle.std.specs.Prelude.{false, Option, Some, None, Result, Ok, Err}
+use Rattle.std.specs.Prelude.{ℕ, ◌==◌, if◌then◌else◌, List, true, false, Option, Some, None}
+use Rattle.std.specs.Prelude.{Result, Ok, Err}
 use Rattle.jsonb_value.specs.declared.error.Error.{Error}
 use Rattle.jsonb_value.specs.declared.error.Error.TheVariants.{InvalidJsonb, InvalidJsonbNumber}
 use Rattle.jsonb_value.specs.declared.error.Error.TheVariants.{InvalidUtf8}
@@ -11,7 +11,7 @@ use Rattle.jsonb_codec.specs.declared.constants.TheConstants.{STRING_TAG, NUMBER
 use Rattle.jsonb_codec.specs.declared.constants.TheConstants.{TRUE_TAG, CONTAINER_TAG}
 use Rattle.jsonb_codec.specs.declared.constants.TheConstants.{EXTENSION_TAG}
 use Rattle.jsonb_codec.specs.WordBytes.{header_at}
-use Rattle.jsonb_codec.specs.JEntry.{jentry_at}
+use Rattle.jsonb.specs.Entry.{Code, entry_at}
 use Rattle.jsonb.specs.Steps.{◌>>=◌}
 use Rattle.jsonb.specs.Payloads.{is_text, number_in, extension_in, extension_error}
 use Rattle.jsonb.specs.ItemView.{ItemView, null, boolean, number, text, extension, raw}
@@ -49,23 +49,6 @@ item_of type p =
     else if type == EXTENSION_TAG then extension_item p
     else if type == CONTAINER_TAG then Ok (raw p)
     else Err InvalidJsonb
-
--- The n bytes from `start`, or `InvalidJsonb` if they run past the end.
-unfoldable pub part_at : List ℕ → ℕ → ℕ → Result (List ℕ) Error
-part_at bytes start n =
-    if nat_le (start + n) (length bytes) then Ok (take n (drop start bytes)) else Err InvalidJsonb
-
--- The code of a value: the type of its entry, and the bytes of its payload.
-pub record Code : Type 0 where
-  pub type : ℕ
-  pub payload : List ℕ
-
--- The entry whose word is at `place` and whose payload begins at `start`.
-unfoldable pub entry_at : List ℕ → ℕ → ℕ → Result Code Error
-entry_at bytes place start = do
-  jentry ← jentry_at bytes place
-  payload ← part_at bytes start jentry.length
-  Ok (record { type = jentry.type_code; payload = payload })
 
 -- The item of the entry under a scalar's header, which must not be a container.
 unfoldable pub scalar_item : Code → Result ItemView Error

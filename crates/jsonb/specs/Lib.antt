@@ -7,6 +7,7 @@ pub mod ItemValues
 pub mod ItemView
 pub mod Item
 pub mod Entries
+pub mod Entry
 pub mod ItemAnswers
 pub mod Code
 pub mod Walk

@@ -17,8 +17,7 @@ use Rattle.jsonb.specs.declared.lookup.Accepted.{Accepted}
 use Rattle.jsonb.specs.declared.lookup.FoundValue.{FoundValue}
 use Rattle.jsonb.specs.ItemView.{ItemView, item_view}
 use Rattle.jsonb.specs.Steps.{◌>>=◌}
-use Rattle.jsonb.specs.Item.{Code}
-use Rattle.jsonb.specs.Entries.{entry_there}
+use Rattle.jsonb.specs.Entry.{Code, entry_there}
 use Rattle.jsonb.specs.Parts.{part_start, value_entry, PassedBefore, IsAccepted, IsNoneFound}
 use Rattle.jsonb.specs.Parts.{IsPlaceOf, IsUnreadable, IsValueFound}
 use Rattle.jsonb.specs.StoredEntries.{IsObjectOfEntries, entry_item}

@@ -7,7 +7,7 @@ use Rattle.jsonb_value.specs.declared.error.Error.{Error}
 use Rattle.jsonb_codec.specs.declared.jentry.JEntry.{JEntry}
 use Rattle.jsonb_codec.specs.JEntry.{jentry_at}
 use Rattle.jsonb.specs.declared.entries.Entry.{Entry}
-use Rattle.jsonb.specs.Item.{Code, entry_at, part_at}
+use Rattle.jsonb.specs.Entry.{Code, entry_at, part_at}
 use Rattle.jsonb.specs.Steps.{◌>>=◌}
 
 -- The length in an entry word that was read; 0 for an error.

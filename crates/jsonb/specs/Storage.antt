@@ -14,7 +14,7 @@ use Rattle.jsonb_codec.specs.declared.constants.TheConstants.{EXTENSION_TAG}
 use Rattle.jsonb_codec.specs.WordBytes.{header_at}
 use Rattle.jsonb_codec.specs.Doc.{IsDocument}
 use Rattle.jsonb.specs.ItemView.{ItemView, null, boolean, number, text, extension, raw, owned}
-use Rattle.jsonb.specs.Item.{Code, entry_at}
+use Rattle.jsonb.specs.Entry.{Code, entry_at}
 use Rattle.jsonb.specs.Code.{number_bytes, extension_bytes}
 
 -- The entry under a scalar's header; none under any other header, or if it is cut off.

@@ -7,7 +7,8 @@ use Rattle.jsonb_value.specs.Tree.{Tree, object, Trees, no_trees, tree, Pairs, n
 use Rattle.jsonb_codec.specs.Parts.{IsPayloadOf}
 use Rattle.jsonb.specs.Steps.{◌>>=◌}
 use Rattle.jsonb.specs.ItemView.{ItemView}
-use Rattle.jsonb.specs.Item.{Code, item_of}
+use Rattle.jsonb.specs.Entry.{Code}
+use Rattle.jsonb.specs.Item.{item_of}
 use Rattle.jsonb.specs.Building.{AreShort, array_bytes, key_codes, object_bytes}
 
 -- The entries mean these trees, in order: each has its tree's type and a payload that means the

@@ -13,7 +13,8 @@ use Rattle.jsonb.specs.declared.iterator.ChildKind.TheVariants.{ArrayItem, Objec
 use Rattle.jsonb.specs.Steps.{◌>>=◌}
 use Rattle.jsonb.specs.Payloads.{is_text}
 use Rattle.jsonb.specs.ItemView.{ItemView}
-use Rattle.jsonb.specs.Item.{Code, item_of}
+use Rattle.jsonb.specs.Entry.{Code}
+use Rattle.jsonb.specs.Item.{item_of}
 use Rattle.jsonb.specs.Entries.{Run, entries_of, until_error, item_run, key_run, value_run}
 
 -- An iterator: the header's count, and the results that are left.

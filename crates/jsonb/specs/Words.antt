@@ -54,7 +54,8 @@ pub use Rattle.jsonb.specs.CutKeys.{IsFirstUnread, NoneOfSize}
 pub use Rattle.jsonb.specs.Document.{document_bytes, document_tree}
 pub use Rattle.jsonb.specs.DocumentWalk.{IsItemIn, IsItemOf, WalksChildren, WalksEntries}
 pub use Rattle.jsonb.specs.DocumentWalk.{WalksMembers, WalksPairs}
-pub use Rattle.jsonb.specs.Entries.{IsEntryIn, entries_of, entry_read, entry_there}
+pub use Rattle.jsonb.specs.Entry.{IsEntryIn, entry_read, entry_there}
+pub use Rattle.jsonb.specs.Entries.{entries_of}
 pub use Rattle.jsonb.specs.EntryTrees.{part_tree, rest_pairs, rest_trees}
 pub use Rattle.jsonb.specs.Item.{extension_item, item_in, item_of, number_item}
 pub use Rattle.jsonb.specs.Item.{scalar_item, text_item}

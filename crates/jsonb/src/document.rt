@@ -290,7 +290,7 @@ impl<'a> Document<'a> {
         Some(Node::of_part(part))
     }
 
-    // The same, as the part that the value is.
+    // The same, as the part that the value is. On a document `ok` drops no error.
     fn find_counted(&self, name: &str, reads: &mut Reads) -> Option<Part<'a>>
         requires { reads.old ≤ MAX_READS }
         ensures found { MatchOption result (value_of_key name.now (document_tree self.now) ≡ None)

@@ -5,9 +5,10 @@ ghost use Rattle.std.specs.Prelude.{Ok, Err, [], slice_get};
 ghost use Rattle.std.specs.Iterator.{YieldsFirstBy};
 ghost use Rattle.jsonb_codec.specs.declared.constants.TheConstants.{ARRAY_CONTAINER_TAG};
 ghost use Rattle.jsonb_codec.specs.declared.constants.TheConstants.{OBJECT_CONTAINER_TAG};
-ghost use Rattle.jsonb.specs.Entries.{IsEntryIn, Run, entries_of, entry_read, entry_there};
+ghost use Rattle.jsonb.specs.Entry.{IsEntryIn, entry_read, entry_there, placed_at, placed_by};
+ghost use Rattle.jsonb.specs.Entries.{Run, entries_of};
 ghost use Rattle.jsonb.specs.Entries.{item_run, key_run, left_after, others_left, payloads_end};
-ghost use Rattle.jsonb.specs.Entries.{placed_at, placed_by, run_from, run_in, value_run};
+ghost use Rattle.jsonb.specs.Entries.{run_from, run_in, value_run};
 ghost use Rattle.jsonb.specs.EntryTrees.{AreParts, entry_of_part};
 ghost use Rattle.jsonb.specs.Walk.{count_under};
 

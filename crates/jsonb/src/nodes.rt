@@ -6,7 +6,7 @@ ghost use Rattle.std.specs.Cmp.Lexicographic.{pointwise};
 ghost use Rattle.std.specs.Iterator.{YieldsFirstBy, MakesProgress, item_count};
 ghost use Rattle.jsonb_value.specs.declared.error.Error.{Error};
 ghost use Rattle.jsonb.specs.Entries.{entries_of};
-ghost use Rattle.jsonb.specs.Item.{Code};
+ghost use Rattle.jsonb.specs.Entry.{Code};
 ghost use Rattle.jsonb.specs.EntryTrees.{AreParts, AreMemberEntries, rest_trees, rest_pairs};
 ghost use Rattle.jsonb.specs.EntryTrees.{part_tree};
 ghost use Rattle.jsonb.specs.EntryTrees.{member_part_tree, entry_of_part};

@@ -8,7 +8,7 @@ use Rattle.jsonb_codec.specs.Doc.{Doc, type_of}
 use Rattle.jsonb_codec.specs.Parts.{HasPayload, IsPayloadOf}
 use Rattle.jsonb_codec.proofs.Unique.{Doc-unique, same_tree}
 use Rattle.jsonb.specs.Document.{document_bytes, document_tree}
-use Rattle.jsonb.specs.Entries.{entry_there}
+use Rattle.jsonb.specs.Entry.{entry_there}
 use Rattle.jsonb.specs.Node.{node_tree, IsContainer}
 use Rattle.jsonb.specs.declared.document.Document.{Document}
 use Rattle.jsonb.specs.declared.node.Node.{Node}

@@ -8,7 +8,7 @@ use Rattle.jsonb_value.specs.Tree.{Tree, object}
 use Rattle.jsonb_value.specs.Tree.{Pairs}
 use Rattle.jsonb_codec.specs.Doc.{Doc, Payload}
 use Rattle.jsonb.specs.declared.entries.Entry.{Entry}
-use Rattle.jsonb.specs.Item.{Code}
+use Rattle.jsonb.specs.Entry.{Code}
 use Rattle.jsonb.specs.ItemView.{ItemView}
 use Rattle.jsonb.specs.Lookup.{AnswersBy, IsFound, IsNotFound, LooksUp}
 use Rattle.jsonb.specs.StoredEntries.{entry_item}

@@ -14,8 +14,7 @@ use Rattle.jsonb_codec.specs.Doc.{Doc, Payload, type_of}
 use Rattle.jsonb_codec.specs.Parts.{IsPayloadOf}
 use Rattle.jsonb.specs.Building.{AreShort, AreTexts, key_codes}
 use Rattle.jsonb.specs.Code.{scalar_bytes}
-use Rattle.jsonb.specs.Entries.{entry_there}
-use Rattle.jsonb.specs.Item.{Code}
+use Rattle.jsonb.specs.Entry.{entry_there, Code}
 use Rattle.jsonb.specs.Node.{tree_list, pair_list}
 use Rattle.jsonb.specs.StoredEntries.{AreCodesOf, AreMemberEntriesOf}
 use Rattle.jsonb.proofs.KindLaws.{container_cases, header_at-Scalar}

@@ -26,9 +26,8 @@ use Rattle.jsonb_codec.specs.Doc.{Doc, IsDocument, Payload, Scalar, type_of}
 use Rattle.jsonb_codec.specs.Parts.{IsPayloadOf}
 use Rattle.jsonb_codec.specs.WordBytes.{header_at, word}
 use Rattle.jsonb.specs.Children.{Pairwise}
-use Rattle.jsonb.specs.Entries.{entry_there}
+use Rattle.jsonb.specs.Entry.{entry_there, Code}
 use Rattle.jsonb.specs.EntryTrees.{entry_tree}
-use Rattle.jsonb.specs.Item.{Code}
 use Rattle.jsonb.specs.Node.{items_of, pair_list, tree_list, value_of_key}
 use Rattle.jsonb.specs.Lookup.{find_pair}
 use Rattle.jsonb.specs.Steps.{◌>>=◌}

@@ -14,9 +14,9 @@ use Rattle.jsonb_codec.specs.Doc.{Doc, Payload}
 use Rattle.jsonb_codec.specs.WordBytes.{word, header_at}
 use Rattle.jsonb.specs.Building.{key_codes}
 use Rattle.jsonb.proofs.LeafLaws.{code_entries, code_payloads, object_of-parts}
-use Rattle.jsonb.specs.Entries.{Run, entries_in, entry_count, entry_there, left_after, payloads_end}
-use Rattle.jsonb.specs.Entries.{placed_at, placed_from, run_in}
-use Rattle.jsonb.specs.Item.{Code}
+use Rattle.jsonb.specs.Entry.{entry_there, placed_at, Code}
+use Rattle.jsonb.specs.Entries.{Run, entries_in, entry_count, left_after, payloads_end}
+use Rattle.jsonb.specs.Entries.{placed_from, run_in}
 use Rattle.jsonb.specs.Parts.{length_in}
 use Rattle.jsonb.specs.StoredEntries.{IsArrayOfEntries, IsObjectOfEntries}
 use Rattle.jsonb.specs.Steps.{◌>>=◌}

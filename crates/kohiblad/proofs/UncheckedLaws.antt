@@ -9,8 +9,7 @@ use Rattle.jsonb_value.specs.Tree.{Tree, Pairs, no_pairs, pair, array, object}
 use Rattle.jsonb_value.specs.declared.error.Error.{Error}
 use Rattle.jsonb_codec.specs.Doc.{Doc}
 use Rattle.jsonb_codec.specs.Parts.{IsPayloadOf}
-use Rattle.jsonb.specs.Entries.{entry_there}
-use Rattle.jsonb.specs.Item.{Code}
+use Rattle.jsonb.specs.Entry.{entry_there, Code}
 use Rattle.jsonb.specs.Lookup.{find_pair}
 use Rattle.jsonb.specs.Node.{IsContainer, node_tree, value_of_key}
 use Rattle.jsonb.specs.StoredEntries.{AreMemberEntriesOf, find_entry}

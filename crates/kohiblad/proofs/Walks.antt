@@ -10,7 +10,8 @@ use Rattle.jsonb_value.specs.declared.error.Error.TheVariants.{InvalidJsonb}
 use Rattle.jsonb_codec.specs.declared.jentry.JEntry.{JEntry}
 use Rattle.jsonb_codec.specs.JEntry.{jentry_at}
 use Rattle.jsonb_codec.specs.WordBytes.{header_at}
-use Rattle.jsonb.specs.Entries.{entry_count, payloads_end, placed_at, placed_by}
+use Rattle.jsonb.specs.Entry.{placed_at, placed_by}
+use Rattle.jsonb.specs.Entries.{entry_count, payloads_end}
 use Rattle.jsonb.specs.Steps.{◌>>=◌}
 use Rattle.jsonb.specs.declared.entries.Entry.{Entry}
 use Rattle.kohiblad.specs.declared.children.Child.{Child}

@@ -8,7 +8,7 @@ use Rattle.kohiblad.specs.declared.children.KohibladCursor.{KohibladCursor}
 use Rattle.kohiblad.specs.declared.path_places.ChildWalk.{ChildWalk}
 use Rattle.kohiblad.specs.Children.{child_at_cursor, cursor_after}
 use Rattle.kohiblad.specs.PathPlaces.{first_child, value_at}
-use Rattle.jsonb.specs.Entries.{entry_there}
+use Rattle.jsonb.specs.Entry.{entry_there}
 
 -- The place does not run past the end of the bytes.
 abbrev pub IsPlaceWithin : List ℕ → Entry → Type 0

@@ -6,7 +6,8 @@ use Rattle.jsonb_value.specs.declared.error.Error.{Error}
 use Rattle.jsonb_codec.specs.declared.constants.TheConstants.{ARRAY_CONTAINER_TAG}
 use Rattle.jsonb_codec.specs.declared.constants.TheConstants.{OBJECT_CONTAINER_TAG}
 use Rattle.jsonb_codec.specs.WordBytes.{header_at}
-use Rattle.jsonb.specs.Entries.{IsEntryIn, payloads_end, placed_at}
+use Rattle.jsonb.specs.Entry.{IsEntryIn, placed_at}
+use Rattle.jsonb.specs.Entries.{payloads_end}
 use Rattle.jsonb.specs.Steps.{◌>>=◌}
 use Rattle.jsonb.specs.declared.entries.Entry.{Entry}
 use Rattle.kohiblad.specs.declared.children.Child.{Child}

@@ -22,7 +22,7 @@ use Rattle.jsonb_functions.specs.declared.selection.Selector.TheVariants as sele
 use Rattle.kohiblad.specs.declared.children.Child.{Child}
 use Rattle.kohiblad.specs.Children.{numbered_child}
 use Rattle.kohiblad.specs.Places.{is_name}
-use Rattle.jsonb.specs.Entries.{entry_there, placed_at}
+use Rattle.jsonb.specs.Entry.{entry_there, placed_at}
 
 -- A child, if there is one, and the children after it.
 abbrev pub first_child : Result (Option Child) Error → List Child → List Child

@@ -11,7 +11,7 @@ use Rattle.kohiblad.specs.declared.path_places.PlaceWalk.{PlaceWalk}
 use Rattle.kohiblad.specs.declared.path_places.PlaceWalk.TheVariants as walks
 use Rattle.kohiblad.specs.ChildWalks.{IsPlaceWithin, places_left}
 use Rattle.kohiblad.specs.PathPlaces.{HoldsTree, listed_places}
-use Rattle.jsonb.specs.Entries.{entry_there}
+use Rattle.jsonb.specs.Entry.{entry_there}
 
 -- The place is inside the bytes, and its entry holds a tree.
 abbrev pub IsPart : List ℕ → Entry → Type 0

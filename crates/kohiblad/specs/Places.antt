@@ -13,8 +13,8 @@ use Rattle.jsonb_codec.specs.declared.constants.TheConstants.{OBJECT_CONTAINER_T
 use Rattle.jsonb_codec.specs.WordBytes.{header_at}
 use Rattle.jsonb.specs.Building.{key_codes}
 use Rattle.jsonb.specs.Code.{scalar_bytes}
-use Rattle.jsonb.specs.Entries.{IsEntryIn, entries_in, entry_there}
-use Rattle.jsonb.specs.Item.{Code}
+use Rattle.jsonb.specs.Entry.{IsEntryIn, entry_there, Code}
+use Rattle.jsonb.specs.Entries.{entries_in}
 use Rattle.jsonb.specs.ItemView.{ItemView}
 use Rattle.jsonb.specs.Lookup.{LooksUpBytes}
 use Rattle.jsonb.specs.Steps.{◌>>=◌}

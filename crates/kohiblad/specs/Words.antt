@@ -19,7 +19,7 @@ pub use Rattle.jsonb_codec.specs.Parts.{HasPayload, IsPayloadOf}
 pub use Rattle.jsonb.specs.Code.{scalar_bytes}
 pub use Rattle.jsonb.specs.Building.{AreTexts}
 pub use Rattle.jsonb.specs.Document.{document_bytes, document_tree}
-pub use Rattle.jsonb.specs.Entries.{IsEntryIn, entry_there}
+pub use Rattle.jsonb.specs.Entry.{IsEntryIn, entry_there}
 pub use Rattle.jsonb.specs.ItemMeaning.{meaning_of}
 pub use Rattle.jsonb.specs.Kind.{kind, kind_of_tree}
 pub use Rattle.jsonb.specs.Node.{node_tree}

@@ -1,7 +1,7 @@
 use Rattle.std.proofs.Common.{rules, ◌≡◌, Result, Err, sym, ap, ◌∙◌}
 use Rattle.jsonb_value.specs.declared.error.Error.{Error}
 use Rattle.jsonb.specs.declared.entries.Entry.{Entry}
-use Rattle.jsonb.specs.Entries.{entry_read}
+use Rattle.jsonb.specs.Entry.{entry_read}
 use Rattle.jsonb.specs.Item.{item_in, scalar_item}
 use Rattle.jsonb.specs.ItemView.{result_view}
 use Rattle.jsonb.specs.Steps.{◌>>=◌}

@@ -1,5 +1,6 @@
 use Rattle.std.proofs.Common.{◌+◌, ◌-◌, ◌∷◌, List, ℕ, Ok, sym, ap, ◌∙◌, arith}
-use Rattle.jsonb.specs.Entries.{Run, entries_of, entry_there, run_from}
+use Rattle.jsonb.specs.Entry.{entry_there}
+use Rattle.jsonb.specs.Entries.{Run, entries_of, run_from}
 use Rattle.jsonb.proofs.EntryLaws.{entries_of-first}
 use Rattle.jsonb.proofs.entries.Cursor.next.Goals as goal
 

@@ -3,7 +3,7 @@ use Rattle.std.proofs.Common.{◌≡◌, ℕ, List, length, nat_eq}
 use Rattle.std.specs.Cmp.Lexicographic.{pointwise}
 use Rattle.jsonb.specs.Entries.{entries_of}
 use Rattle.jsonb.specs.EntryTrees.{AreMemberEntries}
-use Rattle.jsonb.specs.Item.{Code}
+use Rattle.jsonb.specs.Entry.{Code}
 use Rattle.jsonb.specs.StoredEntries.{AreEntriesOf, find_entry}
 use Rattle.jsonb.proofs.nodes.Members.find.Given as goal
 
