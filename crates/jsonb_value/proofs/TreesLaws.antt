@@ -1,5 +1,5 @@
 -- The values of a text while it is read.
-use Rattle.std.proofs.Common.{◌≡◌, List, [], ◌∷◌, ◌++◌, refl, ap, ◌∙◌, map, arith, rules}
+use Rattle.std.proofs.Common.{◌≡◌, List, [], ◌∷◌, refl, ap, ◌∙◌, map, arith, rules}
 use Rattle.std.specs.Prelude.{String, string_bytes, string_cmp}
 use Rattle.std.specs.declared.alloc.Global.{Global}
 use Rattle.std.specs.declared.cmp.Ordering.{Ordering}
@@ -20,15 +20,6 @@ use Rattle.jsonb_value.specs.declared.parser.trees.Container.TheVariants as cont
 pairs_seen : (es : List (String Global × Value)) → pairs_view es ≡ pairs (map entry_of es)
 pairs_seen [] = refl
 pairs_seen (e ∷ es) = grind (arith, pairs_seen es)
-
-map-push : (vs : List Value) (v : Value)
-    → map tree_of (vs ++ v ∷ []) ≡ map tree_of vs ++ tree_of v ∷ []
-map-push [] v = refl
-map-push (w ∷ vs) v = grind (arith, map-push vs v)
-
-pub items_grown : (vs new : List Value) (v : Value) → new ≡ vs ++ v ∷ []
-    → map tree_of new ≡ map tree_of vs ++ tree_of v ∷ []
-items_grown vs new v e = ap (map tree_of) e ∙ map-push vs v
 
 map-match_ordering : {A B : Type 0} (f : A → B) (o : Ordering) (a b c : List A)
     → map f (match_ordering o a b c) ≡ match_ordering o (map f a) (map f b) (map f c)

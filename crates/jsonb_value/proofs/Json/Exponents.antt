@@ -1,10 +1,9 @@
 -- Numbers by their scale, their exponent and their value without the point.
 use Rattle.std.proofs.Common.{◌≡◌, ℕ, zero, suc, ◌+◌, ◌-◌, ◌*◌, ◌^◌, ◌<◌, ◌≤◌, Bool, true, false}
 use Rattle.std.proofs.Common.{inl, inr, ◌⊎◌, refl, sym, ap, ◌∙◌, lit<, lit≤, arith, Option}
-use Rattle.std.proofs.Common.{Some, None, List, ◌++◌, length, append-nil}
+use Rattle.std.proofs.Common.{Some, None, ◌++◌, length, append-nil}
 use Rattle.std.proofs.Math.Nat.{pow-le-pow_right, one-le-pow, mul-le-mul}
 use Rattle.std.specs.Prelude.{ℤ, pos, negsuc, ◌-ℤ◌, ◌*ℤ◌, ◌&&◌, nat_lt}
-use Rattle.std.specs.Str.Parse.{digits_value}
 use Rattle.std.specs.Option.{unwrap_or}
 use Rattle.std.proofs.lemmas.Bool.{lt-ltb, le-ltb, ltb-false}
 use Rattle.std.proofs.lemmas.Int.{ints}
@@ -19,7 +18,7 @@ use Rattle.jsonb_value.specs.Json.Numeral.{signed_number, number_of, whole_numbe
 use Rattle.jsonb_value.specs.Json.Numeral.{decimal_number, value_without_point, exponent_value}
 use Rattle.jsonb_value.specs.Json.Numeral.{scaled_number, numeral_meaning}
 use Rattle.jsonb_value.specs.Reader.Digits.{IsCounted, HasInteger}
-use Rattle.jsonb_value.proofs.Json.Tests.{and_both, and_true, by_false, by_true, cond_some}
+use Rattle.jsonb_value.proofs.Json.Tests.{and_true, by_false, cond_some}
 
 -- ---- past 128 bits
 
@@ -192,17 +191,3 @@ without_exponent n x e =
           ∙ ap (λ y. scaled_number (scale -ℤ exponent_value y) (value_without_point n)) (sym none)
           ∙ parts.1;
     }
-
-pub meant_without : (b : Bool) (w f : List ℕ) (x : Number) → is_whole w ≡ true
-    → all_digits f ≡ true
-    → number_of (length f) (signed_number b (digits_value 10 (w ++ f))) ≡ Some x
-    → numeral_meaning Forbidden (record {
-      is_negative = b;
-      whole = w;
-      fraction = f;
-      exponent = None;
-    }) ≡ Some x
-meant_without b w f x whole fraction worth =
-    by_true (is_whole w && all_digits f && true) _ None (Some x)
-    (and_both (is_whole w && all_digits f) true (and_both _ _ whole fraction) refl)
-    (scaled_plain (length f) (signed_number b (digits_value 10 (w ++ f))) ∙ worth)
