@@ -9,12 +9,11 @@ use Rattle.std.specs.Cmp.Lexicographic.{slice_cmp}
 use Rattle.std.proofs.lemmas.Cmp.{nat_list_cmp_total}
 use Rattle.std.proofs.lemmas.List.{map-append}
 use Rattle.std.specs.BTreeMap.{insert_entry}
-use mathlib.Core.Former as Former
-use Rattle.jsonb_value.specs.declared.value.Value.{Value, fold-Value}
+use Rattle.jsonb_value.specs.declared.value.Value.{Value}
 use Rattle.jsonb_value.specs.declared.error.Error.{Error}
 use Rattle.jsonb_value.specs.Tree.{Tree, Trees, no_trees, tree, Pairs, no_pairs, pair, Ascends}
 use Rattle.jsonb_value.specs.Tree.{Ascend}
-use Rattle.jsonb_value.specs.Value.{trees_of, string_pairs, tree_of, tree_step, pairs_view}
+use Rattle.jsonb_value.specs.Value.{trees_of, string_pairs, tree_of}
 use Rattle.jsonb_codec.specs.Doc.{Doc, IsDocument}
 use Rattle.jsonb_codec.specs.Parts.{IsPayloadOf}
 use Rattle.jsonb_codec.proofs.Unique.{same_tree}
@@ -71,13 +70,6 @@ insert_entry-append before (e ∷ es) k v t qs h =
 -- bytes of one type mean one tree
 pub meant : (ty : ℕ) (p : List ℕ) (t u : Tree) → IsPayloadOf ty p t → IsPayloadOf ty p u → t ≡ u
 meant ty p t u h k = same_tree t u (h.0 ∙ sym k.0) p h.1 k.1
-
-pairs_of-map : (es : List (String Global × Value))
-    → string_pairs
-    (map ((Former.pair (Former.const (String Global)) Former.this).map Value Tree
-    (fold-Value Tree tree_step)) es) ≡ pairs_view es
-pairs_of-map [] = refl
-pairs_of-map (e ∷ es) = ap (pair (string_bytes e.0) (tree_of e.1)) (pairs_of-map es)
 
 -- one more value was appended
 pub trees_and-push : (vs : List Value) (v : Value) {ws : List Value} {ts us others : Trees}

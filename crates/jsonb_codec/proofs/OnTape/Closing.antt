@@ -144,12 +144,6 @@ array_long words ts is long fits =
 
 -- ---- objects
 
-pub same_entries : (es : Entries)
-    → entries (pairs_shapes (pairs es)) ≡ entries (shapes_of (values_of es))
-same_entries [] = refl
-same_entries (e ∷ es) =
-    ap (λ x. word (shape_type (shape_of e.1) + length (payload_of e.1)) ++ x) (same_entries es)
-
 pub same_payloads : (es : Entries)
     → payloads (pairs_shapes (pairs es)) ≡ payloads (shapes_of (values_of es))
 same_payloads [] = refl

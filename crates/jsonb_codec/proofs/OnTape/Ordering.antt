@@ -73,13 +73,6 @@ member_read s base ps (n ∷ ms) (f ∷ read) zero m e h low is same =
 member_read s base ps (n ∷ ms) (f ∷ read) (suc i) m e h low is same =
     member_read s base ps ms read i m e h.1 (omega (arith, low)) is same
 
-pub picks_many : (read : Entries) (is : List ℕ) (es : Entries) → Picks read is es
-    → length is ≡ length es
-picks_many read [] [] h = refl
-picks_many read (i ∷ is) (e ∷ es) h = ap suc (picks_many read is es h.1)
-picks_many read [] (e ∷ es) h = absurd h
-picks_many read (i ∷ is) [] h = absurd h
-
 pub picked_snoc : (ms : List Member) (first : ℕ) (is : List ℕ) (picked : List Member) (i : ℕ)
     (m : Member) → ArePicked ms first is picked → m ≡ get_or ms (first + i) m
     → ArePicked ms first (is ++ i ∷ []) (picked ++ m ∷ [])

@@ -10,8 +10,8 @@ use Rattle.jsonb_value.specs.Json.Syntax.{Entries, pairs}
 use Rattle.jsonb_value.specs.Value.{trees_of}
 use Rattle.jsonb_value.specs.WellFormed.{AreTrees}
 use Rattle.jsonb_value.specs.Reader.Resume.{Content, items, members, at_key, going, put, Adds}
-use Rattle.jsonb_codec.specs.Shape.{AllFit, FitsInside, payloads}
-use Rattle.jsonb_codec.specs.Canon.{shape_of, payload_of}
+use Rattle.jsonb_codec.specs.Shape.{AllFit, payloads}
+use Rattle.jsonb_codec.specs.Canon.{payload_of}
 use Rattle.jsonb_codec.specs.Tape.{Joined, no_place, IsMade, IsScalar, ValuesAre}
 use Rattle.jsonb_codec.specs.Tape.{HasValuesIfFit, MembersAre, ObjectIs, shapes_of, AreOpen}
 use Rattle.jsonb_codec.specs.Tape.{tape_is, values_of}
@@ -215,12 +215,6 @@ array_ended s new f ps ws ms ts cs start size h on g begins made =
         (ap (λ v. length v.items) (sym head.stored.payload))
         (joined_grows s new f.start (drop (f.place + 1) ps) (length s.payload.items)
         (payloads (shapes_of ts)) g held.joined))
-
-pub array_unfit : (s : Storage) (f : Frame) (ps : List Place) (ws : List ℕ) (ms : List Member)
-    (b : ℕ) (ts : List Tree) (cs : List Content) → AreOpen s f ps ws ms b (items ts ∷ cs)
-    → f.fits ≡ false → FitsInside (shape_of (array (trees_of ts))) → ⊥
-array_unfit s f ps ws ms b ts cs h off fits =
-    subst (λ on. HasValuesIfFit on s f.start (drop (f.place + 1) ps) b ts) off h.0.values fits.1
 
 -- ---- an object ends
 

@@ -315,9 +315,3 @@ scalar_written t e w out is other word_is short written =
           ∙ ap (λ n. word SCALAR_CONTAINER_TAG ++ (word n ++ payload_of t))
           (word_is ∙ omega (arith, is.type, is.size)) ∙ sym scalar.0,
     )
-
-pub scalar_long : (t : Tree) (e : Entry) → EntryIs e t → e.type_code ≢ CONTAINER_TAG
-    → 2 ^ 28 ≤ e.size → Fits t → ⊥
-scalar_long t e is other long fits =
-    let scalar = scalar_canon t (λ same. other (is.type ∙ same)) in
-    omega (arith, is.size, long, scalar.1.1 fits)
