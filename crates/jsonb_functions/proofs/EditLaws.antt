@@ -50,7 +50,7 @@ use Rattle.jsonb_functions.specs.Edited.{Here, nothing, replaced, before, remove
 use Rattle.jsonb_functions.specs.Edited.{Operation, put, create, insert, remove, here_at}
 use Rattle.jsonb_functions.specs.Edited.{pairs_have_key, if_less, equal_or_later, edited_whole}
 use Rattle.jsonb_functions.specs.Edited.{before_if, can_wrap, here_last, here_missing, keys_before}
-use Rattle.jsonb_functions.specs.Edited.{wrapped}
+use Rattle.jsonb_functions.specs.Edited.{edited_items, edited_pairs, wrapped}
 use Rattle.jsonb_functions.specs.Edited.{done_after, pairs_done_after, IsPlaceAmong, count_done}
 use Rattle.jsonb_functions.specs.EditSource.{here_of, EditedIs, EditedItemsAre, EditedMembersAre}
 use Rattle.jsonb_functions.specs.EditSource.{EditedObjectIs, edited_along, made_tree}
@@ -497,6 +497,13 @@ module _ (IsKey : List ℕ → Type 0) where
       keyed (part_is part f.value f.is)
       (unchanged_members_are rest later f.others same start none f.left)
 
+pub rekeyed : (IsKey : List ℕ → Type 0) (key : List ℕ) (child : Edited) (rest : EditedMembers)
+    (ss : Shapes) → IsKey key
+    → AreSplit (λ k. k ≡ key) EditedIs EditedMembersAre (child, rest) ss
+    → AreSplit IsKey EditedIs EditedMembersAre (child, rest) ss
+rekeyed IsKey key child rest no_shapes keyed h = absurd h
+rekeyed IsKey key child rest (shape k s ss) keyed h = (rw h.0 keyed, h.1)
+
 -- ---- the level of a part
 
 pub known_shape : (part : Part) → (s : Shape) × PartIs part s
@@ -606,41 +613,35 @@ within_key key ps path operation f =
     (pair_count ps) (keys_within key ps) (key_there key ps)
 
 pub array_edited : (path rest : List Step) (s : Step) (operation : Operation) (t : Tree)
-    (ts : Trees)
-    (place : ℕ × Bool) → path ≡ s ∷ rest → t ≡ array ts → Some place ≡ item_place s (trees.count ts)
-    → shape_of (edited path operation t)
-    ≡ shapes.array (items_shapes (done_after
-    (here_at true place.1 (is_next s (trees.count ts)) rest operation
-    (λ u. edited rest operation u)) place.0 ts))
-array_edited path rest s operation t ts place path_is is e = rw (path_is, is, ← e) refl
+    (ts : Trees) → path ≡ s ∷ rest → t ≡ array ts → shape_of (edited path operation t)
+    ≡ shapes.array (items_shapes (edited_items s rest operation (λ u. edited rest operation u) ts))
+array_edited path rest s operation t ts path_is is = rw (path_is, is) refl
 
-pub level_array : (x : EditedItems) (s : Step) (path rest : List Step) (operation : Operation)
-    (t : Tree)
-    (ts : Trees) (place : ℕ × Bool) → path ≡ s ∷ rest → t ≡ array ts → AreChildren ts x.items
+pub object_edited : (path rest : List Step) (s : Step) (operation : Operation) (t : Tree)
+    (ps : Pairs) → path ≡ s ∷ rest → t ≡ object ps → shape_of (edited path operation t)
+    ≡ shapes.object (pairs_shapes (edited_pairs s rest operation (λ u. edited rest operation u) ps))
+object_edited path rest s operation t ps path_is is = rw (path_is, is) refl
+
+pub items_edited : (x : EditedItems) (s : Step) (rest : List Step) (operation : Operation)
+    (f : Tree → Tree) (ts : Trees) (place : ℕ × Bool) → AreChildren ts x.items
     → Some place ≡ item_place s (trees.count ts) → x.before ≡ place.0
-    → here_of x.what ≡ here_at true place.1 (is_next s (trees.count ts)) rest operation
-    (λ u. edited rest operation u)
-    → (ss : Shapes) × ((shape_of (edited path operation t) ≡ shapes.array ss) × EditedItemsAre x ss)
-level_array x s path rest operation t ts place path_is is are e start what =
-    let within = within_item s (trees.count ts) place (is_next s (trees.count ts)) rest operation
-    (λ u. edited rest operation u) e in (
-      items_shapes (done_after (here_of x.what) x.before ts),
-      (
-        array_edited path rest s operation t ts place path_is is e ∙ rw (start, what) refl,
-        items_by x ts are (rw (start, what) within),
-      ),
-    )
+    → here_of x.what ≡ here_at true place.1 (is_next s (trees.count ts)) rest operation f
+    → EditedItemsAre x (items_shapes (edited_items s rest operation f ts))
+items_edited x s rest operation f ts place are e start what =
+    let within = within_item s (trees.count ts) place (is_next s (trees.count ts)) rest operation f e
+    in
+    let same : done_after (here_of x.what) x.before ts ≡ edited_items s rest operation f ts =
+    rw (← e, start, what) refl in
+    subst (λ us. EditedItemsAre x (items_shapes us)) same
+    (items_by x ts are (rw (start, what) within))
 
-pub level_same_array : (x : EditedItems) (items : declared.Children) (s : Step)
-    (path rest : List Step) (operation : Operation) (t : Tree) (ts : Trees) → path ≡ s ∷ rest → t
-    ≡ array ts
-    → AreChildren ts items → None ≡ item_place s (trees.count ts) → x.items ≡ items
-    → x.before ≡ 0 → here_of x.what ≡ nothing
-    → (ss : Shapes) × ((shape_of (edited path operation t) ≡ shapes.array ss) × EditedItemsAre x ss)
-level_same_array x items s path rest operation t ts path_is is are e same start what = (
-  items_shapes ts,
-  (rw (path_is, is, ← e) refl, unchanged_are x items ts same start what are),
-)
+pub items_left : (x : EditedItems) (items : declared.Children) (s : Step) (rest : List Step)
+    (operation : Operation) (f : Tree → Tree) (ts : Trees) → AreChildren ts items
+    → None ≡ item_place s (trees.count ts) → x.items ≡ items → x.before ≡ 0
+    → here_of x.what ≡ nothing
+    → EditedItemsAre x (items_shapes (edited_items s rest operation f ts))
+items_left x items s rest operation f ts are e same start what =
+    rw (← e) (unchanged_are x items ts same start what are)
 
 pub object_by : (x : EditedObject) (ps : Pairs) → IsObject x.object.count x.object.body.now ps
     → IsPlaceAmong (here_of x.what) x.before (pair_count ps)
@@ -651,31 +652,37 @@ object_by x ps h w = (
       (object_unique _ _ ps us h k.0),
 )
 
-pub other_object : (path rest : List Step) (s : Step) (operation : Operation) (t : Tree)
-    (ps : Pairs)
-    → path ≡ s ∷ rest → t ≡ object ps → ((k : Bor (List ℕ)) → s ≡ Key k → ⊥)
-    → edited path operation t ≡ t
-other_object path rest (Key k) operation t ps e is other = absurd (other k refl)
-other_object path rest (Index i) operation t ps e is other = rw (e, is) refl
-other_object path rest (FromEnd i) operation t ps e is other = rw (e, is) refl
+pub unchanged_object_is : (x : EditedObject) (o : Object) (ps : Pairs) → x.object ≡ o
+    → x.before ≡ 0 → here_of x.what ≡ nothing → IsObject o.count o.body.now ps
+    → EditedObjectIs x (pairs_shapes ps)
+unchanged_object_is x o ps same start none h =
+    let are : IsObject x.object.count x.object.body.now ps = rw same h in (
+      (ps, (are, rw none tt)),
+      λ us k. rw (none, start) (ap pairs_shapes (object_unique _ _ ps us are k.0)),
+    )
 
-pub level_object : (x : EditedObject) (key : Bor (List ℕ)) (path rest : List Step)
-    (operation : Operation)
-    (t : Tree) (ps : Pairs) → path ≡ Key key ∷ rest → t ≡ object ps
+pub object_left : (x : EditedObject) (o : Object) (s : Step) (rest : List Step)
+    (operation : Operation) (f : Tree → Tree) (ps : Pairs)
+    → ((k : Bor (List ℕ)) → s ≡ Key k → ⊥) → IsObject o.count o.body.now ps
+    → x.object ≡ o → x.before ≡ 0 → here_of x.what ≡ nothing
+    → EditedObjectIs x (pairs_shapes (edited_pairs s rest operation f ps))
+object_left x o (Key k) rest operation f ps other are same start what = absurd (other k refl)
+object_left x o (Index i) rest operation f ps other are same start what =
+    unchanged_object_is x o ps same start what are
+object_left x o (FromEnd i) rest operation f ps other are same start what =
+    unchanged_object_is x o ps same start what are
+
+pub key_edited : (x : EditedObject) (key : Bor (List ℕ)) (s : Step) (rest : List Step)
+    (operation : Operation) (f : Tree → Tree) (ps : Pairs) → s ≡ Key key
     → IsObject x.object.count x.object.body.now ps → x.key.now ≡ key.now
     → x.before ≡ keys_before key.now ps
-    → here_of x.what ≡ here_at false (pairs_have_key key.now ps) true rest operation
-    (λ u. edited rest operation u)
-    → (ss : Shapes)
-    × ((shape_of (edited path operation t) ≡ shapes.object ss) × EditedObjectIs x ss)
-level_object x key path rest operation t ps path_is is are same start what = (
-  pairs_shapes (pairs_done_after x.key.now (here_of x.what) x.before ps),
-  (
-    rw (path_is, is, same, start, what) refl,
-    object_by x ps are (rw (start, what)
-        (within_key key.now ps rest operation (λ u. edited rest operation u))),
-  ),
-)
+    → here_of x.what ≡ here_at false (pairs_have_key key.now ps) true rest operation f
+    → EditedObjectIs x (pairs_shapes (edited_pairs s rest operation f ps))
+key_edited x key s rest operation f ps is are same start what =
+    let all : pairs_done_after x.key.now (here_of x.what) x.before ps
+    ≡ edited_pairs s rest operation f ps = rw (is, same, start, what) refl in
+    subst (λ us. EditedObjectIs x (pairs_shapes us)) all
+    (object_by x ps are (rw (start, what) (within_key key.now ps rest operation f)))
 
 pub item_count : (items : declared.Children) (ts : Trees) → AreChildren ts items
     → length items.entries.now / 4 ≡ trees.count ts

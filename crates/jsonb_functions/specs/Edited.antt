@@ -144,15 +144,23 @@ pairs_done (Some key) path operation below ps =
     pairs_done_after key (here_at false (pairs_have_key key ps) true path operation below)
     (keys_before key ps) ps
 
+-- Items, edited where a step leads, by a function of the child where later steps are left.
+abbrev pub edited_items : Step → List Step → Operation → (Tree → Tree) → Trees → Trees
+edited_items s path operation below ts =
+    items_done (item_place s (count ts)) (is_next s (count ts)) path operation below ts
+
+-- The same of pairs.
+abbrev pub edited_pairs : Step → List Step → Operation → (Tree → Tree) → Pairs → Pairs
+edited_pairs s path operation below ps = pairs_done (step_key s) path operation below ps
+
 -- The tree, edited at the end of a path that has a step at least. It is unchanged if the path leads
 -- nowhere.
 abbrev pub edited : List Step → Operation → Tree → Tree
 edited [] operation t = t
 edited (s ∷ path) operation (array ts) =
-    array (items_done (item_place s (count ts)) (is_next s (count ts)) path operation
-    (λ t. edited path operation t) ts)
+    array (edited_items s path operation (λ t. edited path operation t) ts)
 edited (s ∷ path) operation (object ps) =
-    object (pairs_done (step_key s) path operation (λ t. edited path operation t) ps)
+    object (edited_pairs s path operation (λ t. edited path operation t) ps)
 edited (s ∷ path) operation t = t
 
 -- The same with any path: at the end of a path of no step is the whole tree, which a value that is

@@ -1,17 +1,21 @@
 //! Edited copies of documents, written in one pass in canonical form.
 
-ghost use Rattle.std.specs.Prelude.{◌≡◌, ◌≤◌, ◌<◌, ◌+◌, ◌^◌, length, IfOk, true, false};
+ghost use Rattle.std.specs.Prelude.{◌≡◌, ◌≤◌, ◌<◌, ◌+◌, ◌^◌, [], length, IfOk, IfSome, true, false};
+ghost use Rattle.std.specs.Prelude.{MatchOption};
 ghost use Rattle.jsonb_functions.specs.EditSource.{edit_laws, edit_meaning};
-ghost use Rattle.jsonb_functions.specs.Words.{AreChildren, AreMembers, Fits, IsObject, LevelIs};
-ghost use Rattle.jsonb_functions.specs.Words.{MadeIfFit, PartMeans, Pairs, Shape, Tree, before_if};
-ghost use Rattle.jsonb_functions.specs.Words.{can_wrap, canon, code_of, count_done, document_tree};
-ghost use Rattle.jsonb_functions.specs.Words.{edit_operation, edited, edited_along, edited_whole};
-ghost use Rattle.jsonb_functions.specs.Words.{here_at, here_missing, here_of, items_size};
+ghost use Rattle.jsonb_functions.specs.Words.{AreChildren, AreMembers, AreSplit, EditedIs};
+ghost use Rattle.jsonb_functions.specs.Words.{EditedItemsAre, EditedMembersAre, EditedObjectIs};
+ghost use Rattle.jsonb_functions.specs.Words.{Fits, IsObject, LevelIs, MadeIfFit, PartMeans, Pairs};
+ghost use Rattle.jsonb_functions.specs.Words.{Shape, Shapes, Tree, Trees, before_if, can_wrap};
+ghost use Rattle.jsonb_functions.specs.Words.{canon, code_of, count, count_done, document_tree};
+ghost use Rattle.jsonb_functions.specs.Words.{edit_operation, edited, edited_along, edited_items};
+ghost use Rattle.jsonb_functions.specs.Words.{edited_pairs, edited_size, edited_whole, here_at};
+ghost use Rattle.jsonb_functions.specs.Words.{here_missing, here_of, items_shapes, items_size};
 ghost use Rattle.jsonb_functions.specs.Words.{keys_before, level_size, made_size, made_tree};
-ghost use Rattle.jsonb_functions.specs.Words.{makes_container, no_pairs, no_trees, operation_of};
-ghost use Rattle.jsonb_functions.specs.Words.{owned_bytes, pairs_have_key, part_meaning, part_tree};
-ghost use Rattle.jsonb_functions.specs.Words.{plan_size, position_view, shape_of, what_size};
-ghost use Rattle.jsonb_functions.specs.Words.{wrapped};
+ghost use Rattle.jsonb_functions.specs.Words.{makes_container, no_pairs, no_shapes, no_trees};
+ghost use Rattle.jsonb_functions.specs.Words.{operation_of, owned_bytes, pairs_have_key};
+ghost use Rattle.jsonb_functions.specs.Words.{pairs_shapes, part_meaning, part_tree, plan_size};
+ghost use Rattle.jsonb_functions.specs.Words.{position_view, shape_of, what_size, wrapped};
 
 use crate::path::{Position, Step, is_next, item_position};
 use jsonb::constants::CONTAINER_TAG;
@@ -175,17 +179,8 @@ fn lifted<'a>(level: PartLevel<'a>) -> EditedLevel<'a>
 {
     match level {
         Level::Leaf(leaf) => Level::Leaf(leaf),
-        Level::Array(items) => Level::Array(EditedItems {
-            items,
-            before: 0,
-            what: What::Nothing,
-        }),
-        Level::Object(object) => Level::Object(EditedObject {
-            object,
-            before: 0,
-            key: "",
-            what: What::Nothing,
-        }),
+        Level::Array(items) => Level::Array(unchanged_items(items)),
+        Level::Object(object) => Level::Object(unchanged_object(object)),
     }
 }
 
@@ -202,41 +197,52 @@ fn edited_level<'a>(part: Part<'a>, plan: Plan<'a>) -> EditedLevel<'a>
     if part.type_code != CONTAINER_TAG {
         return lifted(Part::level(part));
     }
+    let later = Plan {
+        path: rest,
+        change: plan.change,
+    };
     match part.contents() {
-        Contents::Array(items) => {
-            let count = items.entries.len() / 4;
-            let Some(position) = item_position(*step, count) else {
-                return Level::Array(unchanged_items(items));
-            };
-            let later = Plan {
-                path: rest,
-                change: plan.change,
-            };
-            let is_next = is_next(*step, count);
-            let what = what_at(true, position.is_there, is_next, later);
-            Level::Array(EditedItems {
-                items,
-                before: position.before,
-                what,
-            })
-        }
-        Contents::Object(object) => {
-            let Step::Key(key) = *step else {
-                return lifted(Part::level(part));
-            };
-            let position = position_of_key(object.members(), key);
-            let later = Plan {
-                path: rest,
-                change: plan.change,
-            };
-            let what = what_at(false, position.is_there, true, later);
-            Level::Object(EditedObject {
-                object,
-                before: position.before,
-                key,
-                what,
-            })
-        }
+        Contents::Array(items) => Level::Array(edited_items(items, *step, later)),
+        Contents::Object(object) => Level::Object(edited_object(object, *step, later)),
+    }
+}
+
+// The items, edited where a step leads, with a plan for later steps.
+fn edited_items<'a>(items: Children<'a>, step: Step<'a>, later: Plan<'a>) -> EditedItems<'a>
+    ensures are { (ts : Trees) → AreChildren ts items.entry → EditedItemsAre result
+        (items_shapes (edited_items step.entry later.entry.path.now
+        (operation_of later.entry.change.now) (λ t. edited_along later.entry t) ts)) }
+    ensures size { items_size result.items + what_size result.what
+        ≤ items_size items.entry + (1 + plan_size later.entry) }
+{
+    let count = items.entries.len() / 4;
+    let Some(position) = item_position(step, count) else {
+        return unchanged_items(items);
+    };
+    EditedItems {
+        items,
+        before: position.before,
+        what: what_at(true, position.is_there, is_next(step, count), later),
+    }
+}
+
+// The object, edited where a step leads, with a plan for later steps.
+fn edited_object<'a>(object: Object<'a>, step: Step<'a>, later: Plan<'a>) -> EditedObject<'a>
+    ensures is { (ps : Pairs) → IsObject object.entry.count object.entry.body.now ps
+        → EditedObjectIs result (pairs_shapes (edited_pairs step.entry later.entry.path.now
+        (operation_of later.entry.change.now) (λ t. edited_along later.entry t) ps)) }
+    ensures size { length result.object.body.now + what_size result.what
+        ≤ length object.entry.body.now + (1 + plan_size later.entry) }
+{
+    let Step::Key(key) = step else {
+        return unchanged_object(object);
+    };
+    let position = position_of_key(object.members(), key);
+    EditedObject {
+        object,
+        before: position.before,
+        key,
+        what: what_at(false, position.is_there, true, later),
     }
 }
 
@@ -451,40 +457,16 @@ impl<'a> Source for Edited<'a> {
 
     #[inline(always)]
     fn split_item(items: EditedItems<'a>) -> Option<(Edited<'a>, EditedItems<'a>)> {
-        let EditedItems {
-            items,
-            before,
-            what,
-        } = items;
-        if before > 0 {
-            let Child { part, later } = items.split_first()?;
+        if items.before > 0 {
+            let Child { part, later } = items.items.split_first()?;
             let later = EditedItems {
                 items: later,
-                before: before - 1,
-                what,
+                before: items.before - 1,
+                what: items.what,
             };
             return Some((Edited::Kept(part), later));
         }
-        match what {
-            What::Insert(made) => Some((Edited::Made(made), unchanged_items(items))),
-            What::Put(value) => {
-                let Child { later, .. } = items.split_first()?;
-                Some((Edited::Kept(*value), unchanged_items(later)))
-            }
-            What::Below(plan) => {
-                let Child { part, later } = items.split_first()?;
-                Some((Edited::Along(part, plan), unchanged_items(later)))
-            }
-            What::Remove => {
-                let Child { later, .. } = items.split_first()?;
-                let Child { part, later } = later.split_first()?;
-                Some((Edited::Kept(part), unchanged_items(later)))
-            }
-            What::Nothing => {
-                let Child { part, later } = items.split_first()?;
-                Some((Edited::Kept(part), unchanged_items(later)))
-            }
-        }
+        changed_item(items)
     }
 
     #[inline(always)]
@@ -517,56 +499,96 @@ impl<'a> Source for Edited<'a> {
     fn split_member(
         members: EditedMembers<'a>,
     ) -> Option<(StoredEntry<'a>, (Edited<'a>, EditedMembers<'a>))> {
-        let EditedMembers {
-            members,
-            before,
-            key: new_key,
-            what,
-        } = members;
-        if before > 0 {
-            let Member { key, value, later } = members.split_first()?;
-            let later = EditedMembers {
-                members: later,
-                before: before - 1,
-                key: new_key,
-                what,
-            };
-            return Some((StoredEntry::of_text(key), (Edited::Kept(value), later)));
+        let (key, value, later) = next_member(members)?;
+        Some((StoredEntry::of_text(key), (value, later)))
+    }
+}
+
+// The first item, where something is done, and the items after it.
+#[inline(always)]
+fn changed_item<'a>(items: EditedItems<'a>) -> Option<(Edited<'a>, EditedItems<'a>)>
+    requires here { items.before ≡ 0 }
+    ensures split { (ss : Shapes) → EditedItemsAre items.entry ss → MatchOption result
+        (ss ≡ no_shapes) (λ x. AreSplit (λ key. key ≡ []) EditedIs EditedItemsAre x ss) }
+    ensures size { IfSome result (λ x. edited_size x.0 + edit_meaning.items_size x.1
+        < edit_meaning.items_size items.entry) }
+{
+    let left = items.items;
+    match items.what {
+        What::Insert(made) => Some((Edited::Made(made), unchanged_items(left))),
+        What::Put(value) => {
+            let Child { later, .. } = left.split_first()?;
+            Some((Edited::Kept(*value), unchanged_items(later)))
         }
-        match what {
-            What::Insert(made) => Some((
-                StoredEntry::of_text(new_key),
-                (Edited::Made(made), unchanged_members(members)),
-            )),
-            What::Put(value) => {
-                let Member { key, later, .. } = members.split_first()?;
-                Some((
-                    StoredEntry::of_text(key),
-                    (Edited::Kept(*value), unchanged_members(later)),
-                ))
-            }
-            What::Below(plan) => {
-                let Member { key, value, later } = members.split_first()?;
-                Some((
-                    StoredEntry::of_text(key),
-                    (Edited::Along(value, plan), unchanged_members(later)),
-                ))
-            }
-            What::Remove => {
-                let Member { later, .. } = members.split_first()?;
-                let Member { key, value, later } = later.split_first()?;
-                Some((
-                    StoredEntry::of_text(key),
-                    (Edited::Kept(value), unchanged_members(later)),
-                ))
-            }
-            What::Nothing => {
-                let Member { key, value, later } = members.split_first()?;
-                Some((
-                    StoredEntry::of_text(key),
-                    (Edited::Kept(value), unchanged_members(later)),
-                ))
-            }
+        What::Below(plan) => {
+            let Child { part, later } = left.split_first()?;
+            Some((Edited::Along(part, plan), unchanged_items(later)))
+        }
+        What::Remove => {
+            let Child { later, .. } = left.split_first()?;
+            let Child { part, later } = later.split_first()?;
+            Some((Edited::Kept(part), unchanged_items(later)))
+        }
+        What::Nothing => {
+            let Child { part, later } = left.split_first()?;
+            Some((Edited::Kept(part), unchanged_items(later)))
+        }
+    }
+}
+
+// The key and the value of the first member, and the members after it.
+#[inline(always)]
+fn next_member<'a>(members: EditedMembers<'a>) -> Option<(&'a str, Edited<'a>, EditedMembers<'a>)>
+    ensures split { (ss : Shapes) → EditedMembersAre members.entry ss → MatchOption result
+        (ss ≡ no_shapes) (λ x. AreSplit (λ key. key ≡ x.0.now) EditedIs EditedMembersAre
+        (x.1, x.2) ss) }
+    ensures size { IfSome result (λ x. edited_size x.1 + edit_meaning.members_size x.2
+        < edit_meaning.members_size members.entry) }
+{
+    if members.before > 0 {
+        let Member { key, value, later } = members.members.split_first()?;
+        let later = EditedMembers {
+            members: later,
+            before: members.before - 1,
+            key: members.key,
+            what: members.what,
+        };
+        return Some((key, Edited::Kept(value), later));
+    }
+    changed_member(members)
+}
+
+// The same of members of which something is done to the first.
+#[inline(always)]
+fn changed_member<'a>(
+    members: EditedMembers<'a>,
+) -> Option<(&'a str, Edited<'a>, EditedMembers<'a>)>
+    requires here { members.before ≡ 0 }
+    ensures split { (ss : Shapes) → EditedMembersAre members.entry ss → MatchOption result
+        (ss ≡ no_shapes) (λ x. AreSplit (λ key. key ≡ x.0.now) EditedIs EditedMembersAre
+        (x.1, x.2) ss) }
+    ensures size { IfSome result (λ x. edited_size x.1 + edit_meaning.members_size x.2
+        < edit_meaning.members_size members.entry) }
+{
+    let left = members.members;
+    match members.what {
+        What::Insert(made) => Some((members.key, Edited::Made(made), unchanged_members(left))),
+        What::Put(value) => {
+            let Member { key, later, .. } = left.split_first()?;
+            Some((key, Edited::Kept(*value), unchanged_members(later)))
+        }
+        What::Below(plan) => {
+            let Member { key, value, later } = left.split_first()?;
+            Some((key, Edited::Along(value, plan), unchanged_members(later)))
+        }
+        What::Remove => {
+            let Member { later, .. } = left.split_first()?;
+            let Member { key, value, later } = later.split_first()?;
+            Some((key, Edited::Kept(value), unchanged_members(later)))
+        }
+        What::Nothing => {
+            let Member { key, value, later } = left.split_first()?;
+            Some((key, Edited::Kept(value), unchanged_members(later)))
         }
     }
 }
@@ -605,6 +627,22 @@ fn unchanged_members<'a>(members: Members<'a>) -> EditedMembers<'a>
 {
     EditedMembers {
         members,
+        before: 0,
+        key: "",
+        what: What::Nothing,
+    }
+}
+
+// The object as it is.
+#[inline(always)]
+fn unchanged_object<'a>(object: Object<'a>) -> EditedObject<'a>
+    ensures object { result.object ≡ object.entry }
+    ensures before { result.before ≡ 0 }
+    ensures what { here_of result.what ≡ here_of What.Nothing }
+    ensures size { what_size result.what ≡ 0 }
+{
+    EditedObject {
+        object,
         before: 0,
         key: "",
         what: What::Nothing,

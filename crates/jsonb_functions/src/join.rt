@@ -119,22 +119,10 @@ fn next_merged<'a>(left: Members<'a>, right: Option<Members<'a>>) -> Option<Next
         ≤ keys_size left.entry + maybe_keys_size right.entry) }
 {
     let Some(members) = right else {
-        let Member { key, value, later } = left.split_first()?;
-        return Some(NextMember {
-            key,
-            value,
-            left: later,
-            right: None,
-        });
+        return left_member(left);
     };
     let Some(second) = members.split_first() else {
-        let Member { key, value, later } = left.split_first()?;
-        return Some(NextMember {
-            key,
-            value,
-            left: later,
-            right: None,
-        });
+        return left_member(left);
     };
     let of_second = NextMember {
         key: second.key,
@@ -153,13 +141,31 @@ fn next_merged<'a>(left: Members<'a>, right: Option<Members<'a>>) -> Option<Next
             right,
         }),
         Ordering::Equal => Some(NextMember {
-            key: second.key,
-            value: second.value,
             left: first.later,
-            right: Some(second.later),
+            ..of_second
         }),
         Ordering::Greater => Some(of_second),
     }
+}
+
+// The first member of the left object, where the right one has no more.
+#[inline(always)]
+fn left_member<'a>(left: Members<'a>) -> Option<NextMember<'a>>
+    ensures first { (ps : Pairs) → AreMembers ps left.entry
+        → MatchOption result (ps ≡ no_pairs) (λ m. FirstMerged ps m) }
+    ensures size { IfSome result (λ m. length m.value.payload.now
+        + (items_size m.left.values + maybe_members_size m.right)
+        < items_size left.entry.values) }
+    ensures keys { IfSome result (λ m. 1 + (keys_size m.left + maybe_keys_size m.right)
+        ≤ keys_size left.entry) }
+{
+    let Member { key, value, later } = left.split_first()?;
+    Some(NextMember {
+        key,
+        value,
+        left: later,
+        right: None,
+    })
 }
 
 // How many members two objects make.
