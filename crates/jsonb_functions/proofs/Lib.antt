@@ -15,6 +15,7 @@ pub mod FoundLaws
 pub mod HashLaws
 pub mod JoinLaws
 pub mod JoinShapes
+pub mod OverlayLaws
 pub mod PatchLaws
 pub mod PatchShapes
 pub mod StripLaws

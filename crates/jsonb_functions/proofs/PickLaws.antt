@@ -12,18 +12,11 @@ use Rattle.std.proofs.lemmas.Bool.{ltb-true, ltb-false}
 use Rattle.std.proofs.lemmas.List.Folds.{list_any_at, list_any_none}
 use Rattle.std.proofs.lemmas.List.Sorted.{list_any-IsPermutation, searchable_from_sorted}
 use Rattle.jsonb_value.specs.Tree.{Tree, Trees, Pairs, no_pairs, pair, null, boolean, number, text}
-use Rattle.jsonb_value.specs.Tree.{extension, array, object, pair_count}
+use Rattle.jsonb_value.specs.Tree.{extension, array, object}
 use Rattle.jsonb_codec.specs.declared.constants.TheConstants.{CONTAINER_TAG}
-use Rattle.jsonb_codec.specs.Canon.{shape_of, pairs_shapes}
 use Rattle.jsonb_codec.specs.Doc.{type_of}
-use Rattle.jsonb_codec.specs.Parts.{IsObject}
-use Rattle.jsonb_codec.specs.Shape as shapes
-use Rattle.jsonb_codec.specs.Shape.{Shapes}
 use Rattle.jsonb_functions.specs.declared.choice.Kept.{Kept}
-use Rattle.jsonb_functions.specs.declared.chosen.ChosenObject.{ChosenObject}
-use Rattle.jsonb_functions.specs.ChosenSource.{ChosenObjectIs, kept_pairs}
-use Rattle.jsonb_functions.specs.Picked.{AreSorted, is_named, keeps, picked, picked_pairs}
-use Rattle.jsonb_functions.proofs.ChosenLaws.{object_chosen}
+use Rattle.jsonb_functions.specs.Picked.{AreSorted, is_named, picked, picked_pairs}
 
 -- What is less before a place and greater from there on is nowhere the same.
 pub not_same : (o : Ordering) (i j : ℕ) (b : Bool) → nat_lt j i ≡ b → (j < i → o ≡ Less)
@@ -67,17 +60,6 @@ same_picked names sorted which (text s) h = refl
 same_picked names sorted which (extension e) h = refl
 same_picked names sorted which (array ts) h = refl
 
--- A member that is kept comes first, and one that is not is passed over.
-pub kept_first : (names : List (Bor (List ℕ))) (which : Kept) (k : List ℕ) (t : Tree) (ps : Pairs)
-    → keeps which (is_named names k) ≡ true
-    → picked_pairs names which (pair k t ps) ≡ pair k t (picked_pairs names which ps)
-kept_first names which k t ps e = rw e refl
-
-pub passed_over : (names : List (Bor (List ℕ))) (which : Kept) (k : List ℕ) (t : Tree) (ps : Pairs)
-    → keeps which (is_named names k) ≡ false
-    → picked_pairs names which (pair k t ps) ≡ picked_pairs names which ps
-passed_over names which k t ps e = rw e refl
-
 -- What is not an object is kept whole.
 pub picked_other : (names : List (Bor (List ℕ))) (which : Kept) (t : Tree)
     → (type_of t ≡ CONTAINER_TAG → ⊥) → picked names which t ≡ t
@@ -93,9 +75,6 @@ pub picked_array : (names : List (Bor (List ℕ))) (which : Kept) (t : Tree) (ts
     → t ≡ array ts → picked names which t ≡ t
 picked_array names which t ts e = rw e refl
 
-pub picked_object : (x : ChosenObject) (t : Tree) (ps : Pairs) → t ≡ object ps
-    → IsObject x.object.count x.object.body.now ps → x.count ≡ pair_count (kept_pairs x.choice ps)
-    → (ss : Shapes) × ((shape_of (picked x.choice.names.now x.choice.which t) ≡ shapes.object ss)
-    × ChosenObjectIs x ss)
-picked_object x t ps e h n =
-    (pairs_shapes (kept_pairs x.choice ps), (rw e refl, object_chosen x ps h n))
+pub picked_object : (names : List (Bor (List ℕ))) (which : Kept) (t : Tree) (ps : Pairs)
+    → t ≡ object ps → picked names which t ≡ object (picked_pairs names which ps)
+picked_object names which t ps e = rw e refl

@@ -1,14 +1,10 @@
 -- What the parts of a document that is edited are written as: the shapes of the edited trees.
-use Rattle.std.specs.Prelude.{◌≡◌, ◌+◌, ℕ, suc, ⊤, length}
-use Rattle.std.proofs.Common.{ap, ◌∙◌}
-use Rattle.jsonb_value.specs.Tree.{Tree, count, pair_count}
+use Rattle.std.specs.Prelude.{◌≡◌, ◌+◌, ℕ, suc, length}
+use Rattle.std.proofs.Common.{sym, ◌∙◌}
+use Rattle.jsonb_value.specs.Tree.{Tree, Trees, Pairs, count, pair_count}
 use Rattle.jsonb_codec.specs.Contents.{PartMeans, AreChildren, AreMembers}
-use Rattle.jsonb_codec.specs.Parts.{IsObject}
-use Rattle.jsonb_codec.specs.Shape.{Shape, Shapes, key_payloads}
-use Rattle.jsonb_codec.specs.Source.{SourceMeaning, Laws}
-use Rattle.jsonb_codec.specs.Canon.{shape_of, items_shapes, pairs_shapes, bare}
-use Rattle.jsonb_codec.specs.PartSource.{Shaped, one_shaped, PartIs}
 use Rattle.jsonb_codec.specs.PartSource as parts
+use Rattle.jsonb_codec.proofs.Unique.{Children-unique, pairs_unique}
 use Rattle.jsonb.specs.Document.{document_tree}
 use Rattle.jsonb.specs.EntryTrees.{part_tree}
 use Rattle.jsonb_functions.specs.declared.edit.Edit.{Edit}
@@ -22,11 +18,12 @@ use Rattle.jsonb_functions.specs.declared.edit.What.TheVariants as whats
 use Rattle.jsonb_functions.specs.declared.edit.Edited.{Edited}
 use Rattle.jsonb_functions.specs.declared.edit.Edited.TheVariants as children
 use Rattle.jsonb_functions.specs.declared.edit.EditedItems.{EditedItems}
-use Rattle.jsonb_functions.specs.declared.edit.EditedObject.{EditedObject}
 use Rattle.jsonb_functions.specs.declared.edit.EditedMembers.{EditedMembers}
 use Rattle.jsonb_functions.specs.Edited.{Operation, put, create, insert, remove, Here, nothing}
 use Rattle.jsonb_functions.specs.Edited.{replaced, before, removed, edited, done_after, wrapped}
 use Rattle.jsonb_functions.specs.Edited.{pairs_done_after, IsPlaceAmong}
+use Rattle.jsonb_functions.specs.Overlay.{OverlayMeaning, OverlayLaws, Becomes, one_becomes}
+use Rattle.jsonb_functions.specs.Overlay.{part_unique}
 
 -- What a change does, by its value's tree.
 abbrev pub operation_of : Change → Operation
@@ -58,29 +55,23 @@ here_of (whats.Insert made) = before (made_tree made)
 here_of whats.Remove = removed
 here_of (whats.Below plan) = replaced (λ t. edited_along plan t)
 
--- The shape of a part, of what it becomes along a path, or of a value in containers.
-abbrev pub EditedIs : Edited → Shape → Type 0
-EditedIs (children.Kept part) s = PartIs part s
-EditedIs (children.Along part plan) s =
-    Shaped (λ t. PartMeans part t) (λ t. shape_of (edited_along plan t)) s
-EditedIs (children.Made made) s = s ≡ shape_of (made_tree made)
+-- The tree of what a part becomes along a path, or of a value in containers.
+abbrev pub EditedMeans : Edited → Tree → Type 0
+EditedMeans (children.Along part plan) t =
+    Becomes (λ u. PartMeans part u) (λ u. edited_along plan u) t
+EditedMeans (children.Made made) t = t ≡ made_tree made
 
--- The shapes of items, after what is done among them.
-abbrev pub EditedItemsAre : EditedItems → Shapes → Type 0
-EditedItemsAre x =
-    Shaped (λ ts. AreChildren ts x.items × IsPlaceAmong (here_of x.what) x.before (count ts))
-    (λ ts. items_shapes (done_after (here_of x.what) x.before ts))
+-- The trees of items, after what is done among them.
+abbrev pub EditedItemsMean : EditedItems → Trees → Type 0
+EditedItemsMean x =
+    Becomes (λ ts. AreChildren ts x.items × IsPlaceAmong (here_of x.what) x.before (count ts))
+    (λ ts. done_after (here_of x.what) x.before ts)
 
-abbrev pub EditedObjectIs : EditedObject → Shapes → Type 0
-EditedObjectIs x =
-    Shaped (λ ps. IsObject x.object.count x.object.body.now ps
+abbrev pub EditedMembersMean : EditedMembers → Pairs → Type 0
+EditedMembersMean x =
+    Becomes (λ ps. AreMembers ps x.members
     × IsPlaceAmong (here_of x.what) x.before (pair_count ps))
-    (λ ps. pairs_shapes (pairs_done_after x.key.now (here_of x.what) x.before ps))
-
-abbrev pub EditedMembersAre : EditedMembers → Shapes → Type 0
-EditedMembersAre x =
-    Shaped (λ ps. AreMembers ps x.members × IsPlaceAmong (here_of x.what) x.before (pair_count ps))
-    (λ ps. pairs_shapes (pairs_done_after x.key.now (here_of x.what) x.before ps))
+    (λ ps. pairs_done_after x.key.now (here_of x.what) x.before ps)
 
 -- How much the walk has still to go into what is put there.
 abbrev pub change_size : Change → ℕ
@@ -103,31 +94,33 @@ what_size whats.Remove = 0
 what_size (whats.Below plan) = suc (plan_size plan)
 
 abbrev pub edited_size : Edited → ℕ
-edited_size (children.Kept part) = length part.payload.now
 edited_size (children.Along part plan) = length part.payload.now + suc (plan_size plan)
 edited_size (children.Made made) = made_size made
 
-abbrev pub edit_meaning : SourceMeaning Edited EditedItems EditedObject EditedMembers
+abbrev pub edit_meaning : OverlayMeaning Edited EditedItems EditedMembers
 edit_meaning = record {
-  child = EditedIs;
-  child_size = edited_size;
-  child_held = λ child. ⊤;
-  items = EditedItemsAre;
-  object = EditedObjectIs;
-  members = EditedMembersAre;
+  value = EditedMeans;
+  items = EditedItemsMean;
+  members = EditedMembersMean;
+  value_size = edited_size;
   items_size = λ x. parts.items_size x.items + what_size x.what;
-  object_size = λ x. length x.object.body.now + what_size x.what;
   members_size = λ x. parts.items_size x.members.values + what_size x.what;
-  items_held = λ x. ⊤;
-  object_held = λ x. ⊤;
-  members_held = λ x. ⊤;
 }
 
-pub edit_laws : Laws edit_meaning
+one_edited : (x : Edited) (t u : Tree) → EditedMeans x t → EditedMeans x u → t ≡ u
+one_edited (children.Along part plan) t u h k =
+    one_becomes (λ v. PartMeans part v) (λ v. edited_along plan v) (part_unique part) t u h k
+one_edited (children.Made made) t u h k = h ∙ sym k
+
+pub edit_laws : OverlayLaws edit_meaning
 edit_laws = record {
-  one_items = λ x. one_shaped _ _;
-  one_object = λ x. one_shaped _ _;
-  one_members = λ x. one_shaped _ _;
-  bare_items = λ x ss h. ap key_payloads (h.1 h.0.0 h.0.1)
-      ∙ bare (done_after (here_of x.what) x.before h.0.0);
+  one_value = one_edited;
+  one_items = λ x. one_becomes (λ ts. AreChildren ts x.items
+      × IsPlaceAmong (here_of x.what) x.before (count ts))
+      (λ ts. done_after (here_of x.what) x.before ts)
+      (λ ts us h k. Children-unique _ _ h.0 k.0);
+  one_members = λ x. one_becomes (λ ps. AreMembers ps x.members
+      × IsPlaceAmong (here_of x.what) x.before (pair_count ps))
+      (λ ps. pairs_done_after x.key.now (here_of x.what) x.before ps)
+      (λ ps qs h k. pairs_unique ps qs _ _ _ _ h.0 k.0);
 }

@@ -15,6 +15,7 @@ pub mod JoinSource
 pub mod Keys
 pub mod KeyTests
 pub mod MadeWithMemory
+pub mod Overlay
 pub mod Patched
 pub mod PatchSource
 pub mod Path

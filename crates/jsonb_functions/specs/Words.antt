@@ -7,15 +7,15 @@ pub use Rattle.jsonb_value.specs.Tree.{Ascend, Pairs, Tree, Trees, count, no_pai
 pub use Rattle.jsonb_value.specs.Tree.{array, object, pair, pair_count, text}
 pub use Rattle.jsonb_value.specs.Value.{tree_of, trees_of}
 pub use Rattle.jsonb_value.specs.WellFormed.{IsTree}
-pub use Rattle.jsonb_codec.specs.Canon.{Fits, canon, items_shapes, pairs_shapes, shape_of}
+pub use Rattle.jsonb_codec.specs.Canon.{Fits, canon, shape_of}
 pub use Rattle.jsonb_codec.specs.Code.{code_of}
 pub use Rattle.jsonb_codec.specs.Contents.{AreChildren, AreMembers, PartMeans}
 pub use Rattle.jsonb_codec.specs.Doc.{Doc}
 pub use Rattle.jsonb_codec.specs.Made.{MadeIfFit}
 pub use Rattle.jsonb_codec.specs.PartSource.{items_size, part_meaning}
 pub use Rattle.jsonb_codec.specs.Parts.{IsObject}
-pub use Rattle.jsonb_codec.specs.Shape.{Shape, Shapes, leaf, no_shapes}
-pub use Rattle.jsonb_codec.specs.Source.{AreSplit, LevelIs, level_size}
+pub use Rattle.jsonb_codec.specs.Shape.{Shape}
+pub use Rattle.jsonb_codec.specs.Source.{LevelIs, level_size}
 pub use Rattle.jsonb.specs.Document.{document_tree}
 pub use Rattle.jsonb.specs.EntryTrees.{part_tree, rest_pairs, rest_trees}
 pub use Rattle.jsonb.specs.ItemValues.{extension_of_item}
@@ -30,11 +30,10 @@ pub use Rattle.jsonb_functions.specs.Conditions.{AnyOf, any_terms, meets_any}
 pub use Rattle.jsonb_functions.specs.Contains.{contained, contains_whole, has_top_key}
 pub use Rattle.jsonb_functions.specs.Contains.{items_contained, items_or_none, members_contained}
 pub use Rattle.jsonb_functions.specs.Contains.{is_there, some_tree}
-pub use Rattle.jsonb_functions.specs.EditSource.{EditedIs, EditedItemsAre, EditedMembersAre}
-pub use Rattle.jsonb_functions.specs.EditSource.{EditedObjectIs, edited_size}
 pub use Rattle.jsonb_functions.specs.EditSource.{edit_operation, edited_along, here_of, made_size}
 pub use Rattle.jsonb_functions.specs.EditSource.{made_tree, operation_of, plan_size, what_size}
-pub use Rattle.jsonb_functions.specs.Edited.{edited_items, edited_pairs}
+pub use Rattle.jsonb_functions.specs.Edited.{edited_items, edited_pairs, first_done}
+pub use Rattle.jsonb_functions.specs.Edited.{first_pair_done}
 pub use Rattle.jsonb_functions.specs.Edited.{before_if, can_wrap, count_done, edited, edited_whole}
 pub use Rattle.jsonb_functions.specs.Edited.{here_at, here_missing, keys_before, makes_container}
 pub use Rattle.jsonb_functions.specs.Edited.{pairs_have_key, wrapped}
@@ -53,7 +52,7 @@ pub use Rattle.jsonb_functions.specs.MadeWithMemory.{MadeWithMemory}
 pub use Rattle.jsonb_functions.specs.PatchSource.{AreBoth, AreChanged, FirstPatched, IsFirstOf}
 pub use Rattle.jsonb_functions.specs.PatchSource.{IsNextOf}
 pub use Rattle.jsonb_functions.specs.PatchSource.{MaybeMeans, both_keys_size, both_size, maybe_size}
-pub use Rattle.jsonb_functions.specs.PatchSource.{next_keys_size, next_size, patched_size}
+pub use Rattle.jsonb_functions.specs.PatchSource.{next_keys_size, next_size}
 pub use Rattle.jsonb_functions.specs.Patched.{pairs_or_none, pairs_patched, patched}
 pub use Rattle.jsonb_functions.specs.Path.{is_next, item_place, position_view}
 pub use Rattle.jsonb_functions.specs.PathDocument.{path_tree, step_tree, stored_step}

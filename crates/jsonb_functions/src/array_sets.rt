@@ -3,6 +3,7 @@
 ghost use Rattle.std.specs.Prelude.{◌≡◌, ◌-◌, ◌<◌, ◌++◌, ◌∷◌, [], IfErr, IfOk, OnOk, nat_lt, suc};
 ghost use Rattle.std.specs.Prelude.{if◌then◌else◌};
 ghost use Rattle.jsonb_functions.specs.ChosenSource.{chosen_meaning};
+ghost use Rattle.jsonb_functions.specs.Overlay.{written};
 ghost use Rattle.jsonb_functions.specs.Words.{AreChildren, CountsEquals, Fits, LevelIs, MadeIfFit};
 ghost use Rattle.jsonb_functions.specs.Words.{MadeWithMemory, SetsEqualsCount, Trees, array, canon};
 ghost use Rattle.jsonb_functions.specs.Words.{difference, distinct, distinct_items, equals_count};
@@ -11,7 +12,8 @@ ghost use Rattle.jsonb_functions.specs.Words.{listed_trees, matched_array, match
 ghost use Rattle.jsonb_functions.specs.Words.{code_of, node_tree, overlaps, owned_bytes, part_tree};
 ghost use Rattle.jsonb_functions.specs.Words.{shape_of, some_shared};
 
-use crate::chosen::{Chosen, ChosenItems, ChosenLevel};
+use crate::chosen::{Chosen, ChosenLevel};
+use crate::overlay::{Laid, item_count};
 use jsonb::constants::CONTAINER_TAG;
 use jsonb::layer::parts::{Children, Contents, Part};
 use jsonb::layer::writer::{Level, append_document};
@@ -127,7 +129,7 @@ fn all_items<'a>(alloc: Global, items: Children<'a>) -> Result<Vec<Part<'a>>, Er
         → listed_trees list.items ≡ ts) }
     ensures memory { IfErr result (λ e. e ≡ Error.OutOfMemory) }
 {
-    let mut list = Vec::with_capacity(alloc, items.entries.len() / 4)?;
+    let mut list = Vec::with_capacity(alloc, item_count(items))?;
     let mut left = items;
     while let Some(first) = left.split_first() {
         list.push(first.part)?;
@@ -143,18 +145,17 @@ fn array_document(alloc: Global, parts: &[Part<'_>]) -> Result<OwnedJsonb, Error
     ensures limits { MadeIfFit (Fits (array (listed_trees parts.now))) result }
 {
     let mut bytes = Vec::new(alloc);
-    append_document::<Chosen>(&mut bytes, listed_level(parts))?;
+    append_document::<Laid<Part, Chosen>>(&mut bytes, listed_level(parts))?;
     Ok(OwnedJsonb::new(bytes))
 }
 
 // The level of an array of these parts.
-#[tactic(auto, using(crate::proofs::ChosenLaws::items_chosen))]
 #[inline(always)]
 fn listed_level<'a>(parts: &'a [Part<'a>]) -> ChosenLevel<'a>
-    ensures { LevelIs code_of chosen_meaning result
+    ensures { LevelIs code_of (written chosen_meaning) result
         (shape_of (array (listed_trees parts.now))) }
 {
-    Level::Array(ChosenItems::Listed(parts))
+    Level::Array(Laid::Changed(parts))
 }
 
 // The items that have no equal before them.

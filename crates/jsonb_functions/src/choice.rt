@@ -1,6 +1,6 @@
 //! Which members of an object are kept, by their keys.
 
-ghost use Rattle.std.specs.Prelude.{◌≡◌, [], IfErr, IfOk, IsPermutation};
+ghost use Rattle.std.specs.Prelude.{◌≡◌, IfErr, IfOk, IsPermutation};
 ghost use Rattle.jsonb_functions.specs.Picked.{AreSorted, is_named, keeps};
 
 use jsonb::Error;
@@ -19,18 +19,6 @@ pub struct Choice<'a> {
     pub names: &'a [&'a str],
     pub which: Kept,
     ghost sorted: { AreSorted names.now },
-}
-
-/// All members are kept.
-#[inline(always)]
-pub fn keep_all<'a>() -> Choice<'a>
-    ensures names { result.names.now ≡ [] }
-    ensures which { result.which ≡ Kept.Others }
-{
-    Choice {
-        names: &[],
-        which: Kept::Others,
-    }
 }
 
 /// The names in the order of their bytes.

@@ -1,26 +1,31 @@
 //! Edited copies of documents, written in one pass in canonical form.
 
-ghost use Rattle.std.specs.Prelude.{◌≡◌, ◌≤◌, ◌<◌, ◌+◌, ◌^◌, [], length, IfOk, IfSome, true, false};
-ghost use Rattle.std.specs.Prelude.{MatchOption};
+ghost use Rattle.std.specs.Prelude.{◌≡◌, ◌≤◌, ◌<◌, ◌+◌, ◌^◌, length, IfOk, IfSome, MatchOption};
+ghost use Rattle.std.specs.Prelude.{true, false};
+ghost use Rattle.jsonb_functions.specs.declared.overlay.Laid.TheVariants.{Kept};
 ghost use Rattle.jsonb_functions.specs.EditSource.{edit_laws, edit_meaning};
-ghost use Rattle.jsonb_functions.specs.Words.{AreChildren, AreMembers, AreSplit, EditedIs};
-ghost use Rattle.jsonb_functions.specs.Words.{EditedItemsAre, EditedMembersAre, EditedObjectIs};
-ghost use Rattle.jsonb_functions.specs.Words.{Fits, IsObject, LevelIs, MadeIfFit, PartMeans, Pairs};
-ghost use Rattle.jsonb_functions.specs.Words.{Shape, Shapes, Tree, Trees, before_if, can_wrap};
-ghost use Rattle.jsonb_functions.specs.Words.{canon, code_of, count, count_done, document_tree};
+ghost use Rattle.jsonb_functions.specs.Overlay.{ItemsMean, NextItemIs, NextMemberIs, ObjectMeans};
+ghost use Rattle.jsonb_functions.specs.Overlay.{laid_items_size, laid_object_size, laid_size};
+ghost use Rattle.jsonb_functions.specs.Overlay.{written};
+ghost use Rattle.jsonb_functions.specs.Words.{AreChildren, AreMembers, Fits, IsObject, LevelIs};
+ghost use Rattle.jsonb_functions.specs.Words.{MadeIfFit, PartMeans, Pairs, Tree, Trees, before_if};
+ghost use Rattle.jsonb_functions.specs.Words.{can_wrap, canon, code_of, count_done, document_tree};
 ghost use Rattle.jsonb_functions.specs.Words.{edit_operation, edited, edited_along, edited_items};
-ghost use Rattle.jsonb_functions.specs.Words.{edited_pairs, edited_size, edited_whole, here_at};
-ghost use Rattle.jsonb_functions.specs.Words.{here_missing, here_of, items_shapes, items_size};
-ghost use Rattle.jsonb_functions.specs.Words.{keys_before, level_size, made_size, made_tree};
-ghost use Rattle.jsonb_functions.specs.Words.{makes_container, no_pairs, no_shapes, no_trees};
+ghost use Rattle.jsonb_functions.specs.Words.{edited_pairs, edited_whole, first_done};
+ghost use Rattle.jsonb_functions.specs.Words.{first_pair_done, here_at, here_missing, here_of};
+ghost use Rattle.jsonb_functions.specs.Words.{items_size, keys_before, level_size, made_size};
+ghost use Rattle.jsonb_functions.specs.Words.{made_tree, makes_container, no_pairs, no_trees};
 ghost use Rattle.jsonb_functions.specs.Words.{operation_of, owned_bytes, pairs_have_key};
-ghost use Rattle.jsonb_functions.specs.Words.{pairs_shapes, part_meaning, part_tree, plan_size};
-ghost use Rattle.jsonb_functions.specs.Words.{position_view, shape_of, what_size, wrapped};
+ghost use Rattle.jsonb_functions.specs.Words.{part_tree, plan_size, position_view, shape_of};
+ghost use Rattle.jsonb_functions.specs.Words.{what_size, wrapped};
 
+use crate::overlay::{
+    Counted, Laid, LaidLevel, LaidMember, Meant, Overlay, item_count, kept_level,
+};
 use crate::path::{Position, Step, is_next, item_position};
 use jsonb::constants::CONTAINER_TAG;
 use jsonb::layer::parts::{Child, Children, Contents, Member, Members, Object, Part};
-use jsonb::layer::writer::{Level, Side, Source, StoredEntry, append_document};
+use jsonb::layer::writer::{Level, append_document};
 use jsonb::{Document, Error, OwnedJsonb};
 use std::alloc::Global;
 use std::cmp::Ordering;
@@ -76,10 +81,9 @@ pub enum What<'a> {
     Below(Plan<'a>),
 }
 
-/// A part as it is, or edited along a path; or a value in containers.
+/// A part that is edited along a path, or a value in containers.
 #[derive(Clone, Copy)]
 pub enum Edited<'a> {
-    Kept(Part<'a>),
     Along(Part<'a>, Plan<'a>),
     Made(Made<'a>),
 }
@@ -92,15 +96,6 @@ pub struct EditedItems<'a> {
     pub what: What<'a>,
 }
 
-/// An object, and what is done after some of its members; a new one has the key.
-#[derive(Clone, Copy)]
-pub struct EditedObject<'a> {
-    pub object: Object<'a>,
-    pub before: usize,
-    pub key: &'a str,
-    pub what: What<'a>,
-}
-
 /// Members that are left, and what is done after some of them; a new one has the key.
 #[derive(Clone, Copy)]
 pub struct EditedMembers<'a> {
@@ -110,9 +105,7 @@ pub struct EditedMembers<'a> {
     pub what: What<'a>,
 }
 
-type EditedLevel<'a> = Level<StoredEntry<'a>, EditedItems<'a>, EditedObject<'a>>;
-
-type PartLevel<'a> = Level<StoredEntry<'a>, Children<'a>, Object<'a>>;
+type EditedLevel<'a> = LaidLevel<'a, EditedItems<'a>, EditedMembers<'a>>;
 
 /// The canonical document of the document's value, edited at the end of a path. It is that of the
 /// value itself if the path leads nowhere and nothing is created. `InvalidJsonb`, before any
@@ -135,7 +128,7 @@ pub fn edit_document(
         change: &change,
     };
     let mut bytes = Vec::new(alloc);
-    append_document::<Edited>(&mut bytes, whole_level(document.part(), plan))?;
+    append_document::<Laid<Part, Edited>>(&mut bytes, whole_level(document.part(), plan))?;
     Ok(OwnedJsonb::new(bytes))
 }
 
@@ -156,46 +149,32 @@ fn change_of<'a>(edit: Edit<'a>) -> Change<'a>
 // The level of a whole document that is edited along a path.
 #[tactic(auto, using(crate::proofs::EditLaws::whole_edited))]
 fn whole_level<'a>(part: Part<'a>, plan: Plan<'a>) -> EditedLevel<'a>
-    ensures { (t : Tree) → PartMeans part.entry t → LevelIs code_of edit_meaning result
+    ensures { (t : Tree) → PartMeans part.entry t → LevelIs code_of (written edit_meaning) result
         (shape_of (edited_whole plan.entry.path.now (operation_of plan.entry.change.now) t)) }
 {
     if !plan.path.is_empty() {
         return edited_level(part, plan);
     }
     match plan.change {
-        Change::Put(value) => lifted(Part::level(*value)),
-        Change::Create(value) => lifted(Part::level(*value)),
-        Change::Insert(_) => lifted(Part::level(part)),
-        Change::Remove => lifted(Part::level(part)),
-    }
-}
-
-// A level of which nothing is changed.
-#[inline(always)]
-fn lifted<'a>(level: PartLevel<'a>) -> EditedLevel<'a>
-    ensures is { (s : Shape) → LevelIs code_of part_meaning level.entry s
-        → LevelIs code_of edit_meaning result s }
-    ensures size { level_size edit_meaning result ≤ level_size part_meaning level.entry }
-{
-    match level {
-        Level::Leaf(leaf) => Level::Leaf(leaf),
-        Level::Array(items) => Level::Array(unchanged_items(items)),
-        Level::Object(object) => Level::Object(unchanged_object(object)),
+        Change::Put(value) => kept_level::<Edited>(*value),
+        Change::Create(value) => kept_level::<Edited>(*value),
+        Change::Insert(_) => kept_level::<Edited>(part),
+        Change::Remove => kept_level::<Edited>(part),
     }
 }
 
 // The level of a part that is edited along a path.
 fn edited_level<'a>(part: Part<'a>, plan: Plan<'a>) -> EditedLevel<'a>
-    ensures is { (t : Tree) → PartMeans part.entry t → LevelIs code_of edit_meaning result
+    ensures is { (t : Tree) → PartMeans part.entry t → LevelIs code_of (written edit_meaning) result
         (shape_of (edited plan.entry.path.now (operation_of plan.entry.change.now) t)) }
-    ensures size { level_size edit_meaning result
+    ensures size { level_size (written edit_meaning) result
         ≤ length part.entry.payload.now + (1 + plan_size plan.entry) }
 {
     let [step, rest @ ..] = plan.path else {
-        return lifted(Part::level(part));
+        return kept_level::<Edited>(part);
     };
     if part.type_code != CONTAINER_TAG {
-        return lifted(Part::level(part));
+        return kept_level::<Edited>(part);
     }
     let later = Plan {
         path: rest,
@@ -208,42 +187,55 @@ fn edited_level<'a>(part: Part<'a>, plan: Plan<'a>) -> EditedLevel<'a>
 }
 
 // The items, edited where a step leads, with a plan for later steps.
-fn edited_items<'a>(items: Children<'a>, step: Step<'a>, later: Plan<'a>) -> EditedItems<'a>
-    ensures are { (ts : Trees) → AreChildren ts items.entry → EditedItemsAre result
-        (items_shapes (edited_items step.entry later.entry.path.now
-        (operation_of later.entry.change.now) (λ t. edited_along later.entry t) ts)) }
-    ensures size { items_size result.items + what_size result.what
+fn edited_items<'a>(
+    items: Children<'a>,
+    step: Step<'a>,
+    later: Plan<'a>,
+) -> Laid<Children<'a>, EditedItems<'a>>
+    ensures are { (ts : Trees) → AreChildren ts items.entry → ItemsMean edit_meaning result
+        (edited_items step.entry later.entry.path.now (operation_of later.entry.change.now)
+        (λ t. edited_along later.entry t) ts) }
+    ensures size { laid_items_size edit_meaning result
         ≤ items_size items.entry + (1 + plan_size later.entry) }
 {
-    let count = items.entries.len() / 4;
+    let count = item_count(items);
     let Some(position) = item_position(step, count) else {
-        return unchanged_items(items);
+        return Laid::Kept(items);
     };
-    EditedItems {
+    Laid::Changed(EditedItems {
         items,
         before: position.before,
         what: what_at(true, position.is_there, is_next(step, count), later),
-    }
+    })
 }
 
 // The object, edited where a step leads, with a plan for later steps.
-fn edited_object<'a>(object: Object<'a>, step: Step<'a>, later: Plan<'a>) -> EditedObject<'a>
+fn edited_object<'a>(
+    object: Object<'a>,
+    step: Step<'a>,
+    later: Plan<'a>,
+) -> Laid<Object<'a>, Counted<EditedMembers<'a>>>
     ensures is { (ps : Pairs) → IsObject object.entry.count object.entry.body.now ps
-        → EditedObjectIs result (pairs_shapes (edited_pairs step.entry later.entry.path.now
-        (operation_of later.entry.change.now) (λ t. edited_along later.entry t) ps)) }
-    ensures size { length result.object.body.now + what_size result.what
+        → ObjectMeans edit_meaning result (edited_pairs step.entry later.entry.path.now
+        (operation_of later.entry.change.now) (λ t. edited_along later.entry t) ps) }
+    ensures size { laid_object_size edit_meaning result
         ≤ length object.entry.body.now + (1 + plan_size later.entry) }
 {
     let Step::Key(key) = step else {
-        return unchanged_object(object);
+        return Laid::Kept(object);
     };
-    let position = position_of_key(object.members(), key);
-    EditedObject {
-        object,
-        before: position.before,
-        key,
-        what: what_at(false, position.is_there, true, later),
-    }
+    let members = object.members();
+    let position = position_of_key(members, key);
+    let what = what_at(false, position.is_there, true, later);
+    Laid::Changed(Counted {
+        members: EditedMembers {
+            members,
+            before: position.before,
+            key,
+            what,
+        },
+        count: count_after(object.count, what),
+    })
 }
 
 // What is done where a step leads, to a child that is there or not, with a plan for later steps.
@@ -323,33 +315,33 @@ fn makes_container(step: Step<'_>) -> bool
 
 // The level of a value in containers.
 fn made_level<'a>(made: Made<'a>) -> EditedLevel<'a>
-    ensures is { LevelIs code_of edit_meaning result (shape_of (made_tree made.entry)) }
-    ensures size { level_size edit_meaning result ≤ made_size made.entry }
+    ensures is { LevelIs code_of (written edit_meaning) result (shape_of (made_tree made.entry)) }
+    ensures size { level_size (written edit_meaning) result ≤ made_size made.entry }
 {
     let [step, rest @ ..] = made.path else {
-        return lifted(Part::level(*made.value));
+        return kept_level::<Edited>(*made.value);
     };
-    let what = What::Insert(Made {
-        path: rest,
-        value: made.value,
-    });
+    let what = insert_if(true, rest, made.value);
     match *step {
-        Step::Key(key) => Level::Object(EditedObject {
-            object: no_members(),
-            before: 0,
-            key,
-            what,
-        }),
-        _ => Level::Array(EditedItems {
+        Step::Key(key) => Level::Object(Laid::Changed(Counted {
+            members: EditedMembers {
+                members: no_object().members(),
+                before: 0,
+                key,
+                what,
+            },
+            count: 1,
+        })),
+        _ => Level::Array(Laid::Changed(EditedItems {
             items: no_items(),
             before: 0,
             what,
-        }),
+        })),
     }
 }
 
 // An object of no member.
-fn no_members<'a>() -> Object<'a>
+fn no_object<'a>() -> Object<'a>
     ensures are { IsObject result.count result.body.now no_pairs }
     ensures size { length result.body.now ≡ 0 }
 {
@@ -415,48 +407,39 @@ fn count_after(count: usize, what: What<'_>) -> usize
     }
 }
 
-impl<'a> Source for Edited<'a> {
-    type Leaf = StoredEntry<'a>;
-
-    type Child = Edited<'a>;
-
+impl<'a> Meant<'a> for Edited<'a> {
     type Items = EditedItems<'a>;
-
-    type Object = EditedObject<'a>;
 
     type Members = EditedMembers<'a>;
 
     ghost meaning = { edit_meaning };
 
     ghost laws = { edit_laws };
+}
 
+impl<'a> Overlay<'a> for Edited<'a> {
     #[inline(always)]
-    fn level(child: Edited<'a>) -> EditedLevel<'a> {
-        match child {
-            Edited::Kept(part) => lifted(Part::level(part)),
+    fn level(self) -> EditedLevel<'a> {
+        match self {
             Edited::Along(part, plan) => edited_level(part, plan),
             Edited::Made(made) => made_level(made),
         }
     }
 
     #[inline(always)]
-    fn item_side(item: Edited<'a>, later: EditedItems<'a>) -> Option<Side> {
-        Some(side_of(item, later.items))
+    fn items_count(items: EditedItems<'a>) -> usize {
+        count_after(item_count(items.items), items.what)
     }
 
     #[inline(always)]
-    fn value_side(value: Edited<'a>, later: &EditedMembers<'a>) -> Option<Side> {
-        Some(side_of(value, later.members.values))
-    }
-
-    #[tactic(auto, using(crate::proofs::EditLaws::items_count))]
-    #[inline(always)]
-    fn count(items: EditedItems<'a>) -> usize {
-        count_after(items.items.entries.len() / 4, items.what)
-    }
-
-    #[inline(always)]
-    fn split_item(items: EditedItems<'a>) -> Option<(Edited<'a>, EditedItems<'a>)> {
+    fn next_item(
+        items: EditedItems<'a>,
+    ) -> Option<
+        (
+            Laid<Part<'a>, Edited<'a>>,
+            Laid<Children<'a>, EditedItems<'a>>,
+        ),
+    > {
         if items.before > 0 {
             let Child { part, later } = items.items.split_first()?;
             let later = EditedItems {
@@ -464,187 +447,124 @@ impl<'a> Source for Edited<'a> {
                 before: items.before - 1,
                 what: items.what,
             };
-            return Some((Edited::Kept(part), later));
+            return Some((Laid::Kept(part), Laid::Changed(later)));
         }
-        changed_item(items)
+        let (child, later) = changed_item(items.items, items.what)?;
+        Some((child, Laid::Kept(later)))
     }
 
     #[inline(always)]
-    fn object_count(object: EditedObject<'a>) -> usize {
-        count_after(object.object.count, object.what)
-    }
-
-    #[inline(always)]
-    fn members(object: EditedObject<'a>) -> EditedMembers<'a> {
-        EditedMembers {
-            members: object.object.members(),
-            before: object.before,
-            key: object.key,
-            what: object.what,
-        }
-    }
-
-    #[tactic(auto, using(crate::proofs::EditLaws::members_left_count))]
-    #[inline(always)]
-    fn members_left(members: &EditedMembers<'a>) -> usize {
-        count_after(members.members.values.entries.len() / 4, members.what)
-    }
-
-    #[inline(always)]
-    fn fork(members: &EditedMembers<'a>) -> EditedMembers<'a> {
-        *members
-    }
-
-    #[inline(always)]
-    fn split_member(
+    fn next_member(
         members: EditedMembers<'a>,
-    ) -> Option<(StoredEntry<'a>, (Edited<'a>, EditedMembers<'a>))> {
-        let (key, value, later) = next_member(members)?;
-        Some((StoredEntry::of_text(key), (value, later)))
+    ) -> Option<LaidMember<'a, Edited<'a>, EditedMembers<'a>>> {
+        if members.before > 0 {
+            let Member { key, value, later } = members.members.split_first()?;
+            return Some(LaidMember {
+                key,
+                value: Laid::Kept(value),
+                later: Laid::Changed(EditedMembers {
+                    members: later,
+                    before: members.before - 1,
+                    key: members.key,
+                    what: members.what,
+                }),
+            });
+        }
+        let (key, value, later) = changed_member(members.members, members.key, members.what)?;
+        Some(LaidMember {
+            key,
+            value,
+            later: Laid::Kept(later),
+        })
+    }
+
+    // A child on the path is never measured, since its later siblings are different bytes at each
+    // level, but the child itself holds those of the levels below.
+    #[inline(always)]
+    fn stored_len(self) -> usize {
+        match self {
+            Edited::Along(_, _) => usize::MAX,
+            Edited::Made(made) => made.value.payload.len(),
+        }
+    }
+
+    #[inline(always)]
+    fn items_stored_len(items: EditedItems<'a>) -> Option<usize> {
+        Some(items.items.stored_len())
+    }
+
+    #[inline(always)]
+    fn members_stored_len(members: EditedMembers<'a>) -> usize {
+        members.members.values.stored_len()
     }
 }
 
-// The first item, where something is done, and the items after it.
+// The first item, of which something is done, and the items after it.
 #[inline(always)]
-fn changed_item<'a>(items: EditedItems<'a>) -> Option<(Edited<'a>, EditedItems<'a>)>
-    requires here { items.before ≡ 0 }
-    ensures split { (ss : Shapes) → EditedItemsAre items.entry ss → MatchOption result
-        (ss ≡ no_shapes) (λ x. AreSplit (λ key. key ≡ []) EditedIs EditedItemsAre x ss) }
-    ensures size { IfSome result (λ x. edited_size x.0 + edit_meaning.items_size x.1
-        < edit_meaning.items_size items.entry) }
+fn changed_item<'a>(
+    items: Children<'a>,
+    what: What<'a>,
+) -> Option<(Laid<Part<'a>, Edited<'a>>, Children<'a>)>
+    ensures first { (ts : Trees) → AreChildren ts items.entry → MatchOption result
+        (first_done (here_of what.entry) ts ≡ no_trees)
+        (λ x. NextItemIs edit_meaning (first_done (here_of what.entry) ts) (x.0, Kept x.1)) }
+    ensures size { IfSome result (λ x. laid_size edit_meaning x.0 + items_size x.1
+        < items_size items.entry + what_size what.entry) }
 {
-    let left = items.items;
-    match items.what {
-        What::Insert(made) => Some((Edited::Made(made), unchanged_items(left))),
+    match what {
+        What::Insert(made) => Some((Laid::Changed(Edited::Made(made)), items)),
         What::Put(value) => {
-            let Child { later, .. } = left.split_first()?;
-            Some((Edited::Kept(*value), unchanged_items(later)))
+            let Child { later, .. } = items.split_first()?;
+            Some((Laid::Kept(*value), later))
         }
         What::Below(plan) => {
-            let Child { part, later } = left.split_first()?;
-            Some((Edited::Along(part, plan), unchanged_items(later)))
+            let Child { part, later } = items.split_first()?;
+            Some((Laid::Changed(Edited::Along(part, plan)), later))
         }
         What::Remove => {
-            let Child { later, .. } = left.split_first()?;
+            let Child { later, .. } = items.split_first()?;
             let Child { part, later } = later.split_first()?;
-            Some((Edited::Kept(part), unchanged_items(later)))
+            Some((Laid::Kept(part), later))
         }
         What::Nothing => {
-            let Child { part, later } = left.split_first()?;
-            Some((Edited::Kept(part), unchanged_items(later)))
+            let Child { part, later } = items.split_first()?;
+            Some((Laid::Kept(part), later))
         }
     }
 }
 
-// The key and the value of the first member, and the members after it.
-#[inline(always)]
-fn next_member<'a>(members: EditedMembers<'a>) -> Option<(&'a str, Edited<'a>, EditedMembers<'a>)>
-    ensures split { (ss : Shapes) → EditedMembersAre members.entry ss → MatchOption result
-        (ss ≡ no_shapes) (λ x. AreSplit (λ key. key ≡ x.0.now) EditedIs EditedMembersAre
-        (x.1, x.2) ss) }
-    ensures size { IfSome result (λ x. edited_size x.1 + edit_meaning.members_size x.2
-        < edit_meaning.members_size members.entry) }
-{
-    if members.before > 0 {
-        let Member { key, value, later } = members.members.split_first()?;
-        let later = EditedMembers {
-            members: later,
-            before: members.before - 1,
-            key: members.key,
-            what: members.what,
-        };
-        return Some((key, Edited::Kept(value), later));
-    }
-    changed_member(members)
-}
-
-// The same of members of which something is done to the first.
+// The first member, of which something is done, and the members after it.
 #[inline(always)]
 fn changed_member<'a>(
-    members: EditedMembers<'a>,
-) -> Option<(&'a str, Edited<'a>, EditedMembers<'a>)>
-    requires here { members.before ≡ 0 }
-    ensures split { (ss : Shapes) → EditedMembersAre members.entry ss → MatchOption result
-        (ss ≡ no_shapes) (λ x. AreSplit (λ key. key ≡ x.0.now) EditedIs EditedMembersAre
-        (x.1, x.2) ss) }
-    ensures size { IfSome result (λ x. edited_size x.1 + edit_meaning.members_size x.2
-        < edit_meaning.members_size members.entry) }
+    members: Members<'a>,
+    new_key: &'a str,
+    what: What<'a>,
+) -> Option<(&'a str, Laid<Part<'a>, Edited<'a>>, Members<'a>)>
+    ensures first { (ps : Pairs) → AreMembers ps members.entry → MatchOption result
+        (first_pair_done new_key.now (here_of what.entry) ps ≡ no_pairs)
+        (λ x. NextMemberIs edit_meaning (first_pair_done new_key.now (here_of what.entry) ps)
+        (record { key = x.0; value = x.1; later = Kept x.2 })) }
+    ensures size { IfSome result (λ x. laid_size edit_meaning x.1 + items_size x.2.values
+        < items_size members.entry.values + what_size what.entry) }
 {
-    let left = members.members;
-    match members.what {
-        What::Insert(made) => Some((members.key, Edited::Made(made), unchanged_members(left))),
+    match what {
+        What::Insert(made) => Some((new_key, Laid::Changed(Edited::Made(made)), members)),
         What::Put(value) => {
-            let Member { key, later, .. } = left.split_first()?;
-            Some((key, Edited::Kept(*value), unchanged_members(later)))
+            let Member { key, later, .. } = members.split_first()?;
+            Some((key, Laid::Kept(*value), later))
         }
         What::Below(plan) => {
-            let Member { key, value, later } = left.split_first()?;
-            Some((key, Edited::Along(value, plan), unchanged_members(later)))
+            let Member { key, value, later } = members.split_first()?;
+            Some((key, Laid::Changed(Edited::Along(value, plan)), later))
         }
         What::Remove => {
-            let Member { later, .. } = left.split_first()?;
+            let Member { later, .. } = members.split_first()?;
             let Member { key, value, later } = later.split_first()?;
-            Some((key, Edited::Kept(value), unchanged_members(later)))
+            Some((key, Laid::Kept(value), later))
         }
         What::Nothing => {
-            let Member { key, value, later } = left.split_first()?;
-            Some((key, Edited::Kept(value), unchanged_members(later)))
+            let Member { key, value, later } = members.split_first()?;
+            Some((key, Laid::Kept(value), later))
         }
-    }
-}
-
-// The side of a child that is measured: never a child on the path, since its later siblings are
-// different bytes at each level, but the child itself holds those of the levels below.
-#[inline(always)]
-fn side_of(child: Edited<'_>, later: Children<'_>) -> Side {
-    match child {
-        Edited::Kept(part) => Side::shorter(part.payload.len(), later.stored_len()),
-        Edited::Along(_, _) => Side::Later,
-        Edited::Made(made) => Side::shorter(made.value.payload.len(), later.stored_len()),
-    }
-}
-
-#[inline(always)]
-fn unchanged_items<'a>(items: Children<'a>) -> EditedItems<'a>
-    ensures items { result.items ≡ items.entry }
-    ensures before { result.before ≡ 0 }
-    ensures what { here_of result.what ≡ here_of What.Nothing }
-    ensures size { what_size result.what ≡ 0 }
-{
-    EditedItems {
-        items,
-        before: 0,
-        what: What::Nothing,
-    }
-}
-
-#[inline(always)]
-fn unchanged_members<'a>(members: Members<'a>) -> EditedMembers<'a>
-    ensures members { result.members ≡ members.entry }
-    ensures before { result.before ≡ 0 }
-    ensures what { here_of result.what ≡ here_of What.Nothing }
-    ensures size { what_size result.what ≡ 0 }
-{
-    EditedMembers {
-        members,
-        before: 0,
-        key: "",
-        what: What::Nothing,
-    }
-}
-
-// The object as it is.
-#[inline(always)]
-fn unchanged_object<'a>(object: Object<'a>) -> EditedObject<'a>
-    ensures object { result.object ≡ object.entry }
-    ensures before { result.before ≡ 0 }
-    ensures what { here_of result.what ≡ here_of What.Nothing }
-    ensures size { what_size result.what ≡ 0 }
-{
-    EditedObject {
-        object,
-        before: 0,
-        key: "",
-        what: What::Nothing,
     }
 }

@@ -2,28 +2,28 @@
 
 ghost use Rattle.std.specs.Prelude.{◌≡◌, ◌≤◌, ◌<◌, ◌+◌, ◌^◌, length, IfOk, IfSome, MatchOption};
 ghost use Rattle.jsonb_functions.specs.JoinSource.{join_laws, join_meaning};
+ghost use Rattle.jsonb_functions.specs.Overlay.{written};
 ghost use Rattle.jsonb_functions.specs.Words.{AreMembers, FirstMerged, FirstOfRun, Fits};
 ghost use Rattle.jsonb_functions.specs.Words.{IsNoObject, IsObject, LevelIs, MadeIfFit};
 ghost use Rattle.jsonb_functions.specs.Words.{MaybeMembers, MaybeObject, PartMeans, Pairs, RunIs};
-ghost use Rattle.jsonb_functions.specs.Words.{Shape, Tree, Trees, canon, code_of, count};
+ghost use Rattle.jsonb_functions.specs.Words.{Tree, Trees, canon, code_of, count};
 ghost use Rattle.jsonb_functions.specs.Words.{document_tree, items_or_one, items_size, joined};
-ghost use Rattle.jsonb_functions.specs.Words.{keys_size, level_size, maybe_keys_size};
+ghost use Rattle.jsonb_functions.specs.Words.{keys_size, maybe_keys_size};
 ghost use Rattle.jsonb_functions.specs.Words.{maybe_members_size, maybe_object_size, merged};
 ghost use Rattle.jsonb_functions.specs.Words.{no_pairs, no_trees, object, owned_bytes, pair_count};
-ghost use Rattle.jsonb_functions.specs.Words.{part_meaning, run_size, shape_of};
+ghost use Rattle.jsonb_functions.specs.Words.{run_size, shape_of};
 
+use crate::overlay::{Counted, Laid, LaidLevel, LaidMember, Meant, Overlay, item_count};
 use jsonb::constants::CONTAINER_TAG;
 use jsonb::layer::parts::{Child, Children, Contents, Member, Members, Object, Part};
-use jsonb::layer::writer::{Level, Side, Source, StoredEntry, append_document};
+use jsonb::layer::writer::{Level, append_document};
 use jsonb::{Document, Error, OwnedJsonb};
 use std::alloc::Global;
 use std::cmp::Ordering;
 
-/// A part that is kept.
+/// Nothing is joined below the whole values.
 #[derive(Clone, Copy)]
-pub struct Joined<'a> {
-    pub part: Part<'a>,
-}
+pub enum Joined {}
 
 /// No item, one value, or the items of an array.
 #[derive(Clone, Copy)]
@@ -40,20 +40,11 @@ pub struct JoinedItems<'a> {
     pub second: Run<'a>,
 }
 
-/// An object, and one whose members are put into it; how many members that makes.
-#[derive(Clone, Copy)]
-pub struct JoinedObject<'a> {
-    pub left: Object<'a>,
-    pub right: Option<Object<'a>>,
-    pub count: usize,
-}
-
-/// The members that are left of both, and how many that makes.
+/// The members that are left of an object, and of one whose members are put into it.
 #[derive(Clone, Copy)]
 pub struct JoinedMembers<'a> {
     pub left: Members<'a>,
     pub right: Option<Members<'a>>,
-    pub count: usize,
 }
 
 /// The next member of two objects, and what is left of both.
@@ -84,7 +75,6 @@ fn split_run<'a>(run: Run<'a>) -> Option<(Part<'a>, Run<'a>)>
 }
 
 // How many values a run has.
-#[tactic(auto, using(crate::proofs::EditLaws::item_count))]
 #[inline(always)]
 fn run_len(run: Run<'_>) -> usize
     ensures len { (ts : Trees) → RunIs run.entry ts → result ≡ count ts }
@@ -93,7 +83,7 @@ fn run_len(run: Run<'_>) -> usize
     match run {
         Run::Nothing => 0,
         Run::One(_) => 1,
-        Run::Many(items) => items.entries.len() / 4,
+        Run::Many(items) => item_count(items),
     }
 }
 
@@ -212,47 +202,28 @@ pub fn object_of<'a>(part: Part<'a>) -> Option<Object<'a>>
     }
 }
 
-type JoinedLevel<'a> = Level<StoredEntry<'a>, JoinedItems<'a>, JoinedObject<'a>>;
-
-type PartLevel<'a> = Level<StoredEntry<'a>, Children<'a>, Object<'a>>;
-
-// A level that is as it is stored.
-#[inline(always)]
-fn lifted<'a>(level: PartLevel<'a>) -> JoinedLevel<'a>
-    ensures is { (s : Shape) → LevelIs code_of part_meaning level.entry s
-        → LevelIs code_of join_meaning result s }
-    ensures size { level_size join_meaning result ≤ level_size part_meaning level.entry }
-{
-    match level {
-        Level::Leaf(leaf) => Level::Leaf(leaf),
-        Level::Array(items) => Level::Array(JoinedItems {
-            first: Run::Many(items),
-            second: Run::Nothing,
-        }),
-        Level::Object(object) => Level::Object(JoinedObject {
-            left: object,
-            right: None,
-            count: object.count,
-        }),
-    }
-}
+type JoinedLevel<'a> = LaidLevel<'a, JoinedItems<'a>, JoinedMembers<'a>>;
 
 // The level of two values that are put together.
 fn joined_level<'a>(left: Part<'a>, right: Part<'a>) -> JoinedLevel<'a>
     ensures { (t u : Tree) → PartMeans left.entry t → PartMeans right.entry u
-        → LevelIs code_of join_meaning result (shape_of (joined t u)) }
+        → LevelIs code_of (written join_meaning) result (shape_of (joined t u)) }
 {
     let Some(first) = object_of(left) else {
-        return Level::Array(both_runs(left, right));
+        return Level::Array(Laid::Changed(both_runs(left, right)));
     };
     let Some(second) = object_of(right) else {
-        return Level::Array(both_runs(left, right));
+        return Level::Array(Laid::Changed(both_runs(left, right)));
     };
-    Level::Object(JoinedObject {
-        left: first,
-        right: Some(second),
-        count: count_merged(first.members(), second.members()),
-    })
+    let left = first.members();
+    let right = second.members();
+    Level::Object(Laid::Changed(Counted {
+        members: JoinedMembers {
+            left,
+            right: Some(right),
+        },
+        count: count_merged(left, right),
+    }))
 }
 
 // The items of two values.
@@ -278,107 +249,83 @@ pub fn concat(alloc: Global, left: Document<'_>, right: Document<'_>) -> Result<
         (Fits (joined (document_tree left.entry) (document_tree right.entry))) result }
 {
     let mut bytes = Vec::new(alloc);
-    append_document::<Joined>(&mut bytes, joined_level(left.part(), right.part()))?;
+    append_document::<Laid<Part, Joined>>(&mut bytes, joined_level(left.part(), right.part()))?;
     Ok(OwnedJsonb::new(bytes))
 }
 
-impl<'a> Source for Joined<'a> {
-    type Leaf = StoredEntry<'a>;
-
-    type Child = Joined<'a>;
-
+impl<'a> Meant<'a> for Joined {
     type Items = JoinedItems<'a>;
-
-    type Object = JoinedObject<'a>;
 
     type Members = JoinedMembers<'a>;
 
     ghost meaning = { join_meaning };
 
     ghost laws = { join_laws };
+}
 
+impl<'a> Overlay<'a> for Joined {
     #[inline(always)]
-    fn level(child: Joined<'a>) -> JoinedLevel<'a> {
-        lifted(Part::level(child.part))
+    fn level(self) -> JoinedLevel<'a> {
+        match self {}
     }
 
     #[inline(always)]
-    fn item_side(item: Joined<'a>, later: JoinedItems<'a>) -> Option<Side> {
-        let later = run_stored_len(later.first).saturating_add(run_stored_len(later.second));
-        Some(Side::shorter(item.part.payload.len(), later))
-    }
-
-    #[inline(always)]
-    fn value_side(value: Joined<'a>, later: &JoinedMembers<'a>) -> Option<Side> {
-        let right = maybe_stored_len(later.right);
-        let later = later.left.values.stored_len().saturating_add(right);
-        Some(Side::shorter(value.part.payload.len(), later))
-    }
-
-    #[inline(always)]
-    fn count(items: JoinedItems<'a>) -> usize {
+    fn items_count(items: JoinedItems<'a>) -> usize {
         run_len(items.first) + run_len(items.second)
     }
 
     #[inline(always)]
-    fn split_item(items: JoinedItems<'a>) -> Option<(Joined<'a>, JoinedItems<'a>)> {
+    fn next_item(
+        items: JoinedItems<'a>,
+    ) -> Option<(Laid<Part<'a>, Joined>, Laid<Children<'a>, JoinedItems<'a>>)> {
         let JoinedItems { first, second } = items;
         if let Some((part, rest)) = split_run(first) {
             let later = JoinedItems {
                 first: rest,
                 second,
             };
-            return Some((Joined { part }, later));
+            return Some((Laid::Kept(part), Laid::Changed(later)));
         }
         let (part, rest) = split_run(second)?;
         let later = JoinedItems {
             first: Run::Nothing,
             second: rest,
         };
-        Some((Joined { part }, later))
+        Some((Laid::Kept(part), Laid::Changed(later)))
     }
 
     #[inline(always)]
-    fn object_count(object: JoinedObject<'a>) -> usize {
-        object.count
-    }
-
-    #[inline(always)]
-    fn members(object: JoinedObject<'a>) -> JoinedMembers<'a> {
-        JoinedMembers {
-            left: object.left.members(),
-            right: members_of(object.right),
-            count: object.count,
-        }
-    }
-
-    #[inline(always)]
-    fn members_left(members: &JoinedMembers<'a>) -> usize {
-        members.count
-    }
-
-    #[inline(always)]
-    fn fork(members: &JoinedMembers<'a>) -> JoinedMembers<'a> {
-        *members
-    }
-
-    #[tactic(auto, using(crate::proofs::JoinShapes::member_split))]
-    #[inline(always)]
-    fn split_member(
+    fn next_member(
         members: JoinedMembers<'a>,
-    ) -> Option<(StoredEntry<'a>, (Joined<'a>, JoinedMembers<'a>))> {
-        let NextMember {
-            key,
-            value,
-            left,
-            right,
-        } = next_merged(members.left, members.right)?;
-        let later = JoinedMembers {
-            left,
-            right,
-            count: members.count.saturating_sub(1),
-        };
-        Some((StoredEntry::of_text(key), (Joined { part: value }, later)))
+    ) -> Option<LaidMember<'a, Joined, JoinedMembers<'a>>> {
+        let next = next_merged(members.left, members.right)?;
+        Some(LaidMember {
+            key: next.key,
+            value: Laid::Kept(next.value),
+            later: Laid::Changed(JoinedMembers {
+                left: next.left,
+                right: next.right,
+            }),
+        })
+    }
+
+    #[inline(always)]
+    fn stored_len(self) -> usize {
+        match self {}
+    }
+
+    #[inline(always)]
+    fn items_stored_len(items: JoinedItems<'a>) -> Option<usize> {
+        Some(run_stored_len(items.first).saturating_add(run_stored_len(items.second)))
+    }
+
+    #[inline(always)]
+    fn members_stored_len(members: JoinedMembers<'a>) -> usize {
+        members
+            .left
+            .values
+            .stored_len()
+            .saturating_add(maybe_stored_len(members.right))
     }
 }
 

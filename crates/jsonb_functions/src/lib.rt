@@ -19,6 +19,7 @@ pub mod laws;
 mod marks;
 mod name_list;
 mod names;
+mod overlay;
 mod patch;
 mod path;
 mod path_document;

@@ -1,40 +1,34 @@
 //! Documents patched by others, written in one pass in canonical form.
 
 ghost use Rattle.std.specs.Prelude.{◌≡◌, ◌≤◌, ◌<◌, ◌+◌, length, IfOk, IfSome, MatchOption};
+ghost use Rattle.jsonb_functions.specs.Overlay.{laid_size, written};
 ghost use Rattle.jsonb_functions.specs.PatchSource.{patch_laws, patch_meaning};
 ghost use Rattle.jsonb_functions.specs.Words.{AreBoth, AreChanged, AreMembers, FirstPatched, Fits};
 ghost use Rattle.jsonb_functions.specs.Words.{IsFirstOf, IsNextOf, LevelIs, MadeIfFit, MaybeMeans};
-ghost use Rattle.jsonb_functions.specs.Words.{MaybeMembers, MaybeObject, PartMeans, Pairs, Shape};
-ghost use Rattle.jsonb_functions.specs.Words.{Tree};
-ghost use Rattle.jsonb_functions.specs.Words.{both_keys_size, both_size, canon, code_of};
-ghost use Rattle.jsonb_functions.specs.Words.{document_tree, items_size, keys_size, level_size};
+ghost use Rattle.jsonb_functions.specs.Words.{MaybeMembers, MaybeObject, PartMeans, Pairs, Tree};
+ghost use Rattle.jsonb_functions.specs.Words.{both_keys_size, both_size, canon, code_of, level_size};
+ghost use Rattle.jsonb_functions.specs.Words.{document_tree, items_size, keys_size};
 ghost use Rattle.jsonb_functions.specs.Words.{maybe_keys_size, maybe_members_size};
 ghost use Rattle.jsonb_functions.specs.Words.{maybe_object_size, maybe_size, next_keys_size};
 ghost use Rattle.jsonb_functions.specs.Words.{next_size, no_pairs, owned_bytes, pair, pair_count};
-ghost use Rattle.jsonb_functions.specs.Words.{pairs_or_none, pairs_patched, part_meaning, patched};
-ghost use Rattle.jsonb_functions.specs.Words.{patched_size, shape_of};
+ghost use Rattle.jsonb_functions.specs.Words.{pairs_or_none, pairs_patched, patched, shape_of};
 
 use crate::join::{maybe_stored_len, members_of, object_of};
+use crate::overlay::{
+    Counted, Laid, LaidLevel, LaidMember, Meant, Overlay, item_count, kept_level,
+};
 use jsonb::constants::NULL_TAG;
 use jsonb::layer::parts::{Child, Children, Member, Members, Object, Part};
-use jsonb::layer::writer::{Level, Side, Source, StoredEntry, append_document};
+use jsonb::layer::writer::{Level, append_document};
 use jsonb::{Document, Error, OwnedJsonb};
 use std::alloc::Global;
 use std::cmp::Ordering;
 
-/// A part that is kept, or a target, if there is one, that a part patches.
+/// A target, if there is one, that a part patches.
 #[derive(Clone, Copy)]
-pub enum Patched<'a> {
-    Kept(Part<'a>),
-    By(Option<Part<'a>>, Part<'a>),
-}
-
-/// An object and one that patches it, if there are any; how many members that makes.
-#[derive(Clone, Copy)]
-pub struct PatchedObject<'a> {
-    pub target: Option<Object<'a>>,
-    pub patch: Option<Object<'a>>,
-    pub count: usize,
+pub struct Patched<'a> {
+    pub target: Option<Part<'a>>,
+    pub patch: Part<'a>,
 }
 
 /// The members that are left of both.
@@ -44,18 +38,11 @@ pub struct BothMembers<'a> {
     pub patch: Option<Members<'a>>,
 }
 
-/// The members that are left of both, and how many that makes.
-#[derive(Clone, Copy)]
-pub struct PatchedMembers<'a> {
-    pub left: BothMembers<'a>,
-    pub count: usize,
-}
-
 /// A member of the result, and what is left of both after it.
 #[derive(Clone, Copy)]
 pub struct NextPatched<'a> {
     pub key: &'a str,
-    pub value: Patched<'a>,
+    pub value: Laid<Part<'a>, Patched<'a>>,
     pub later: BothMembers<'a>,
 }
 
@@ -66,9 +53,7 @@ pub enum Next<'a> {
     Removed(BothMembers<'a>),
 }
 
-type PatchedLevel<'a> = Level<StoredEntry<'a>, Children<'a>, PatchedObject<'a>>;
-
-type PartLevel<'a> = Level<StoredEntry<'a>, Children<'a>, Object<'a>>;
+type PatchedLevel<'a> = LaidLevel<'a, Children<'a>, BothMembers<'a>>;
 
 /// The canonical document of the target's value with the patch merged into it, as JSON Merge Patch
 /// says: a member of the patch that is null removes the member with its key; any other patches the
@@ -86,44 +71,29 @@ pub fn merge_patch(
         (Fits (patched (document_tree target.entry) (document_tree patch.entry))) result }
 {
     let mut bytes = Vec::new(alloc);
-    append_document::<Patched>(&mut bytes, patched_level(Some(target.part()), patch.part()))?;
+    let level = patched_level(Some(target.part()), patch.part());
+    append_document::<Laid<Part, Patched>>(&mut bytes, level)?;
     Ok(OwnedJsonb::new(bytes))
-}
-
-// A level of which nothing is changed.
-#[inline(always)]
-fn lifted<'a>(level: PartLevel<'a>) -> PatchedLevel<'a>
-    ensures is { (s : Shape) → LevelIs code_of part_meaning level.entry s
-        → LevelIs code_of patch_meaning result s }
-    ensures size { level_size patch_meaning result ≤ level_size part_meaning level.entry }
-{
-    match level {
-        Level::Leaf(leaf) => Level::Leaf(leaf),
-        Level::Array(items) => Level::Array(items),
-        Level::Object(object) => Level::Object(PatchedObject {
-            target: Some(object),
-            patch: None,
-            count: object.count,
-        }),
-    }
 }
 
 // The level of a target that a part patches.
 fn patched_level<'a>(target: Option<Part<'a>>, patch: Part<'a>) -> PatchedLevel<'a>
     ensures is { (t u : Tree) → MaybeMeans target.entry t → PartMeans patch.entry u
-        → LevelIs code_of patch_meaning result (shape_of (patched t u)) }
-    ensures size { level_size patch_meaning result
+        → LevelIs code_of (written patch_meaning) result (shape_of (patched t u)) }
+    ensures size { level_size (written patch_meaning) result
         ≤ maybe_size target.entry + length patch.entry.payload.now }
 {
     let Some(changes) = object_of(patch) else {
-        return lifted(Part::level(patch));
+        return kept_level::<Patched>(patch);
     };
-    let object = object_of_some(target);
-    Level::Object(PatchedObject {
-        target: object,
-        patch: Some(changes),
-        count: count_patched(both_members(object, Some(changes))),
-    })
+    let members = BothMembers {
+        target: members_of(object_of_some(target)),
+        patch: Some(changes.members()),
+    };
+    Level::Object(Laid::Changed(Counted {
+        members,
+        count: count_patched(members),
+    }))
 }
 
 // The object that a part is, if there is one.
@@ -136,20 +106,6 @@ fn object_of_some<'a>(part: Option<Part<'a>>) -> Option<Object<'a>>
     match part {
         Some(part) => object_of(part),
         None => None,
-    }
-}
-
-// The members of both.
-#[inline(always)]
-fn both_members<'a>(target: Option<Object<'a>>, patch: Option<Object<'a>>) -> BothMembers<'a>
-    ensures target { (ps : Pairs) → MaybeObject target.entry ps → MaybeMembers result.target ps }
-    ensures patch { (ps : Pairs) → MaybeObject patch.entry ps → MaybeMembers result.patch ps }
-    ensures size { both_size result
-        ≤ maybe_object_size target.entry + maybe_object_size patch.entry }
-{
-    BothMembers {
-        target: members_of(target),
-        patch: members_of(patch),
     }
 }
 
@@ -202,7 +158,7 @@ fn kept<'a>(member: Member<'a>, patch: Option<Members<'a>>) -> Next<'a>
 {
     Next::Member(NextPatched {
         key: member.key,
-        value: Patched::Kept(member.value),
+        value: Laid::Kept(member.value),
         later: BothMembers {
             target: Some(member.later),
             patch,
@@ -234,7 +190,10 @@ fn changed<'a>(change: Member<'a>, value: Option<Part<'a>>, target: Option<Membe
     }
     Next::Member(NextPatched {
         key: change.key,
-        value: Patched::By(value, change.value),
+        value: Laid::Changed(Patched {
+            target: value,
+            patch: change.value,
+        }),
         later,
     })
 }
@@ -245,7 +204,7 @@ fn next_member<'a>(members: BothMembers<'a>) -> Option<NextPatched<'a>>
     ensures first { (ps qs : Pairs) → AreBoth members.entry ps qs
         → MatchOption result (pairs_patched ps qs ≡ no_pairs)
         (λ m. FirstPatched (pairs_patched ps qs) m) }
-    ensures size { IfSome result (λ m. patched_size m.value + both_size m.later
+    ensures size { IfSome result (λ m. laid_size patch_meaning m.value + both_size m.later
         < both_size members.entry) }
     ensures keys { IfSome result (λ m. both_keys_size m.later < both_keys_size members.entry) }
 {
@@ -273,98 +232,71 @@ fn count_patched(members: BothMembers<'_>) -> usize
     count
 }
 
-impl<'a> Source for Patched<'a> {
-    type Leaf = StoredEntry<'a>;
-
-    type Child = Patched<'a>;
-
+impl<'a> Meant<'a> for Patched<'a> {
     type Items = Children<'a>;
 
-    type Object = PatchedObject<'a>;
-
-    type Members = PatchedMembers<'a>;
+    type Members = BothMembers<'a>;
 
     ghost meaning = { patch_meaning };
 
     ghost laws = { patch_laws };
-
-    #[inline(always)]
-    fn level(child: Patched<'a>) -> PatchedLevel<'a> {
-        match child {
-            Patched::Kept(part) => lifted(Part::level(part)),
-            Patched::By(target, patch) => patched_level(target, patch),
-        }
-    }
-
-    #[inline(always)]
-    fn item_side(item: Patched<'a>, later: Children<'a>) -> Option<Side> {
-        Some(Side::shorter(patched_stored_len(item), later.stored_len()))
-    }
-
-    #[inline(always)]
-    fn value_side(value: Patched<'a>, later: &PatchedMembers<'a>) -> Option<Side> {
-        let target = maybe_stored_len(later.left.target);
-        let later = target.saturating_add(maybe_stored_len(later.left.patch));
-        Some(Side::shorter(patched_stored_len(value), later))
-    }
-
-    #[tactic(auto, using(jsonb_codec::proofs::PartLaws::items_count))]
-    #[inline(always)]
-    fn count(items: Children<'a>) -> usize {
-        items.entries.len() / 4
-    }
-
-    #[inline(always)]
-    fn split_item(items: Children<'a>) -> Option<(Patched<'a>, Children<'a>)> {
-        let Child { part, later } = items.split_first()?;
-        Some((Patched::Kept(part), later))
-    }
-
-    #[inline(always)]
-    fn object_count(object: PatchedObject<'a>) -> usize {
-        object.count
-    }
-
-    #[inline(always)]
-    fn members(object: PatchedObject<'a>) -> PatchedMembers<'a> {
-        PatchedMembers {
-            left: both_members(object.target, object.patch),
-            count: object.count,
-        }
-    }
-
-    #[inline(always)]
-    fn members_left(members: &PatchedMembers<'a>) -> usize {
-        members.count
-    }
-
-    #[inline(always)]
-    fn fork(members: &PatchedMembers<'a>) -> PatchedMembers<'a> {
-        *members
-    }
-
-    #[tactic(auto, using(crate::proofs::PatchShapes::member_split))]
-    #[inline(always)]
-    fn split_member(
-        members: PatchedMembers<'a>,
-    ) -> Option<(StoredEntry<'a>, (Patched<'a>, PatchedMembers<'a>))> {
-        let NextPatched { key, value, later } = next_member(members.left)?;
-        let later = PatchedMembers {
-            left: later,
-            count: members.count.saturating_sub(1),
-        };
-        Some((StoredEntry::of_text(key), (value, later)))
-    }
 }
 
-// How many bytes of a child are stored.
-#[inline(always)]
-fn patched_stored_len(child: Patched<'_>) -> usize {
-    match child {
-        Patched::Kept(part) => part.payload.len(),
-        Patched::By(None, patch) => patch.payload.len(),
-        Patched::By(Some(target), patch) => {
-            target.payload.len().saturating_add(patch.payload.len())
+impl<'a> Overlay<'a> for Patched<'a> {
+    #[inline(always)]
+    fn level(self) -> PatchedLevel<'a> {
+        patched_level(self.target, self.patch)
+    }
+
+    #[inline(always)]
+    fn items_count(items: Children<'a>) -> usize {
+        item_count(items)
+    }
+
+    #[inline(always)]
+    fn next_item(
+        items: Children<'a>,
+    ) -> Option<
+        (
+            Laid<Part<'a>, Patched<'a>>,
+            Laid<Children<'a>, Children<'a>>,
+        ),
+    > {
+        let Child { part, later } = items.split_first()?;
+        Some((Laid::Kept(part), Laid::Kept(later)))
+    }
+
+    #[inline(always)]
+    fn next_member(
+        members: BothMembers<'a>,
+    ) -> Option<LaidMember<'a, Patched<'a>, BothMembers<'a>>> {
+        let NextPatched { key, value, later } = next_member(members)?;
+        Some(LaidMember {
+            key,
+            value,
+            later: Laid::Changed(later),
+        })
+    }
+
+    #[inline(always)]
+    fn stored_len(self) -> usize {
+        match self.target {
+            Some(target) => target
+                .payload
+                .len()
+                .saturating_add(self.patch.payload.len()),
+            None => self.patch.payload.len(),
         }
+    }
+
+    #[inline(always)]
+    fn items_stored_len(items: Children<'a>) -> Option<usize> {
+        Some(items.stored_len())
+    }
+
+    #[inline(always)]
+    fn members_stored_len(members: BothMembers<'a>) -> usize {
+        let target = maybe_stored_len(members.target);
+        target.saturating_add(maybe_stored_len(members.patch))
     }
 }

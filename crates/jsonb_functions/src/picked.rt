@@ -2,15 +2,17 @@
 
 ghost use Rattle.std.specs.Prelude.{◌≡◌, IfOk};
 ghost use Rattle.jsonb_functions.specs.ChosenSource.{chosen_meaning};
+ghost use Rattle.jsonb_functions.specs.Overlay.{written};
 ghost use Rattle.jsonb_functions.specs.Words.{Fits, LevelIs, MadeIfFit, MadeWithMemory, PartMeans};
 ghost use Rattle.jsonb_functions.specs.Words.{Tree, canon, code_of, document_tree, owned_bytes};
 ghost use Rattle.jsonb_functions.specs.Words.{picked, shape_of};
 
 use crate::choice::{Choice, Kept, sorted};
-use crate::chosen::{Chosen, ChosenLevel, ChosenObject, count_kept, lifted};
+use crate::chosen::{Chosen, ChosenLevel, ChosenMembers, count_kept};
+use crate::overlay::{Counted, Laid, kept_level};
 use jsonb::constants::CONTAINER_TAG;
 use jsonb::layer::parts::{Contents, Part};
-use jsonb::layer::writer::{Level, Source, append_document};
+use jsonb::layer::writer::{Level, append_document};
 use jsonb::{Document, Error, OwnedJsonb};
 use std::alloc::Global;
 
@@ -48,24 +50,26 @@ fn pick_by(alloc: Global, document: Document<'_>, choice: Choice<'_>) -> Result<
         result }
 {
     let mut bytes = Vec::new(alloc);
-    append_document::<Chosen>(&mut bytes, picked_level(document.part(), choice))?;
+    append_document::<Laid<Part, Chosen>>(&mut bytes, picked_level(document.part(), choice))?;
     Ok(OwnedJsonb::new(bytes))
 }
 
 // The level of a value, of whose members some are kept if it is an object.
 fn picked_level<'a>(part: Part<'a>, choice: Choice<'a>) -> ChosenLevel<'a>
-    ensures { (t : Tree) → PartMeans part.entry t → LevelIs code_of chosen_meaning result
+    ensures { (t : Tree) → PartMeans part.entry t → LevelIs code_of (written chosen_meaning) result
         (shape_of (picked choice.entry.names.now choice.entry.which t)) }
 {
     if part.type_code != CONTAINER_TAG {
-        return lifted(Part::level(part));
+        return kept_level::<Chosen>(part);
     }
     match part.contents() {
-        Contents::Array(_) => lifted(Part::level(part)),
-        Contents::Object(object) => Level::Object(ChosenObject {
-            object,
-            choice,
-            count: count_kept(object.members(), choice),
-        }),
+        Contents::Array(_) => kept_level::<Chosen>(part),
+        Contents::Object(object) => {
+            let members = object.members();
+            Level::Object(Laid::Changed(Counted {
+                members: ChosenMembers { members, choice },
+                count: count_kept(members, choice),
+            }))
+        }
     }
 }

@@ -1,42 +1,62 @@
-use Rattle.jsonb_functions.proofs.EditLaws.{insert_first, put_first}
-use Rattle.jsonb_functions.proofs.EditLaws.{below_first, remove_first, keep_first}
+use Rattle.std.proofs.Common.{refl, ◌∙◌}
+use Rattle.jsonb.specs.EntryTrees.{part_tree}
+use Rattle.jsonb_functions.specs.EditSource.{edited_along, made_tree}
+use Rattle.jsonb_functions.proofs.EditLaws.{first_removed, first_replaced}
+use Rattle.jsonb_functions.proofs.OverlayLaws.{part_tree_means}
 use Rattle.jsonb_functions.proofs.edit.changed_item.Goals as goal
 
-pub returns-in-Insert-clause-split : goal.returns-in-Insert-clause-split
-returns-in-Insert-clause-split c ss h =
-    let rest = c.unchanged_items in
-    insert_first c.args.items rest.result c.in-Insert.made c.requires.here
-    c.in-Insert.is rest.ensures.items rest.ensures.before rest.ensures.what ss h
+pub returns-in-Insert-clause-first : goal.returns-in-Insert-clause-first
+returns-in-Insert-clause-first c ts are = record {
+  first = made_tree c.in-Insert.made;
+  others = ts;
+  are = rw c.in-Insert.is refl;
+  is = refl;
+  left = are;
+}
 
-pub returns-in_ok-later-in-Put-clause-split : goal.returns-in_ok-later-in-Put-clause-split
-returns-in_ok-later-in-Put-clause-split c ss h =
-    let first = c.in_ok-later-in-Put in
-    let rest = c.unchanged_items-in-Put in
-    put_first c.args.items rest.result c.in-Put.value first.field-0.part first.field-0.later
-    c.requires.here c.in-Put.is rest.ensures.items rest.ensures.before
-    rest.ensures.what first.ensures.first ss h
+pub returns-in_ok-later-in-Put-clause-first : goal.returns-in_ok-later-in-Put-clause-first
+returns-in_ok-later-in-Put-clause-first c ts are =
+    let f = c.in_ok-later-in-Put.ensures.first ts are in
+    record {
+      first = part_tree c.in-Put.value.now;
+      others = f.others;
+      are = rw c.in-Put.is
+          (first_replaced (λ t. part_tree c.in-Put.value.now) ts f.others f.first f.are);
+      is = part_tree_means c.in-Put.value.now;
+      left = f.later;
+    }
 
-pub returns-in_ok-part-in-Below-clause-split : goal.returns-in_ok-part-in-Below-clause-split
-returns-in_ok-part-in-Below-clause-split c ss h =
-    let first = c.in_ok-part-in-Below in
-    let rest = c.unchanged_items-in-Below in
-    below_first c.args.items rest.result c.in-Below.plan first.field-0.part first.field-0.later
-    c.requires.here c.in-Below.is rest.ensures.items rest.ensures.before
-    rest.ensures.what first.ensures.first ss h
+pub returns-in_ok-part-in-Below-clause-first : goal.returns-in_ok-part-in-Below-clause-first
+returns-in_ok-part-in-Below-clause-first c ts are =
+    let f = c.in_ok-part-in-Below.ensures.first ts are in
+    record {
+      first = edited_along c.in-Below.plan f.first;
+      others = f.others;
+      are = rw c.in-Below.is
+          (first_replaced (λ t. edited_along c.in-Below.plan t) ts f.others f.first f.are);
+      is = (f.first, (f.is, refl));
+      left = f.later;
+    }
 
-pub returns-in_ok-part-in-Remove-clause-split : goal.returns-in_ok-part-in-Remove-clause-split
-returns-in_ok-part-in-Remove-clause-split c ss h =
-    let gone = c.in_ok-later-in-Remove in
-    let first = c.in_ok-part-in-Remove in
-    let rest = c.unchanged_items-in-Remove in
-    remove_first c.args.items rest.result gone.field-0.part first.field-0.part gone.field-0.later
-    first.field-0.later c.requires.here c.in-Remove.is rest.ensures.items
-    rest.ensures.before rest.ensures.what gone.ensures.first first.ensures.first ss h
+pub returns-in_ok-part-in-Remove-clause-first : goal.returns-in_ok-part-in-Remove-clause-first
+returns-in_ok-part-in-Remove-clause-first c ts are =
+    let gone = c.in_ok-later-in-Remove.ensures.first ts are in
+    let f = c.in_ok-part-in-Remove.ensures.first gone.others gone.later in
+    record {
+      first = f.first;
+      others = f.others;
+      are = rw c.in-Remove.is (first_removed ts gone.others gone.first gone.are ∙ f.are);
+      is = f.is;
+      left = f.later;
+    }
 
-pub returns-in_ok-part-in-Nothing-clause-split : goal.returns-in_ok-part-in-Nothing-clause-split
-returns-in_ok-part-in-Nothing-clause-split c ss h =
-    let first = c.in_ok-part-in-Nothing in
-    let rest = c.unchanged_items-in-Nothing in
-    keep_first c.args.items rest.result first.field-0.part first.field-0.later
-    c.requires.here c.in-Nothing.is rest.ensures.items rest.ensures.before
-    rest.ensures.what first.ensures.first ss h
+pub returns-in_ok-part-in-Nothing-clause-first : goal.returns-in_ok-part-in-Nothing-clause-first
+returns-in_ok-part-in-Nothing-clause-first c ts are =
+    let f = c.in_ok-part-in-Nothing.ensures.first ts are in
+    record {
+      first = f.first;
+      others = f.others;
+      are = rw c.in-Nothing.is f.are;
+      is = f.is;
+      left = f.later;
+    }

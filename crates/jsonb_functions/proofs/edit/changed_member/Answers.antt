@@ -1,49 +1,63 @@
-use Rattle.std.proofs.Common.{refl}
-use Rattle.jsonb_functions.proofs.EditLaws.{insert_member_first, put_member_first}
-use Rattle.jsonb_functions.proofs.EditLaws.{below_member_first, remove_member_first}
-use Rattle.jsonb_functions.proofs.EditLaws.{keep_member_first}
+use Rattle.std.proofs.Common.{refl, ◌∙◌}
+use Rattle.jsonb.specs.EntryTrees.{part_tree}
+use Rattle.jsonb_functions.specs.EditSource.{edited_along, made_tree}
+use Rattle.jsonb_functions.proofs.EditLaws.{pair_removed, pair_replaced}
+use Rattle.jsonb_functions.proofs.OverlayLaws.{part_tree_means}
 use Rattle.jsonb_functions.proofs.edit.changed_member.Goals as goal
 
-pub returns-in-Insert-clause-split : goal.returns-in-Insert-clause-split
-returns-in-Insert-clause-split c ss h =
-    let rest = c.unchanged_members in
-    insert_member_first _ c.args.members rest.result c.in-Insert.made
-    refl c.requires.here c.in-Insert.is
-    rest.ensures.members rest.ensures.before rest.ensures.what ss h
+pub returns-in-Insert-clause-first : goal.returns-in-Insert-clause-first
+returns-in-Insert-clause-first c ps are = record {
+  first = made_tree c.in-Insert.made;
+  others = ps;
+  are = rw c.in-Insert.is refl;
+  is = refl;
+  left = are;
+}
 
-pub returns-in_ok-key-in-Put-clause-split : goal.returns-in_ok-key-in-Put-clause-split
-returns-in_ok-key-in-Put-clause-split c ss h =
-    let first = c.in_ok-key-in-Put.field-0 in
-    let rest = c.unchanged_members-in-Put in
-    put_member_first _ c.args.members rest.result c.in-Put.value first.value first.key.now
-    first.later refl c.requires.here c.in-Put.is
-    rest.ensures.members rest.ensures.before rest.ensures.what c.in_ok-key-in-Put.ensures.first ss h
+pub returns-in_ok-key-in-Put-clause-first : goal.returns-in_ok-key-in-Put-clause-first
+returns-in_ok-key-in-Put-clause-first c ps are =
+    let f = c.in_ok-key-in-Put.ensures.first ps are in
+    record {
+      first = part_tree c.in-Put.value.now;
+      others = f.others;
+      are = rw c.in-Put.is (pair_replaced c.args.new_key.now
+          (λ t. part_tree c.in-Put.value.now) ps f.others _ f.value f.are);
+      is = part_tree_means c.in-Put.value.now;
+      left = f.left;
+    }
 
-pub returns-in_ok-key-in-Below-clause-split : goal.returns-in_ok-key-in-Below-clause-split
-returns-in_ok-key-in-Below-clause-split c ss h =
-    let first = c.in_ok-key-in-Below.field-0 in
-    let rest = c.unchanged_members-in-Below in
-    below_member_first _ c.args.members rest.result c.in-Below.plan first.value first.key.now
-    first.later refl c.requires.here
-    c.in-Below.is rest.ensures.members rest.ensures.before rest.ensures.what
-    c.in_ok-key-in-Below.ensures.first ss h
+pub returns-in_ok-key-in-Below-clause-first : goal.returns-in_ok-key-in-Below-clause-first
+returns-in_ok-key-in-Below-clause-first c ps are =
+    let f = c.in_ok-key-in-Below.ensures.first ps are in
+    record {
+      first = edited_along c.in-Below.plan f.value;
+      others = f.others;
+      are = rw c.in-Below.is (pair_replaced c.args.new_key.now
+          (λ t. edited_along c.in-Below.plan t) ps f.others _ f.value f.are);
+      is = (f.value, (f.is, refl));
+      left = f.left;
+    }
 
-pub returns-in_ok-key-in-Remove-clause-split : goal.returns-in_ok-key-in-Remove-clause-split
-returns-in_ok-key-in-Remove-clause-split c ss h =
-    let gone = c.in_ok-later-in-Remove.field-0 in
-    let first = c.in_ok-key-in-Remove.field-0 in
-    let rest = c.unchanged_members-in-Remove in
-    remove_member_first _ c.args.members rest.result gone.value first.value gone.key.now
-    first.key.now gone.later first.later refl
-    c.requires.here c.in-Remove.is rest.ensures.members
-    rest.ensures.before rest.ensures.what c.in_ok-later-in-Remove.ensures.first
-    c.in_ok-key-in-Remove.ensures.first ss h
+pub returns-in_ok-key-in-Remove-clause-first : goal.returns-in_ok-key-in-Remove-clause-first
+returns-in_ok-key-in-Remove-clause-first c ps are =
+    let gone = c.in_ok-later-in-Remove.ensures.first ps are in
+    let f = c.in_ok-key-in-Remove.ensures.first gone.others gone.left in
+    record {
+      first = f.value;
+      others = f.others;
+      are = rw c.in-Remove.is
+          (pair_removed c.args.new_key.now ps gone.others _ gone.value gone.are ∙ f.are);
+      is = f.is;
+      left = f.left;
+    }
 
-pub returns-in_ok-key-in-Nothing-clause-split : goal.returns-in_ok-key-in-Nothing-clause-split
-returns-in_ok-key-in-Nothing-clause-split c ss h =
-    let first = c.in_ok-key-in-Nothing.field-0 in
-    let rest = c.unchanged_members-in-Nothing in
-    keep_member_first _ c.args.members rest.result first.value first.key.now first.later
-    refl c.requires.here c.in-Nothing.is
-    rest.ensures.members rest.ensures.before rest.ensures.what
-    c.in_ok-key-in-Nothing.ensures.first ss h
+pub returns-in_ok-key-in-Nothing-clause-first : goal.returns-in_ok-key-in-Nothing-clause-first
+returns-in_ok-key-in-Nothing-clause-first c ps are =
+    let f = c.in_ok-key-in-Nothing.ensures.first ps are in
+    record {
+      first = f.value;
+      others = f.others;
+      are = rw c.in-Nothing.is f.are;
+      is = f.is;
+      left = f.left;
+    }

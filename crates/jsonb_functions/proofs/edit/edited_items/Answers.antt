@@ -1,20 +1,20 @@
-use Rattle.std.proofs.Common.{◌≡◌, refl, true}
+use Rattle.std.proofs.Common.{◌≡◌, refl, subst, true}
+use Rattle.jsonb_codec.specs.Contents.{AreChildren}
 use Rattle.jsonb_functions.specs.Edited.{here_at}
 use Rattle.jsonb_functions.specs.EditSource.{here_of, edited_along, operation_of}
-use Rattle.jsonb_functions.proofs.EditLaws.{item_count, items_edited, items_left}
+use Rattle.jsonb_functions.proofs.EditLaws.{items_edited, items_left}
 use Rattle.jsonb_functions.proofs.edit.edited_items.Goals as goal
 
 pub returns-in_default-clause-are : goal.returns-in_default-clause-are
 returns-in_default-clause-are c ts are =
-    let rest = c.unchanged_items in
-    items_left rest.result c.args.items c.args.step c.args.later.path.now
-    (operation_of c.args.later.change.now) (λ t. edited_along c.args.later t) ts are
-    (rw (item_count c.args.items ts are) at c.in_default.ensures)
-    rest.ensures.items rest.ensures.before rest.ensures.what
+    let many = c.item_count-count.ensures.count ts are in
+    subst (λ us. AreChildren us c.args.items)
+    (items_left c.args.step c.args.later.path.now (operation_of c.args.later.change.now)
+    (λ t. edited_along c.args.later t) ts (rw many at c.in_default.ensures)) are
 
 pub returns-clause-are : goal.returns-clause-are
 returns-clause-are c ts are =
-    let many = item_count c.args.items ts are in
+    let many = c.item_count-count.ensures.count ts are in
     let operation = operation_of c.args.later.change.now in
     let what : here_of c.what_at.result ≡ here_at true c.in-Some.position.is_there
     c.is_next.result c.args.later.path.now operation (λ t. edited_along c.args.later t) =

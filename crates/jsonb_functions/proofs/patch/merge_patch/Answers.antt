@@ -8,5 +8,5 @@ append_document-requires c =
     let t = document_tree c.args.target in
     let u = document_tree c.args.patch in (
       shape_of (patched t u),
-      c.patched_level.ensures.is t u c.part.ensures.means c.part-2.ensures.means,
+      c.patched_level-level.ensures.is t u c.part.ensures.means c.part-2.ensures.means,
     )

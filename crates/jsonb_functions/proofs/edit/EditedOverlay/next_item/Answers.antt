@@ -1,0 +1,48 @@
+use Rattle.std.proofs.Common.{◌-◌, arith, refl, ◌∙◌}
+use Rattle.jsonb_functions.specs.Edited.{done_after}
+use Rattle.jsonb_functions.specs.EditSource.{here_of}
+use Rattle.jsonb_functions.proofs.EditLaws.{at_first, none_after, one_after, one_within}
+use Rattle.jsonb_functions.proofs.edit.EditedOverlay.next_item.Goals as goal
+
+pub returns-in_err-part-clause-first : goal.returns-in_err-part-clause-first
+returns-in_err-part-clause-first c ts (us, ((are, within), e)) =
+    rw c.from_residual.ensures (e ∙ none_after (here_of c.args.items.what) c.args.items.before us
+    c.if-items-gt0.true (c.in_err-part.ensures.none us are))
+
+pub returns-then-items-gt0-clause-first : goal.returns-then-items-gt0-clause-first
+returns-then-items-gt0-clause-first c ts (us, ((are, within), e)) =
+    let x = c.args.items in
+    let f = c.in_ok-part.ensures.first us are in
+    let some = c.if-items-gt0.true in
+    record {
+      first = f.first;
+      others = done_after (here_of x.what) (x.before - 1) f.others;
+      are = e ∙ one_after (here_of x.what) x.before us f.others f.first some f.are;
+      is = f.is;
+      left = (
+        f.others,
+        (
+          (f.later, one_within (here_of x.what) x.before us f.others f.first some f.are within),
+          refl,
+        ),
+      );
+    }
+
+pub returns-in_err-child-clause-first : goal.returns-in_err-child-clause-first
+returns-in_err-child-clause-first c ts (us, ((are, within), e)) =
+    let x = c.args.items in
+    rw c.from_residual-in_err-child.ensures (e
+    ∙ at_first (here_of x.what) x.before us (omega (arith, c.if-items-gt0.false))
+    ∙ c.in_err-child.ensures.first us are)
+
+pub returns-clause-first : goal.returns-clause-first
+returns-clause-first c ts (us, ((are, within), e)) =
+    let x = c.args.items in
+    let f = c.in_ok-child.ensures.first us are in
+    record {
+      first = f.first;
+      others = f.others;
+      are = e ∙ at_first (here_of x.what) x.before us (omega (arith, c.if-items-gt0.false)) ∙ f.are;
+      is = f.is;
+      left = f.left;
+    }
