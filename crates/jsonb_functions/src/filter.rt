@@ -1,6 +1,7 @@
 //! Conditions on values, by which paths leave out values.
 
 ghost use Rattle.std.specs.Prelude.{◌≡◌, ◌<◌, ◌-◌, ◌^◌};
+ghost use Rattle.jsonb_functions.specs.Filter.{before_and, before_close, before_or};
 ghost use Rattle.jsonb_functions.specs.Words.{after_open, after_term, compares, holds, node_tree};
 ghost use Rattle.jsonb_functions.specs.Words.{passes, verdict_of};
 
@@ -94,33 +95,55 @@ fn after_term(node: Node<'_>, term: &Term<'_>, verdict: Verdict) -> Verdict
             },
             _ => verdict,
         },
-        Term::And => match (verdict.passing, verdict.holds) {
-            (0, false) => Verdict {
-                holds: false,
-                passing: 1,
-            },
-            _ => verdict,
-        },
-        Term::Or => match (verdict.passing, verdict.holds) {
-            (0, true) => Verdict {
-                holds: true,
-                passing: 1,
-            },
-            (1, false) => Verdict {
-                holds: false,
-                passing: 0,
-            },
-            _ => verdict,
-        },
-        Term::Close => match verdict.passing {
-            0 => verdict,
-            deep => Verdict {
-                holds: verdict.holds,
-                passing: deep + 1,
-            },
-        },
+        Term::And => after_and(verdict),
+        Term::Or => after_or(verdict),
         Term::Open => after_open(verdict, verdict.holds),
         Term::OpenNot => after_open(verdict, !verdict.holds),
+        Term::Close => after_close(verdict),
+    }
+}
+
+// What a condition comes to before an `&&`.
+fn after_and(verdict: Verdict) -> Verdict
+    ensures { result ≡ before_and verdict.holds verdict.passing }
+{
+    match (verdict.passing, verdict.holds) {
+        (0, false) => Verdict {
+            holds: false,
+            passing: 1,
+        },
+        _ => verdict,
+    }
+}
+
+// What a condition comes to before an `||`.
+fn after_or(verdict: Verdict) -> Verdict
+    ensures { result ≡ before_or verdict.holds verdict.passing }
+{
+    match (verdict.passing, verdict.holds) {
+        (0, true) => Verdict {
+            holds: true,
+            passing: 1,
+        },
+        (1, false) => Verdict {
+            holds: false,
+            passing: 0,
+        },
+        _ => verdict,
+    }
+}
+
+// What a condition comes to before the end of a group.
+fn after_close(verdict: Verdict) -> Verdict
+    requires { verdict.passing < 2 ^ 64 - 1 }
+    ensures { result ≡ before_close verdict.holds verdict.passing }
+{
+    match verdict.passing {
+        0 => verdict,
+        deep => Verdict {
+            holds: verdict.holds,
+            passing: deep + 1,
+        },
     }
 }
 
