@@ -29,6 +29,7 @@ pub mod PathStepLaws
 pub mod FilterTextLaws
 pub mod PathDocumentLaws
 pub mod PathLaws
+pub mod PathPlaceLaws
 pub mod NameLaws
 pub mod PointerLaws
 pub mod NameListLaws

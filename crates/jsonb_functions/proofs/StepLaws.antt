@@ -34,6 +34,11 @@ pub takes_more : {A : Type 0} (r : Result A Unanswered) (e : Unanswered) (cost b
     → r ≡ Err e → e ≡ TooManySteps → before < cost → Takes r cost before after
 takes_more r e cost before after is why h = rw (is, why) h
 
+pub falls_short : (e : Unanswered) (m cost mid before : ℕ) → FallsShort mid m e
+    → (mid < m → before < cost) → FallsShort before cost e
+falls_short TooManySteps m cost mid before h more = more h
+falls_short OutOfMemory m cost mid before h more = tt
+
 pub gave_up : (r : Result Bool Unanswered) (e : Unanswered) (found part : Bool)
     (cost m before mid last after : ℕ) → r ≡ Err e → (mid < m → before < cost)
     → FoundIn (Err e) part m mid last → FoundIn r found cost before after

@@ -20,8 +20,10 @@ pub mod Patched
 pub mod PatchSource
 pub mod Path
 pub mod PathDocument
+pub mod PathPlaces
 pub mod PathText
 pub mod Picked
+pub mod PlaceWalks
 pub mod Scalars
 pub mod Selected
 pub mod SelectSteps

@@ -2,16 +2,11 @@
 use Rattle.std.specs.Prelude.{ℕ, suc, ◌-◌, min, List, [], ◌∷◌, length, map, take, drop, flat_map}
 use Rattle.std.specs.Prelude.{Option, None, Some, option_to_list}
 use Rattle.jsonb_value.specs.Tree.{Tree, object}
-use Rattle.jsonb.specs.EntryTrees.{rest_trees, rest_pairs}
-use Rattle.jsonb.specs.Node.{node_tree, pair_list, tree_list}
+use Rattle.jsonb.specs.Node.{pair_list, tree_list}
 use Rattle.jsonb_functions.specs.declared.path.Step.{Step}
 use Rattle.jsonb_functions.specs.declared.path.Step.TheVariants as steps
 use Rattle.jsonb_functions.specs.declared.selection.Bound.{Bound}
 use Rattle.jsonb_functions.specs.declared.selection.Bound.TheVariants as bounds
-use Rattle.jsonb_functions.specs.declared.selection.Chosen.{Chosen}
-use Rattle.jsonb_functions.specs.declared.selection.Chosen.TheVariants as walks
-use Rattle.jsonb_functions.specs.declared.selection.FirstItems.{FirstItems}
-use Rattle.jsonb_functions.specs.declared.selection.Listed.{Listed}
 use Rattle.jsonb_functions.specs.declared.selection.Selector.{Selector}
 use Rattle.jsonb_functions.specs.declared.selection.Selector.TheVariants.{AllItems, AllMembers}
 use Rattle.jsonb_functions.specs.declared.selection.Selector.TheVariants.{FromEnd, Index, Key}
@@ -71,22 +66,7 @@ abbrev pub first_tree : List Tree → Option Tree
 first_tree [] = None
 first_tree (t ∷ ts) = Some t
 
--- So many of the items that are left in a walk over them.
-abbrev pub first_trees : FirstItems → List Tree
-first_trees first = take first.count (rest_trees first.items)
-
 -- The indexes of a list; none of any other selector.
 abbrev pub indexes_of : Selector → List Bound
 indexes_of (Indexes indexes) = indexes.items
 indexes_of s = []
-
--- The items at those of the indexes that are left in a walk over them.
-abbrev pub indexed_trees : List Bound → Listed → List Tree
-indexed_trees indexes listed = trees_at (drop listed.passed indexes) (node_tree listed.node)
-
--- The children that are left in a walk over them, for a list of indexes those at these.
-abbrev pub chosen_trees : List Bound → Chosen → List Tree
-chosen_trees indexes (walks.Child child) = map node_tree (option_to_list child)
-chosen_trees indexes (walks.Items first) = first_trees first
-chosen_trees indexes (walks.Members members) = map (λ p. p.1) (rest_pairs members)
-chosen_trees indexes (walks.Listed listed) = indexed_trees indexes listed

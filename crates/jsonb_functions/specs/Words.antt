@@ -20,7 +20,7 @@ pub use Rattle.jsonb.specs.Document.{document_tree}
 pub use Rattle.jsonb.specs.EntryTrees.{part_tree, rest_pairs, rest_trees}
 pub use Rattle.jsonb.specs.ItemValues.{extension_of_item}
 pub use Rattle.jsonb.specs.Node.{HoldsNoScalar, IsContainer, member_tree, node_tree, object_of}
-pub use Rattle.jsonb.specs.Node.{pairs_of, tree_list, value_of_key}
+pub use Rattle.jsonb.specs.Node.{pairs_of, value_of_key}
 pub use Rattle.jsonb.specs.Owned.{owned_bytes}
 pub use Rattle.jsonb_functions.specs.ArraySets.{are_equal, difference, distinct, distinct_items}
 pub use Rattle.jsonb_functions.specs.ArraySets.{intersection}
@@ -37,7 +37,7 @@ pub use Rattle.jsonb_functions.specs.Edited.{first_pair_done}
 pub use Rattle.jsonb_functions.specs.Edited.{before_if, can_wrap, count_done, edited, edited_whole}
 pub use Rattle.jsonb_functions.specs.Edited.{here_at, here_missing, keys_before, makes_container}
 pub use Rattle.jsonb_functions.specs.Edited.{pairs_have_key, wrapped}
-pub use Rattle.jsonb_functions.specs.Filter.{after_open, after_term, compares, filtered, holds}
+pub use Rattle.jsonb_functions.specs.Filter.{after_open, after_term, compares, holds}
 pub use Rattle.jsonb_functions.specs.Filter.{passes, verdict_of}
 pub use Rattle.jsonb_functions.specs.Found.{child_at, found_at}
 pub use Rattle.jsonb_functions.specs.IndexHash.{AppendsSome, AreAmong, IsAmong, hash_64}
@@ -71,10 +71,8 @@ pub use Rattle.jsonb_functions.specs.PathText.{scalar_tree, selector_view, singl
 pub use Rattle.jsonb_functions.specs.PathText.{single_steps, tail_after_not, tail_after_two}
 pub use Rattle.jsonb_functions.specs.PathText.{tail_after_word, term_view, terms_view}
 pub use Rattle.jsonb_functions.specs.Picked.{AreSorted, is_named, keeps, picked}
-pub use Rattle.jsonb_functions.specs.Selected.{children_at, chosen_trees, first_tree, first_trees}
-pub use Rattle.jsonb_functions.specs.Selected.{indexed_trees, indexes_of, items_before}
-pub use Rattle.jsonb_functions.specs.Selected.{items_through}
-pub use Rattle.jsonb_functions.specs.Selected.{member_trees, selected, step_at, trees_between}
+pub use Rattle.jsonb_functions.specs.Selected.{first_tree, indexes_of, items_before}
+pub use Rattle.jsonb_functions.specs.Selected.{items_through, selected, step_at}
 pub use Rattle.jsonb_functions.specs.Steps.{FoundIn}
 pub use Rattle.jsonb_functions.specs.StoredPath.{StepView, path_in, step_in, step_to, step_view}
 pub use Rattle.jsonb_functions.specs.StripSource.{FirstStripped}

@@ -25,6 +25,7 @@ mod path;
 mod path_document;
 mod path_text;
 mod picked;
+mod places;
 mod pointer;
 mod scalars;
 mod selection;
@@ -51,10 +52,11 @@ pub use path::Step;
 pub use path_document::document_of_path;
 pub use path_text::{read_path_text, steps_of_path};
 pub use picked::pick;
+pub use places::{bytes_at, place_at_end, whole_place};
 pub use pointer::read_pointer;
 pub use selection::{
-    Bound, Selector, count_before, count_through, exists_path, select, select_first, select_within,
-    step_at,
+    Bound, Selector, count_before, count_through, exists_path, select, select_first, select_places,
+    select_places_within, select_within, step_at,
 };
 pub use stored_path::read_path;
 pub use strip::strip_nulls;

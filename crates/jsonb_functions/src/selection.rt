@@ -1,25 +1,27 @@
 //! The values that paths with wildcards select.
 
-ghost use Rattle.std.specs.Prelude.{◌≡◌, ◌++◌, ◌∷◌, [], ◌*◌, ◌<◌, ◌≤◌, IfErr, IfNone, IfOk};
-ghost use Rattle.std.specs.Prelude.{IfSome, OnOk, drop, is_some, map, option_map, suc};
+ghost use Rattle.std.specs.Prelude.{◌≡◌, ◌+◌, ◌++◌, ◌∷◌, [], ◌*◌, ◌<◌, ◌≤◌, IfErr, IfNone, IfOk};
+ghost use Rattle.std.specs.Prelude.{IfSome, MatchOption, MatchResult, Ok, OnOk, is_some, map};
+ghost use Rattle.std.specs.Prelude.{option_map, suc};
+ghost use Rattle.std.specs.List.{sum_by};
+ghost use Rattle.jsonb.specs.Document.{document_bytes};
+ghost use Rattle.jsonb_functions.specs.PathPlaces.{first_entry, selected_from, selected_places};
+ghost use Rattle.jsonb_functions.specs.PathPlaces.{tree_there, whole_place};
+ghost use Rattle.jsonb_functions.specs.PlaceWalks.{AreAllParts, IsPart, LeadsOn, steps_left};
 ghost use Rattle.jsonb_functions.specs.SelectSteps.{asked, extent, extents, path_size};
 ghost use Rattle.jsonb_functions.specs.SelectSteps.{select_steps, term_steps};
-ghost use Rattle.std.specs.List.{sum_by};
-ghost use Rattle.jsonb_functions.specs.Steps.{Takes};
-ghost use Rattle.jsonb_functions.specs.Words.{YieldsFirstBy, children_at, chosen_trees};
-ghost use Rattle.jsonb_functions.specs.Words.{document_tree, filtered, first_tree, first_trees};
-ghost use Rattle.jsonb_functions.specs.Words.{indexed_trees, indexes_of, items_before};
-ghost use Rattle.jsonb_functions.specs.Words.{items_or_none, items_through, member_trees};
-ghost use Rattle.jsonb_functions.specs.Words.{node_tree, rest_trees};
-ghost use Rattle.jsonb_functions.specs.Words.{selected, step_at, tree_list, trees_between, weight};
+ghost use Rattle.jsonb_functions.specs.Steps.{FallsShort, Takes};
+ghost use Rattle.jsonb_functions.specs.Words.{document_tree, first_tree, items_before};
+ghost use Rattle.jsonb_functions.specs.Words.{items_through, node_tree, selected, step_at, weight};
 
 use crate::extent::extent_of;
 use crate::filter::{Condition, Term, holds};
 use crate::found::child_of;
 use crate::path::Step;
+use crate::places::{next_place, node_at_place, places_from, whole_place};
 use crate::steps::{Unanswered, take};
-use crate::walk::{next_item, next_member};
-use jsonb::{Document, Error, Items, Members, Node};
+use jsonb::layer::Entry;
+use jsonb::{Document, Error, Node};
 use std::alloc::Global;
 
 /// An end of a range of items: an index, counted from 0, from the start or from the end:
@@ -46,30 +48,6 @@ pub enum Selector<'a> {
     Filter(Condition<'a>),
 }
 
-/// So many of the items that are left in a walk over them.
-#[derive(Drop)]
-pub struct FirstItems<'a> {
-    pub items: Items<'a>,
-    pub count: usize,
-}
-
-/// A walk over the items of a value at the indexes of a list, of which so many were passed.
-#[derive(Drop)]
-pub struct Listed<'a> {
-    pub node: Node<'a>,
-    pub passed: usize,
-}
-
-/// The children that a selector leads to, in a walk over them: a child or none, items, the values
-/// of members, or items at indexes.
-#[derive(Drop)]
-pub enum Chosen<'a> {
-    Child(Option<Node<'a>>),
-    Items(FirstItems<'a>),
-    Members(Members<'a>),
-    Listed(Listed<'a>),
-}
-
 /// The values at the ends of all ways that a path allows, in the order in which they are stored,
 /// but at indexes in the order of these. `OutOfMemory` is the only error.
 pub fn select<'a>(
@@ -81,9 +59,59 @@ pub fn select<'a>(
         ≡ selected path.now (document_tree document.entry)) }
     ensures memory { IfErr result (λ e. e ≡ Error.OutOfMemory) }
 {
+    let places = select_places(alloc, document, path)?;
+    nodes_at(alloc, document.as_bytes(), &places)
+}
+
+/// Where the values are that `select` returns: the types of their entries, and the positions of
+/// their payloads in the bytes of the document. A whole array or object is all bytes.
+/// `OutOfMemory` is the only error.
+pub fn select_places(
+    alloc: Global,
+    document: Document<'_>,
+    path: &[Selector<'_>],
+) -> Result<Vec<Entry>, Error>
+    ensures ok { IfOk result (λ places. places.items
+        ≡ selected_places path.now (document_bytes document.entry)) }
+    ensures parts { IfOk result (λ places.
+        AreAllParts (document_bytes document.entry) places.items) }
+    ensures values { IfOk result (λ places.
+        map (tree_there (document_bytes document.entry)) places.items
+        ≡ selected path.now (document_tree document.entry)) }
+    ensures memory { IfErr result (λ e. e ≡ Error.OutOfMemory) }
+{
     let mut found = Vec::new(alloc);
-    append_selected(document.value(), path, &mut found)?;
+    append_places(document.as_bytes(), whole_of(document), path, &mut found)?;
     Ok(found)
+}
+
+// The values at positions.
+fn nodes_at<'a>(alloc: Global, bytes: &'a [u8], places: &[Entry]) -> Result<Vec<Node<'a>>, Error>
+    requires { AreAllParts bytes.now places.now }
+    ensures ok { IfOk result (λ nodes. map node_tree nodes.items
+        ≡ map (tree_there bytes.entry.now) places.now) }
+    ensures memory { IfErr result (λ e. e ≡ Error.OutOfMemory) }
+{
+    let mut nodes = Vec::with_capacity(alloc, places.len())?;
+    let mut left = places;
+    while let [place, rest @ ..] = left {
+        nodes.push(node_at_place(bytes, *place))?;
+        left = rest;
+    }
+    Ok(nodes)
+}
+
+// The position of a document's value.
+fn whole_of(document: Document<'_>) -> Entry
+    ensures is { whole_place (document_bytes document.entry) ≡ Ok result }
+    ensures part { IsPart (document_bytes document.entry) result }
+    ensures tree { tree_there (document_bytes document.entry) result
+        ≡ document_tree document.entry }
+{
+    let Ok(whole) = whole_place(document.as_bytes()) else {
+        unreachable!();
+    };
+    whole
 }
 
 /// The values that `select` returns, unless that takes more than so many steps. There is a step for
@@ -115,9 +143,37 @@ pub fn select_within<'a>(
         ≤ path_size path.now * weight (document_tree document.entry) }
     ensures memory { IfErr result (λ e. e ≡ Error.OutOfMemory) }
 {
+    match select_places_within(alloc, document, path, steps)? {
+        Some(places) => Ok(Some(nodes_at(alloc, document.as_bytes(), &places)?)),
+        None => Ok(None),
+    }
+}
+
+/// Where the values are that `select_within` returns, as `select_places` says. `None` if the steps
+/// do not suffice; `OutOfMemory` is the only error.
+pub fn select_places_within(
+    alloc: Global,
+    document: Document<'_>,
+    path: &[Selector<'_>],
+    steps: usize,
+) -> Result<Option<Vec<Entry>>, Error>
+    ensures some { IfOk result (λ answer. IfSome answer (λ places. places.items
+        ≡ selected_places path.now (document_bytes document.entry))) }
+    ensures parts { IfOk result (λ answer. IfSome answer (λ places.
+        AreAllParts (document_bytes document.entry) places.items)) }
+    ensures values { IfOk result (λ answer. IfSome answer (λ places.
+        map (tree_there (document_bytes document.entry)) places.items
+        ≡ selected path.now (document_tree document.entry))) }
+    ensures enough { IfOk result (λ answer. IfSome answer (λ places.
+        select_steps path.now (document_tree document.entry) ≤ steps)) }
+    ensures none { IfOk result (λ answer. IfNone answer
+        (steps < select_steps path.now (document_tree document.entry))) }
+    ensures memory { IfErr result (λ e. e ≡ Error.OutOfMemory) }
+{
     let mut found = Vec::new(alloc);
-    let mut steps = steps as u128;
-    match append_counted(document.value(), path, &mut found, &mut steps) {
+    let mut left = steps as u128;
+    let whole = whole_of(document);
+    match append_within(document.as_bytes(), whole, path, &mut found, &mut left) {
         Ok(()) => Ok(Some(found)),
         Err(Unanswered::TooManySteps) => Ok(None),
         Err(Unanswered::OutOfMemory) => Err(Error::OutOfMemory),
@@ -129,7 +185,11 @@ pub fn select_first<'a>(document: Document<'a>, path: &[Selector<'_>]) -> Option
     ensures { option_map node_tree result
         ≡ first_tree (selected path.now (document_tree document.entry)) }
 {
-    first_selected(document.value(), path)
+    let bytes = document.as_bytes();
+    match first_place(bytes, whole_of(document), path) {
+        Some(place) => Some(node_at_place(bytes, place)),
+        None => None,
+    }
 }
 
 /// Whether a path leads to some value.
@@ -139,57 +199,122 @@ pub fn exists_path(document: Document<'_>, path: &[Selector<'_>]) -> bool
     select_first(document, path).is_some()
 }
 
-// Appends the values to which a path leads from a value.
-fn append_selected<'a>(
-    node: Node<'a>,
+// Appends the positions of the values to which a path leads from a position.
+fn append_places(
+    bytes: &[u8],
+    place: Entry,
     path: &[Selector<'_>],
-    found: &mut Vec<Node<'a>>,
+    found: &mut Vec<Entry>,
 ) -> Result<(), Error>
-    ensures appended { OnOk result (map node_tree found.new.items
-        ≡ map node_tree found.old.items ++ selected path.now (node_tree node.entry)) }
+    requires { IsPart bytes.now place }
+    ensures appended { OnOk result (found.new.items
+        ≡ found.old.items ++ selected_from path.now bytes.now place) }
     ensures memory { IfErr result (λ e. e ≡ Error.OutOfMemory) }
 {
-    let [selector, rest @ ..] = path else {
-        found.push(node)?;
+    let Some(left) = after_filters(bytes, place, path) else {
         return Ok(());
     };
-    let mut children = children_of(node, selector);
-    while let Some(child) = next_child(&mut children, selector) {
-        append_selected(child, rest, found)?;
+    let [selector, rest @ ..] = left else {
+        found.push(place)?;
+        return Ok(());
+    };
+    let mut walk = places_from(bytes, place, selector);
+    while let Some(next) = next_place(bytes, place, selector, &mut walk) {
+        append_places(bytes, next, rest, found)?;
     }
     Ok(())
 }
 
-// Appends the values to which a path leads from a value, and takes the steps for them.
-fn append_counted<'a>(
-    node: Node<'a>,
+// The steps after the filters with which a path begins: so many filters take no stack. `None` if
+// one of them does not keep the value at a position.
+fn after_filters<'p, 'a>(
+    bytes: &[u8],
+    place: Entry,
+    path: &'p [Selector<'a>],
+) -> Option<&'p [Selector<'a>]>
+    requires { IsPart bytes.now place }
+    ensures { MatchOption result (selected_from path.now bytes.now place ≡ [])
+        (λ left. LeadsOn path.now left.now bytes.now place) }
+{
+    let node = node_at_place(bytes, place);
+    let mut left = path;
+    while let [selector, rest @ ..] = left {
+        let Selector::Filter(condition) = selector else {
+            return Some(left);
+        };
+        if !holds(node, condition) {
+            return None;
+        }
+        left = rest;
+    }
+    Some(left)
+}
+
+// Appends the positions of the values to which a path leads, and takes the steps for them.
+fn append_within(
+    bytes: &[u8],
+    place: Entry,
     path: &[Selector<'_>],
-    found: &mut Vec<Node<'a>>,
+    found: &mut Vec<Entry>,
     steps: &mut u128,
 ) -> Result<(), Unanswered>
-    ensures appended { OnOk result (map node_tree found.new.items
-        ≡ map node_tree found.old.items ++ selected path.now (node_tree node.entry)) }
-    ensures cost { Takes result (select_steps path.now (node_tree node.entry))
+    requires { IsPart bytes.now place }
+    ensures appended { OnOk result (found.new.items
+        ≡ found.old.items ++ selected_from path.now bytes.now place) }
+    ensures cost { Takes result (select_steps path.now (tree_there bytes.now place))
         steps.old steps.new }
 {
-    let [selector, rest @ ..] = path else {
-        return append_found(node, found);
+    let Some(left) = after_filters_within(bytes, place, path, steps)? else {
+        return Ok(());
     };
-    ask(node, selector, steps)?;
-    let mut children = children_of(node, selector);
-    while let Some(child) = next_child(&mut children, selector) {
-        append_counted(child, rest, found, steps)?;
+    let [selector, rest @ ..] = left else {
+        return append_found(place, found);
+    };
+    ask(node_at_place(bytes, place), selector, steps)?;
+    let mut walk = places_from(bytes, place, selector);
+    while let Some(next) = next_place(bytes, place, selector, &mut walk) {
+        append_within(bytes, next, rest, found, steps)?;
     }
     Ok(())
 }
 
-// Appends a value that was found.
-fn append_found<'a>(node: Node<'a>, found: &mut Vec<Node<'a>>) -> Result<(), Unanswered>
-    ensures appended { OnOk result (map node_tree found.new.items
-        ≡ map node_tree found.old.items ++ node_tree node.entry ∷ []) }
+// The same as `after_filters`, and takes the steps for these filters.
+fn after_filters_within<'p, 'a>(
+    bytes: &[u8],
+    place: Entry,
+    path: &'p [Selector<'a>],
+    steps: &mut u128,
+) -> Result<Option<&'p [Selector<'a>]>, Unanswered>
+    requires { IsPart bytes.now place }
+    ensures kept { IfOk result (λ kept. MatchOption kept
+        (selected_from path.now bytes.now place ≡ [])
+        (λ left. LeadsOn path.now left.now bytes.now place)) }
+    ensures cost { MatchResult result
+        (λ kept. steps.old + steps_left kept (tree_there bytes.now place)
+        ≡ steps.new + select_steps path.now (tree_there bytes.now place))
+        (FallsShort steps.old (select_steps path.now (tree_there bytes.now place))) }
+{
+    let node = node_at_place(bytes, place);
+    let mut left = path;
+    while let [selector, rest @ ..] = left {
+        let Selector::Filter(condition) = selector else {
+            return Ok(Some(left));
+        };
+        ask_terms(node, &condition.terms, steps)?;
+        if !holds(node, condition) {
+            return Ok(None);
+        }
+        left = rest;
+    }
+    Ok(Some(left))
+}
+
+// Appends a position that was found.
+fn append_found(place: Entry, found: &mut Vec<Entry>) -> Result<(), Unanswered>
+    ensures appended { OnOk result (found.new.items ≡ found.old.items ++ place ∷ []) }
     ensures memory { IfErr result (λ e. e ≡ Unanswered.OutOfMemory) }
 {
-    match found.push(node) {
+    match found.push(place) {
         Ok(()) => Ok(()),
         Err(_) => Err(Unanswered::OutOfMemory),
     }
@@ -270,83 +395,23 @@ fn follow(start: Node<'_>, path: &[Step<'_>], steps: &mut u128) -> Result<(), Un
     }
 }
 
-// The first value to which a path leads from a value.
-fn first_selected<'a>(node: Node<'a>, path: &[Selector<'_>]) -> Option<Node<'a>>
-    ensures { option_map node_tree result
-        ≡ first_tree (selected path.now (node_tree node.entry)) }
+// The position of the first value to which a path leads from a position.
+fn first_place(bytes: &[u8], place: Entry, path: &[Selector<'_>]) -> Option<Entry>
+    requires { IsPart bytes.now place }
+    ensures is { result ≡ first_entry (selected_from path.now bytes.now place) }
+    ensures part { IfSome result (IsPart bytes.now) }
 {
-    let [selector, rest @ ..] = path else {
-        return Some(node);
+    let left = after_filters(bytes, place, path)?;
+    let [selector, rest @ ..] = left else {
+        return Some(place);
     };
-    let mut children = children_of(node, selector);
-    while let Some(child) = next_child(&mut children, selector) {
-        if let Some(found) = first_selected(child, rest) {
+    let mut walk = places_from(bytes, place, selector);
+    while let Some(next) = next_place(bytes, place, selector, &mut walk) {
+        if let Some(found) = first_place(bytes, next, rest) {
             return Some(found);
         }
     }
     None
-}
-
-// The children that a selector leads to.
-fn children_of<'a>(node: Node<'a>, selector: &Selector<'_>) -> Chosen<'a>
-    ensures { chosen_trees (indexes_of selector.now) result
-        ≡ children_at selector.now (node_tree node.entry) }
-{
-    match selector {
-        Selector::Key(name) => Chosen::Child(child_of(node, Step::Key(name))),
-        Selector::Index(index) => Chosen::Child(child_of(node, Step::Index(*index))),
-        Selector::FromEnd(index) => Chosen::Child(child_of(node, Step::FromEnd(*index))),
-        Selector::AllItems => items_between(node, Bound::FromStart(0), Bound::FromEnd(0)),
-        Selector::AllMembers => values_of(node),
-        Selector::Range { first, last } => items_between(node, *first, *last),
-        Selector::Indexes(_) => Chosen::Listed(Listed { node, passed: 0 }),
-        Selector::Filter(condition) => filtered(node, condition),
-    }
-}
-
-// The value itself, if the condition on it holds.
-fn filtered<'a>(node: Node<'a>, condition: &Condition<'_>) -> Chosen<'a>
-    ensures { chosen_trees [] result ≡ filtered condition.now (node_tree node.entry) }
-{
-    if holds(node, condition) {
-        Chosen::Child(Some(node))
-    } else {
-        Chosen::Child(None)
-    }
-}
-
-// The items of an array between two bounds.
-fn items_between<'a>(node: Node<'a>, first: Bound, last: Bound) -> Chosen<'a>
-    ensures { chosen_trees [] result
-        ≡ trees_between first last (tree_list (items_or_none (node_tree node.entry))) }
-{
-    let Node::Container(document) = node else {
-        return Chosen::Child(None);
-    };
-    let Some(mut items) = document.items() else {
-        return Chosen::Child(None);
-    };
-    let count = items.len();
-    let before = count_before(first, count);
-    let through = count_through(last, count);
-    skip_items(&mut items, before);
-    Chosen::Items(FirstItems {
-        items,
-        count: through.saturating_sub(before),
-    })
-}
-
-// The values of an object's members.
-fn values_of<'a>(node: Node<'a>) -> Chosen<'a>
-    ensures { chosen_trees [] result ≡ member_trees (node_tree node.entry) }
-{
-    let Node::Container(document) = node else {
-        return Chosen::Child(None);
-    };
-    match document.members() {
-        Some(members) => Chosen::Members(members),
-        None => Chosen::Child(None),
-    }
 }
 
 /// How many of so many items are before a bound.
@@ -367,62 +432,6 @@ pub fn count_through(bound: Bound, count: usize) -> usize
         Bound::FromStart(index) => index.saturating_add(1).min(count),
         Bound::FromEnd(index) => count.saturating_sub(index),
     }
-}
-
-// Passes over so many items, if there are so many.
-fn skip_items(items: &mut Items<'_>, count: usize)
-    ensures { rest_trees items.new ≡ drop count (rest_trees items.old) }
-{
-    let mut left = count;
-    while left > 0 {
-        if next_item(items).is_none() {
-            return;
-        }
-        left -= 1;
-    }
-}
-
-// The next of the items.
-fn next_first<'a>(first: &mut FirstItems<'a>) -> Option<Node<'a>>
-    ensures { YieldsFirstBy node_tree first_trees first.old result first.new }
-{
-    if first.count == 0 {
-        return None;
-    }
-    first.count -= 1;
-    next_item(&mut first.items)
-}
-
-// The next of the children.
-fn next_child<'a>(children: &mut Chosen<'a>, selector: &Selector<'_>) -> Option<Node<'a>>
-    ensures { YieldsFirstBy node_tree (chosen_trees (indexes_of selector.now))
-        children.old result children.new }
-{
-    match children {
-        Chosen::Child(child) => child.take(),
-        Chosen::Items(first) => next_first(first),
-        Chosen::Members(members) => {
-            let (_, value) = next_member(members)?;
-            Some(value)
-        }
-        Chosen::Listed(listed) => match selector {
-            Selector::Indexes(indexes) => next_listed(listed, indexes),
-            _ => None,
-        },
-    }
-}
-
-// The next of the items at indexes.
-fn next_listed<'a>(listed: &mut Listed<'a>, indexes: &[Bound]) -> Option<Node<'a>>
-    ensures { YieldsFirstBy node_tree (indexed_trees indexes.now) listed.old result listed.new }
-{
-    while let Some(index) = indexes.get(listed.passed) {
-        listed.passed += 1;
-        if let Some(item) = child_of(listed.node, step_at(*index)) {
-            return Some(item);
-        }
-    }
-    None
 }
 
 /// The step to an item at an index.
