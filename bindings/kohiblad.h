@@ -51,8 +51,8 @@
  *
  *     256 bytes: check, is_canonical, build_array, build_object, exists, object_keys, top_keys,
  *                get_path, path_in
- *     320 bytes: print, print_at, pretty, pretty_at, key, key_cut, member_key, select, compare,
- *                sort, array_intersection, array_overlap
+ *     320 bytes: print, print_at, pretty, pretty_at, key, key_cut, member_key, select,
+ *                select_within, compare, sort, array_intersection, array_overlap
  *     448 bytes: canonical, strip_nulls, index_keys
  *     576 bytes: pick, array_distinct, array_except
  *
@@ -1063,6 +1063,20 @@ static inline uint32_t kohiblad_select(const uint8_t *bytes, size_t size, const 
     size_t path_size, size_t depth, struct kohiblad_place *out, size_t room, size_t *count)
     KOHIBLAD_INLINE("kohiblad_select");
 
+/* Copies the places of the values that a path selects, as kohiblad_select does, unless that takes
+ * more than `steps` steps, for a path that others chose. There is a step for each value that a step
+ * of the path is asked of, and one for each of its items or members, or of the bytes of a text, or
+ * of binary or opaque data; a list of indexes takes as many for each of them. A filter takes one
+ * for each comparison, `&&`, `||`, `!(`, `(` and `)`, and for a comparison also one for each item,
+ * member or byte of each value on the way of its path: `$.*?(@ > 1)` takes 3 of {"a":2}.
+ * INVALID_UTF8 if the text is not UTF-8; INVALID_JSONB if the bytes are not a document of at most
+ * this depth; OTHER_KIND if the text is not a path; TOO_MANY_STEPS if the steps do not suffice;
+ * OUT_OF_MEMORY if an allocation fails; NO_ROOM if `out` is too short. If the status is not OK,
+ * `out` is unchanged, and `*count` is 0, or for NO_ROOM the number of places. */
+static inline uint32_t kohiblad_select_within(const uint8_t *bytes, size_t size,
+    const uint8_t *path, size_t path_size, size_t depth, size_t steps, struct kohiblad_place *out,
+    size_t room, size_t *count) KOHIBLAD_INLINE("kohiblad_select_within");
+
 /* Copies the index keys of a document to `out`: one for each scalar, the FNV-1a hash of 64 bits of
  * the keys of the objects around it, from the outermost, each escaped and ended as in a comparable
  * key, then a byte 0, and then the scalar's comparable key. A document that contains another has
@@ -1273,6 +1287,9 @@ struct kohiblad_place kohiblad_export_get_path(const uint8_t *bytes, size_t size
 uint32_t kohiblad_export_select(const uint8_t *bytes, size_t size, const uint8_t *path,
     size_t path_size, size_t depth, struct kohiblad_place *out, size_t room, size_t *count)
     KOHIBLAD_EXPORT("kohiblad_select");
+uint32_t kohiblad_export_select_within(const uint8_t *bytes, size_t size, const uint8_t *path,
+    size_t path_size, size_t depth, size_t steps, struct kohiblad_place *out, size_t room,
+    size_t *count) KOHIBLAD_EXPORT("kohiblad_select_within");
 uint32_t kohiblad_export_index_keys(const uint8_t *bytes, size_t size, size_t depth,
     uint64_t *out, size_t room, size_t *count) KOHIBLAD_EXPORT("kohiblad_index_keys");
 uint32_t kohiblad_export_top_keys(const uint8_t *bytes, size_t size, size_t depth,
@@ -1944,6 +1961,15 @@ static inline uint32_t kohiblad_select(const uint8_t *bytes, size_t size, const 
         return KOHIBLAD_OVERLAP;
     return kohiblad_export_select(kohiblad_in(bytes), size, kohiblad_in(path), path_size, depth,
         kohiblad_places_out(out), room, count);
+}
+static inline uint32_t kohiblad_select_within(const uint8_t *bytes, size_t size,
+    const uint8_t *path, size_t path_size, size_t depth, size_t steps, struct kohiblad_place *out,
+    size_t room, size_t *count) {
+    if (!kohiblad_are_apart(out, room * sizeof *out, count, bytes, size)
+        || !kohiblad_are_apart(out, room * sizeof *out, count, path, path_size))
+        return KOHIBLAD_OVERLAP;
+    return kohiblad_export_select_within(kohiblad_in(bytes), size, kohiblad_in(path), path_size,
+        depth, steps, kohiblad_places_out(out), room, count);
 }
 static inline uint32_t kohiblad_index_keys(const uint8_t *bytes, size_t size, size_t depth,
     uint64_t *out, size_t room, size_t *count) {

@@ -344,6 +344,9 @@ struct kohiblad_place kohiblad_get_path(const uint8_t *bytes, size_t size, const
     size_t path_size, size_t depth);
 uint32_t kohiblad_select(const uint8_t *bytes, size_t size, const uint8_t *path, size_t path_size,
     size_t depth, struct kohiblad_place *out, size_t room, size_t *count);
+uint32_t kohiblad_select_within(const uint8_t *bytes, size_t size, const uint8_t *path,
+    size_t path_size, size_t depth, size_t steps, struct kohiblad_place *out, size_t room,
+    size_t *count);
 uint32_t kohiblad_index_keys(const uint8_t *bytes, size_t size, size_t depth, uint64_t *out,
     size_t room, size_t *count);
 uint32_t kohiblad_top_keys(const uint8_t *bytes, size_t size, size_t depth, uint64_t *out,

@@ -29,15 +29,15 @@ use Rattle.jsonb_codec.specs.Parts.{IsPayloadOf}
 use Rattle.jsonb_codec.specs.WordBytes.{header_at, word}
 use Rattle.jsonb.specs.Building.{key_codes}
 use Rattle.jsonb.specs.Children.{Pairwise}
-use Rattle.jsonb.specs.Entries.{Run, entry_read, entry_there, item_run, key_run}
-use Rattle.jsonb.specs.Entries.{placed_by, placed_from, until_error, value_run}
-use Rattle.jsonb.specs.Item.{Entry}
+use Rattle.jsonb.specs.Entry.{entry_read, entry_there, placed_by, Code}
+use Rattle.jsonb.specs.Entries.{Run, item_run, key_run}
+use Rattle.jsonb.specs.Entries.{placed_from, until_error, value_run}
 use Rattle.jsonb.specs.Node.{items_of, pair_list, tree_list, value_of_key}
 use Rattle.jsonb.specs.Lookup.{find_pair}
 use Rattle.jsonb.specs.Parts.{length_in}
 use Rattle.jsonb.specs.Steps.{◌>>=◌}
 use Rattle.jsonb.specs.StoredEntries.{AreCodesOf, AreMemberEntriesOf}
-use Rattle.jsonb.specs.declared.entries.Entry.{Entry as PlacedEntry}
+use Rattle.jsonb.specs.declared.entries.Entry.{Entry}
 use Rattle.jsonb.proofs.EntryTreeLaws.{entry_tree-is}
 use Rattle.jsonb.proofs.KindLaws.{At-entry, IsTag-type_of, container_cases, header_at-Scalar}
 use Rattle.jsonb.proofs.KindLaws.{header_at-array, header_at-object}
@@ -71,31 +71,31 @@ use Rattle.jsonb_functions.specs.declared.selection.Selector.TheVariants as sele
 use Rattle.jsonb_functions.proofs.SelectLaws.{drop_take, index_there, none_left}
 
 -- A place inside the bytes, where the tree is.
-abbrev pub Held : List ℕ → PlacedEntry → Tree → Type 0
+abbrev pub Held : List ℕ → Entry → Tree → Type 0
 Held bytes place t = IsPlaceWithin bytes place × HoldsTree bytes place t
 
 -- There is such a place exactly if there is a tree.
-abbrev pub HeldFound : List ℕ → Option PlacedEntry → Option Tree → Type 0
+abbrev pub HeldFound : List ℕ → Option Entry → Option Tree → Type 0
 HeldFound bytes (Some place) (Some t) = Held bytes place t
 HeldFound bytes (Some place) None = ⊥
 HeldFound bytes None (Some t) = ⊥
 HeldFound bytes None None = ⊤
 
-holds_entry : (b : List ℕ) (place : PlacedEntry) (c : Entry) (t : Tree)
+holds_entry : (b : List ℕ) (place : Entry) (c : Code) (t : Tree)
     → entry_there b place ≡ c → IsPayloadOf c.type c.payload t → HoldsTree b place t
 holds_entry b place c t there =
-    subst (λ (e : Entry). IsPayloadOf e.type e.payload t) (sym there)
+    subst (λ (e : Code). IsPayloadOf e.type e.payload t) (sym there)
 
 abbrev Placed : Type 0
-Placed = List (Result PlacedEntry Error)
+Placed = List (Result Entry Error)
 
 -- The entries that were read, where all were.
-pub record AreRead (b : List ℕ) (placed : Placed) (cs : List Entry) : Type 0 where
-  pub places : List PlacedEntry
+pub record AreRead (b : List ℕ) (placed : Placed) (cs : List Code) : Type 0 where
+  pub places : List Entry
   pub all : placed ≡ map Ok places
   pub there : map (entry_there b) places ≡ cs
 
-pub are_read : (b : List ℕ) (placed : Placed) (cs : List Entry)
+pub are_read : (b : List ℕ) (placed : Placed) (cs : List Code)
     → until_error (map (entry_read b) placed) ≡ map Ok cs → AreRead b placed cs
 are_read b [] [] e = record { places = []; all = refl; there = refl }
 are_read b [] (c ∷ cs) e = absurd cc
@@ -106,13 +106,13 @@ are_read b (Ok place ∷ placed) (c ∷ cs) e =
     let more = are_read b placed cs rest in record {
       places = place ∷ more.places;
       all = ap (λ (xs : Placed). Ok place ∷ xs) more.all;
-      there = ap₂ (λ (x : Entry) (xs : List Entry). x ∷ xs) first more.there;
+      there = ap₂ (λ (x : Code) (xs : List Code). x ∷ xs) first more.there;
     }
 are_read b (Err e ∷ placed) [] is = absurd cc
 are_read b (Err e ∷ placed) (c ∷ cs) is = absurd cc
 
 -- All that were read are inside the bytes.
-abbrev pub AreWithin : List ℕ → List PlacedEntry → Type 0
+abbrev pub AreWithin : List ℕ → List Entry → Type 0
 AreWithin b [] = ⊤
 AreWithin b (place ∷ places) = IsPlaceWithin b place × AreWithin b places
 
@@ -138,11 +138,11 @@ run_within b (suc n) word start =
     (run_within b n (word + 4) (start + length_in (jentry_at b word)))
 
 -- What is left of them.
-pub read_all : (places : List PlacedEntry) → read_entries (map Ok places) ≡ places
+pub read_all : (places : List Entry) → read_entries (map Ok places) ≡ places
 read_all [] = refl
 read_all (place ∷ places) = ap (λ xs. place ∷ xs) (read_all places)
 
-left_all : (n : ℕ) (places : List PlacedEntry)
+left_all : (n : ℕ) (places : List Entry)
     → entries_after n (map Ok places) ≡ drop n places
 left_all zero places = read_all places
 left_all (suc n) [] = refl
@@ -164,7 +164,7 @@ Pairwise-drop R (suc n) [] ys h = ap (drop (suc n)) h
 Pairwise-drop R (suc n) (x ∷ xs) [] h = absurd h
 Pairwise-drop R (suc n) (x ∷ xs) (y ∷ ys) h = Pairwise-drop R n xs ys h.1
 
-first_of : (b : List ℕ) (n : ℕ) (places : List PlacedEntry) (ts : List Tree)
+first_of : (b : List ℕ) (n : ℕ) (places : List Entry) (ts : List Tree)
     → Pairwise (Held b) places ts
     → HeldFound b (first_entry (drop n places)) (slice_get ts n)
 first_of b zero [] [] h = tt
@@ -208,7 +208,7 @@ length-tree_list : (ts : Trees) → length (tree_list ts) ≡ count ts
 length-tree_list no_trees = refl
 length-tree_list (tree t ts) = ap suc (length-tree_list ts)
 
-items_held : (b : List ℕ) (places : List PlacedEntry) (cs : List Entry) (ts : Trees)
+items_held : (b : List ℕ) (places : List Entry) (cs : List Code) (ts : Trees)
     → map (entry_there b) places ≡ cs → AreWithin b places → AreCodesOf cs ts
     → Pairwise (Held b) places (tree_list ts)
 items_held b [] [] ts there within mean = ap tree_list mean
@@ -224,7 +224,7 @@ items_held b (place ∷ places) (c ∷ cs) (tree t ts) there within mean =
 
 -- the entries of an array, with their places
 pub record ArrayPlaced (b : List ℕ) (ts : Trees) : Type 0 where
-  pub places : List PlacedEntry
+  pub places : List Entry
   pub all : (item_run b (count ts)).entries ≡ map Ok places
   pub held : Pairwise (Held b) places (tree_list ts)
 
@@ -274,18 +274,18 @@ name_test : (name key : List ℕ)
 name_test name key = name_by name key (pointwise nat_eq name key) refl
 
 module _ (b name : List ℕ) where
-  named_by : (test : Bool) (place : PlacedEntry) (t : Tree) (found : Option PlacedEntry)
+  named_by : (test : Bool) (place : Entry) (t : Tree) (found : Option Entry)
       (value : Option Tree) → Held b place t → HeldFound b found value
       → HeldFound b (if test then Some place else found) (if test then Some t else value)
   named_by true place t found value held more = held
   named_by false place t found value held more = more
 
-  same_test : (key : PlacedEntry) (k l : List ℕ) → (entry_there b key).payload ≡ k → k ≡ l
+  same_test : (key : Entry) (k l : List ℕ) → (entry_there b key).payload ≡ k → k ≡ l
       → pointwise nat_eq name (entry_there b key).payload
       ≡ ((length l == length name) && pointwise nat_eq name l)
   same_test key k l there same = ap (pointwise nat_eq name) (there ∙ same) ∙ name_test name l
 
-  named_held : (keys values : List PlacedEntry) (ms : List (List ℕ × Entry)) (ps : Pairs)
+  named_held : (keys values : List Entry) (ms : List (List ℕ × Code)) (ps : Pairs)
       → map (entry_there b) keys ≡ key_codes (keys_of ms)
       → map (entry_there b) values ≡ values_of ms → AreWithin b values
       → AreMemberEntriesOf (keys_of ms) (values_of ms) ps
@@ -299,7 +299,7 @@ module _ (b name : List ℕ) where
   named_held (key ∷ keys) (value ∷ values) (m ∷ ms) no_pairs there are within mean = absurd mean
   named_held (key ∷ keys) (value ∷ values) (m ∷ ms) (pair l t ps) there are within mean =
       let key_is : entry_there b key ≡ record { type = 268435456; payload = m.0 } = cc in
-      let first : (entry_there b key).payload ≡ m.0 = ap (λ (e : Entry). e.payload) key_is in
+      let first : (entry_there b key).payload ≡ m.0 = ap (λ (e : Code). e.payload) key_is in
       let value_is : entry_there b value ≡ m.1 = cc in
       let keys_are : map (entry_there b) keys ≡ key_codes (keys_of ms) = cc in
       let values_are : map (entry_there b) values ≡ values_of ms = cc in
@@ -309,7 +309,7 @@ module _ (b name : List ℕ) where
       (within.0, holds_entry b value m.1 t value_is mean.1.0)
       (named_held keys values ms ps keys_are values_are within.1 mean.1.1))
 
-values_held : (b : List ℕ) (values : List PlacedEntry) (ms : List (List ℕ × Entry)) (ps : Pairs)
+values_held : (b : List ℕ) (values : List Entry) (ms : List (List ℕ × Code)) (ps : Pairs)
     → map (entry_there b) values ≡ values_of ms → AreWithin b values
     → AreMemberEntriesOf (keys_of ms) (values_of ms) ps
     → Pairwise (Held b) values (map (λ p. p.1) (pair_list ps))
@@ -326,9 +326,9 @@ values_held b (value ∷ values) (m ∷ ms) (pair l t ps) are within mean =
 
 -- the entries of an object, with their places
 pub record ObjectPlaced (b : List ℕ) (ps : Pairs) : Type 0 where
-  pub keys : List PlacedEntry
-  pub values : List PlacedEntry
-  pub members : List (List ℕ × Entry)
+  pub keys : List Entry
+  pub values : List Entry
+  pub members : List (List ℕ × Code)
   pub all_keys : read_entries (key_run b (pair_count ps)).entries ≡ keys
   pub all_values : run_entries (value_run b (pair_count ps)) ≡ values
   pub keys_there : map (entry_there b) keys ≡ key_codes (keys_of members)
@@ -386,7 +386,7 @@ payload_moved bytes s l c k inside =
     ∙ take-take k (l - c) (drop c (drop s bytes)) (omega arith)
     ∙ ap (take k) (drop-drop c s bytes)
 
-entry_moved : (bytes : List ℕ) (place child : PlacedEntry) (t : Tree)
+entry_moved : (bytes : List ℕ) (place child : Entry) (t : Tree)
     → IsPlaceWithin bytes place → Held (entry_there bytes place).payload child t
     → Held bytes (moved place.start child) t
 entry_moved bytes place child t inside held =
@@ -402,18 +402,18 @@ entry_moved bytes place child t inside held =
       ),
     )
 
-module _ (bytes : List ℕ) (place : PlacedEntry) (inside : IsPlaceWithin bytes place) where
+module _ (bytes : List ℕ) (place : Entry) (inside : IsPlaceWithin bytes place) where
   abbrev payload : List ℕ
   payload = (entry_there bytes place).payload
 
-  found_moved : (found : Option PlacedEntry) (value : Option Tree) → HeldFound payload found value
+  found_moved : (found : Option Entry) (value : Option Tree) → HeldFound payload found value
       → HeldFound bytes (option_map (moved place.start) found) value
   found_moved None None h = tt
   found_moved None (Some t) h = absurd h
   found_moved (Some child) None h = absurd h
   found_moved (Some child) (Some t) h = entry_moved bytes place child t inside h
 
-  all_moved : (places : List PlacedEntry) (ts : List Tree) → Pairwise (Held payload) places ts
+  all_moved : (places : List Entry) (ts : List Tree) → Pairwise (Held payload) places ts
       → Pairwise (Held bytes) (map (moved place.start) places) ts
   all_moved [] ts h = h
   all_moved (child ∷ places) [] h = absurd h
@@ -507,12 +507,12 @@ all_between ts =
     ∙ ap (λ (n : ℕ). take n ts) (sub-zero (length ts)) ∙ take-length ts
 
 -- A filter leads to the place itself, or to none.
-kept_held : (bytes : List ℕ) (place : PlacedEntry) (t : Tree) (b : Bool) → Held bytes place t
+kept_held : (bytes : List ℕ) (place : Entry) (t : Tree) (b : Bool) → Held bytes place t
     → Pairwise (Held bytes) (if b then place ∷ [] else []) (if b then t ∷ [] else [])
 kept_held bytes place t true held = (held, refl)
 kept_held bytes place t false held = refl
 
-filter_held : (condition : Condition) (bytes : List ℕ) (place : PlacedEntry) (t : Tree)
+filter_held : (condition : Condition) (bytes : List ℕ) (place : Entry) (t : Tree)
     → Held bytes place t
     → Pairwise (Held bytes) (places_at (selectors.Filter condition) bytes place)
     (filtered condition t)
@@ -521,7 +521,7 @@ filter_held condition bytes place t held =
     rw same (kept_held bytes place t (holds condition t) held)
 
 -- What is at the places of the items at indexes.
-one_held : (bytes : List ℕ) (found : Option PlacedEntry) (value : Option Tree)
+one_held : (bytes : List ℕ) (found : Option Entry) (value : Option Tree)
     → HeldFound bytes found value
     → Pairwise (Held bytes) (option_to_list found) (option_to_list value)
 one_held bytes None None h = refl
@@ -529,14 +529,14 @@ one_held bytes None (Some u) h = absurd h
 one_held bytes (Some p) None h = absurd h
 one_held bytes (Some p) (Some u) h = (h, refl)
 
-step_places : (s : Step) (bytes : List ℕ) (place : PlacedEntry) (t : Tree) → Held bytes place t
+step_places : (s : Step) (bytes : List ℕ) (place : Entry) (t : Tree) → Held bytes place t
     → Pairwise (Held bytes) (option_to_list (step_place s bytes place))
     (option_to_list (child_at s t))
 step_places s bytes place t held =
     one_held bytes (step_place s bytes place) (child_at s t)
     (step_held bytes place held.0 s t held.1)
 
-listed_held : (indexes : List Bound) (bytes : List ℕ) (place : PlacedEntry) (t : Tree)
+listed_held : (indexes : List Bound) (bytes : List ℕ) (place : Entry) (t : Tree)
     → Held bytes place t
     → Pairwise (Held bytes) (listed_places bytes place indexes) (trees_at indexes t)
 listed_held [] bytes place t held = refl
@@ -548,11 +548,11 @@ listed_held (index ∷ indexes) bytes place t held =
     (listed_held indexes bytes place t held)
 
 -- The first index that is left was passed, and there is an item or none.
-module _ (bytes : List ℕ) (place : PlacedEntry) (indexes : List Bound) (n : ℕ) (index : Bound)
-    (step : Step) (whole : List PlacedEntry) (low : n < length indexes)
+module _ (bytes : List ℕ) (place : Entry) (indexes : List Bound) (n : ℕ) (index : Bound)
+    (step : Step) (whole : List Entry) (low : n < length indexes)
     (is : index ≡ slice_index_or indexes n index) (to : step ≡ step_at index)
     (left : listed_places bytes place (drop n indexes) ≡ whole) where
-  abbrev places_after : List PlacedEntry
+  abbrev places_after : List Entry
   places_after = listed_places bytes place (drop (n + 1) indexes)
 
   one_passed : whole ≡ option_to_list (step_place step bytes place) ++ places_after
@@ -560,15 +560,15 @@ module _ (bytes : List ℕ) (place : PlacedEntry) (indexes : List Bound) (n : �
       sym left ∙ ap (listed_places bytes place) (index_there indexes n index low is)
       ∙ ap (λ s. option_to_list (step_place s bytes place) ++ places_after) (sym to)
 
-  pub item_next : (item : PlacedEntry) → Some item ≡ step_place step bytes place
+  pub item_next : (item : Entry) → Some item ≡ step_place step bytes place
       → whole ≡ item ∷ places_after
   item_next item found = one_passed ∙ ap (λ o. option_to_list o ++ places_after) (sym found)
 
   pub item_missing : None ≡ step_place step bytes place → places_after ≡ whole
   item_missing none = sym (one_passed ∙ ap (λ o. option_to_list o ++ places_after) (sym none))
 
-pub none_listed : (bytes : List ℕ) (place : PlacedEntry) (indexes : List Bound) (n : ℕ)
-    (whole : List PlacedEntry) → length indexes ≤ n
+pub none_listed : (bytes : List ℕ) (place : Entry) (indexes : List Bound) (n : ℕ)
+    (whole : List Entry) → length indexes ≤ n
     → listed_places bytes place (drop n indexes) ≡ whole
     → (whole ≡ []) × (listed_places bytes place (drop n indexes) ≡ [])
 none_listed bytes place indexes n whole past left =
@@ -577,7 +577,7 @@ none_listed bytes place indexes n whole past left =
     (sym left ∙ none, none)
 
 -- What is at the places to which a selector leads.
-selector_held : (s : Selector) (bytes : List ℕ) (place : PlacedEntry) (t : Tree)
+selector_held : (s : Selector) (bytes : List ℕ) (place : Entry) (t : Tree)
     → Held bytes place t
     → Pairwise (Held bytes) (places_at s bytes place) (children_at s t)
 selector_held (selectors.Key k) bytes place t held = step_places (steps.Key k) bytes place t held
@@ -599,7 +599,7 @@ selector_held (selectors.Filter condition) bytes place t held =
     filter_held condition bytes place t held
 
 -- What is at the places to which a path with wildcards leads.
-pub selected_held : (path : List Selector) (bytes : List ℕ) (place : PlacedEntry) (t : Tree)
+pub selected_held : (path : List Selector) (bytes : List ℕ) (place : Entry) (t : Tree)
     → Held bytes place t
     → Pairwise (Held bytes) (selected_from path bytes place) (selected path t)
 selected_held [] bytes place t held = (held, refl)
@@ -609,33 +609,33 @@ selected_held (s ∷ path) bytes place t held =
     (places_at s bytes place) (children_at s t) (selector_held s bytes place t held)
 
 -- Each of the places to which a selector leads holds a tree.
-parts_held : (bytes : List ℕ) (places : List PlacedEntry) (ts : List Tree)
+parts_held : (bytes : List ℕ) (places : List Entry) (ts : List Tree)
     → Pairwise (Held bytes) places ts → AreAllParts bytes places
 parts_held bytes [] ts held = tt
 parts_held bytes (place ∷ places) [] held = absurd held
 parts_held bytes (place ∷ places) (t ∷ ts) held =
     ((t, held.0.0, held.0.1), parts_held bytes places ts held.1)
 
-parts_at : (s : Selector) (bytes : List ℕ) (place : PlacedEntry) → IsPart bytes place
+parts_at : (s : Selector) (bytes : List ℕ) (place : Entry) → IsPart bytes place
     → AreAllParts bytes (places_at s bytes place)
 parts_at s bytes place part =
     parts_held bytes (places_at s bytes place) (children_at s part.0)
     (selector_held s bytes place part.0 (part.1, part.2))
 
-pub walk_parts : (s : Selector) (bytes : List ℕ) (place : PlacedEntry) (walk : PlaceWalk)
+pub walk_parts : (s : Selector) (bytes : List ℕ) (place : Entry) (walk : PlaceWalk)
     → IsPart bytes place → walk_places (indexes_of s) bytes place walk ≡ places_at s bytes place
     → AreAllParts bytes (walk_places (indexes_of s) bytes place walk)
 walk_parts s bytes place walk part e =
     subst (AreAllParts bytes) (sym e) (parts_at s bytes place part)
 
 -- A part by its tree.
-pub part_held : (bytes : List ℕ) (place : PlacedEntry) → IsPart bytes place
+pub part_held : (bytes : List ℕ) (place : Entry) → IsPart bytes place
     → Held bytes place (tree_there bytes place)
 part_held bytes place part =
     let same = entry_tree-is place.type_code (entry_there bytes place).payload part.0 part.2 in
     (part.1, subst (HoldsTree bytes place) (sym same) part.2)
 
-trees_held : (bytes : List ℕ) (places : List PlacedEntry) (ts : List Tree)
+trees_held : (bytes : List ℕ) (places : List Entry) (ts : List Tree)
     → Pairwise (Held bytes) places ts → map (tree_there bytes) places ≡ ts
 trees_held bytes [] ts h = sym h
 trees_held bytes (place ∷ places) [] h = absurd h
@@ -644,28 +644,28 @@ trees_held bytes (place ∷ places) (t ∷ ts) h =
     (entry_tree-is place.type_code (entry_there bytes place).payload t h.0.1)
     (trees_held bytes places ts h.1)
 
-pub trees_at_places : (s : Selector) (bytes : List ℕ) (place : PlacedEntry) → IsPart bytes place
+pub trees_at_places : (s : Selector) (bytes : List ℕ) (place : Entry) → IsPart bytes place
     → map (tree_there bytes) (places_at s bytes place) ≡ children_at s (tree_there bytes place)
 trees_at_places s bytes place part =
     trees_held bytes (places_at s bytes place) (children_at s (tree_there bytes place))
     (selector_held s bytes place (tree_there bytes place) (part_held bytes place part))
 
 -- The values that a path selects, by their places.
-pub selected_trees : (path : List Selector) (bytes : List ℕ) (place : PlacedEntry)
+pub selected_trees : (path : List Selector) (bytes : List ℕ) (place : Entry)
     → IsPart bytes place → map (tree_there bytes) (selected_from path bytes place)
     ≡ selected path (tree_there bytes place)
 selected_trees path bytes place part =
     trees_held bytes (selected_from path bytes place) (selected path (tree_there bytes place))
     (selected_held path bytes place (tree_there bytes place) (part_held bytes place part))
 
-pub selected_parts : (path : List Selector) (bytes : List ℕ) (place : PlacedEntry)
+pub selected_parts : (path : List Selector) (bytes : List ℕ) (place : Entry)
     → IsPart bytes place → AreAllParts bytes (selected_from path bytes place)
 selected_parts path bytes place part =
     parts_held bytes (selected_from path bytes place) (selected path part.0)
     (selected_held path bytes place part.0 (part.1, part.2))
 
 -- The places to which the first step of a path leads are those from which the others go on.
-pub first_step : (path : List Selector) (s : Selector) (bytes : List ℕ) (place : PlacedEntry)
+pub first_step : (path : List Selector) (s : Selector) (bytes : List ℕ) (place : Entry)
     → 1 ≤ length path → get_or path 0 s ≡ s
     → selected_from path bytes place
     ≡ flat_map (λ next. selected_from (take (length path - 1) (drop 1 path)) bytes next)
@@ -681,7 +681,7 @@ first_step (x ∷ rest) s bytes place some first =
     (places_at u bytes place)) first
 
 -- so do the steps that it takes
-sum_of_trees : (f : Tree → ℕ) (bytes : List ℕ) (places : List PlacedEntry)
+sum_of_trees : (f : Tree → ℕ) (bytes : List ℕ) (places : List Entry)
     → sum_by f (map (tree_there bytes) places) ≡ sum_by (λ next. f (tree_there bytes next)) places
 sum_of_trees f bytes [] = refl
 sum_of_trees f bytes (place ∷ places) =
@@ -689,7 +689,7 @@ sum_of_trees f bytes (place ∷ places) =
     ∙ ap (λ (n : ℕ). f (tree_there bytes place) + n) (sum_of_trees f bytes places)
     ∙ sym (sum_by-cons (λ next. f (tree_there bytes next)) place places)
 
-pub first_steps : (path : List Selector) (s : Selector) (bytes : List ℕ) (place : PlacedEntry)
+pub first_steps : (path : List Selector) (s : Selector) (bytes : List ℕ) (place : Entry)
     → IsPart bytes place → 1 ≤ length path → get_or path 0 s ≡ s
     → select_steps path (tree_there bytes place) ≡ asked s (tree_there bytes place)
     + sum_by (λ next. select_steps (take (length path - 1) (drop 1 path)) (tree_there bytes next))
@@ -709,16 +709,16 @@ first_steps (x ∷ rest) s bytes place part some first =
     (places_at s bytes place))
 
 -- What is at the place to which a path leads.
-first_held : (bytes : List ℕ) (found : Option PlacedEntry) (o : Option Tree)
-    (f : PlacedEntry → Option PlacedEntry) (g : Tree → Option Tree)
-    → ((p : PlacedEntry) (u : Tree) → Held bytes p u → HoldsFound bytes (f p) (g u))
+first_held : (bytes : List ℕ) (found : Option Entry) (o : Option Tree)
+    (f : Entry → Option Entry) (g : Tree → Option Tree)
+    → ((p : Entry) (u : Tree) → Held bytes p u → HoldsFound bytes (f p) (g u))
     → HeldFound bytes found o → HoldsFound bytes (at_place found f) (if_there o g)
 first_held bytes None None f g each h = tt
 first_held bytes None (Some u) f g each h = absurd h
 first_held bytes (Some p) None f g each h = absurd h
 first_held bytes (Some p) (Some u) f g each h = each p u h
 
-pub end_held : (path : List Step) (bytes : List ℕ) (place : PlacedEntry) (t : Tree)
+pub end_held : (path : List Step) (bytes : List ℕ) (place : Entry) (t : Tree)
     → Held bytes place t → HoldsFound bytes (place_from path bytes place) (found_at path t)
 end_held [] bytes place t held = held.1
 end_held (s ∷ path) bytes place t held =
@@ -729,7 +729,7 @@ end_held (s ∷ path) bytes place t held =
 
 -- The place of a whole document.
 abbrev IsWhole : List ℕ → Tree → Type 0
-IsWhole bytes t = (place : PlacedEntry) × ((whole_place bytes ≡ Ok place) × Held bytes place t)
+IsWhole bytes t = (place : Entry) × ((whole_place bytes ≡ Ok place) × Held bytes place t)
 
 whole_container : (bytes : List ℕ) (t : Tree) (tag n : ℕ) → header_at bytes 0 ≡ Ok (tag, n)
     → whole_under bytes (Ok (tag, n))
@@ -752,7 +752,7 @@ whole_scalar bytes t h =
     let jentry = jentry_at-At bytes 4 (type_of t) size (IsTag-type_of t) h.short here in
     let within = within-At bytes 8 h.payload there in
     let inside = le-leb (8 + size) (length bytes) within in
-    let place : PlacedEntry = record { type_code = type_of t; start = 8; length = size } in (
+    let place : Entry = record { type_code = type_of t; start = 8; length = size } in (
       place,
       (
         ap (whole_under bytes) (header_at-Scalar bytes t h) ∙ rw (jentry, inside) refl,
@@ -795,39 +795,39 @@ pub whole_read : (bytes : List ℕ) (t : Tree) (e : Error) → Doc bytes t
     → Err e ≡ whole_place bytes → ⊥
 whole_read bytes t e doc none =
     let (whole, (is, held)) = whole_held bytes t doc in
-    let both : ◌≡◌ {A = Result PlacedEntry Error} (Err e) (Ok whole) = none ∙ is in absurd cc
+    let both : ◌≡◌ {A = Result Entry Error} (Err e) (Ok whole) = none ∙ is in absurd cc
 
-pub whole_there : (bytes : List ℕ) (t : Tree) (place : PlacedEntry) → Doc bytes t
+pub whole_there : (bytes : List ℕ) (t : Tree) (place : Entry) → Doc bytes t
     → Ok place ≡ whole_place bytes → Held bytes place t
 whole_there bytes t place doc found =
     let (whole, (is, held)) = whole_held bytes t doc in
     let both : Ok whole ≡ Ok place = sym is ∙ sym found in
     let same : whole ≡ place = cc in
-    subst (λ (p : PlacedEntry). Held bytes p t) same held
+    subst (λ (p : Entry). Held bytes p t) same held
 
-pub whole_part : (bytes : List ℕ) (t : Tree) (place : PlacedEntry) → Doc bytes t
+pub whole_part : (bytes : List ℕ) (t : Tree) (place : Entry) → Doc bytes t
     → Ok place ≡ whole_place bytes → IsPart bytes place
 whole_part bytes t place doc found =
     let held = whole_there bytes t place doc found in (t, held.0, held.1)
 
-pub whole_tree : (bytes : List ℕ) (t : Tree) (place : PlacedEntry) → Doc bytes t
+pub whole_tree : (bytes : List ℕ) (t : Tree) (place : Entry) → Doc bytes t
     → Ok place ≡ whole_place bytes → tree_there bytes place ≡ t
 whole_tree bytes t place doc found =
     entry_tree-is place.type_code (entry_there bytes place).payload t
     (whole_there bytes t place doc found).1
 
 -- What was appended to nothing.
-pub appended_alone : (path : List Selector) (b bytes : List ℕ) (place : PlacedEntry)
-    (before found : List PlacedEntry) → before ≡ [] → b ≡ bytes
+pub appended_alone : (path : List Selector) (b bytes : List ℕ) (place : Entry)
+    (before found : List Entry) → before ≡ [] → b ≡ bytes
     → found ≡ before ++ selected_from path b place → found ≡ selected_from path bytes place
 appended_alone path b bytes place before found none same are =
     are
-    ∙ ap₂ (λ (ps : List PlacedEntry) (x : List ℕ). ps ++ selected_from path x place) none same
+    ∙ ap₂ (λ (ps : List Entry) (x : List ℕ). ps ++ selected_from path x place) none same
 
 -- The places that a path selects from there, and the values at them.
-module _ (path : List Selector) (bytes : List ℕ) (t : Tree) (place : PlacedEntry)
+module _ (path : List Selector) (bytes : List ℕ) (t : Tree) (place : Entry)
     (part : IsPart bytes place)
-    (means : tree_there bytes place ≡ t) (found : List PlacedEntry)
+    (means : tree_there bytes place ≡ t) (found : List Entry)
     (are : found ≡ selected_from path bytes place) where
   pub parts_selected : AreAllParts bytes found
   parts_selected = subst (AreAllParts bytes) (sym are) (selected_parts path bytes place part)
@@ -838,18 +838,18 @@ module _ (path : List Selector) (bytes : List ℕ) (t : Tree) (place : PlacedEnt
       ∙ ap (selected path) means
 
 -- A filter that keeps what is at a place leads on from there, and another one nowhere.
-kept_place : (f : PlacedEntry → List PlacedEntry) (place : PlacedEntry) (b : Bool) → b ≡ true
+kept_place : (f : Entry → List Entry) (place : Entry) (b : Bool) → b ≡ true
     → flat_map f (if b then place ∷ [] else []) ≡ f place
 kept_place f place b is =
     ap (λ (k : Bool). flat_map f (if k then place ∷ [] else [])) is ∙ append-nil (f place)
 
 module _ (path : List Selector) (s : Selector) (condition : Condition) (bytes : List ℕ)
-    (place : PlacedEntry) (some : 1 ≤ length path) (first : get_or path 0 s ≡ s)
+    (place : Entry) (some : 1 ≤ length path) (first : get_or path 0 s ≡ s)
     (is : s ≡ selectors.Filter condition) where
   abbrev rest : List Selector
   rest = take (length path - 1) (drop 1 path)
 
-  abbrev kept : List PlacedEntry
+  abbrev kept : List Entry
   kept = places_at (selectors.Filter condition) bytes place
 
   by_filter : selected_from path bytes place
@@ -904,7 +904,7 @@ module _ (path : List Selector) (s : Selector) (condition : Condition) (bytes : 
       omega (arith, all)
 
 -- A key is not found where no value can be read, and all values are taken.
-no_values : (name b : List ℕ) (keys : List PlacedEntry) → None ≡ named_entry name b keys []
+no_values : (name b : List ℕ) (keys : List Entry) → None ≡ named_entry name b keys []
 no_values name b [] = refl
 no_values name b (key ∷ keys) = refl
 
@@ -918,7 +918,7 @@ all_taken [] = refl
 all_taken (Ok place ∷ placed) = ap (λ xs. place ∷ xs) (all_taken placed)
 all_taken (Err e ∷ placed) = refl
 
-pub values_walked : (bytes : List ℕ) (place : PlacedEntry) (b : List ℕ) (n : ℕ) (run : Run)
+pub values_walked : (bytes : List ℕ) (place : Entry) (b : List ℕ) (n : ℕ) (run : Run)
     (left : ℕ) → b ≡ (entry_there bytes place).payload
     → header_there bytes place ≡ Some (OBJECT_CONTAINER_TAG, n) → value_run b n ≡ Ok run
     → left ≡ length run.entries
@@ -932,7 +932,7 @@ values_walked bytes place b n run left same header values many =
     (value_entries (entry_there bytes place).payload h)) (sym header)
 
 -- What a walk over the places to which the first selector leads has to give.
-module _ (left : List Selector) (s : Selector) (bytes : List ℕ) (place : PlacedEntry)
+module _ (left : List Selector) (s : Selector) (bytes : List ℕ) (place : Entry)
     (walk : PlaceWalk) (some : 1 ≤ length left) (first : get_or left 0 s ≡ s)
     (are : walk_places (indexes_of s) bytes place walk ≡ places_at s bytes place) where
   abbrev later : List Selector
@@ -951,18 +951,18 @@ module _ (left : List Selector) (s : Selector) (bytes : List ℕ) (place : Place
       (walk_places (indexes_of s) bytes place walk)
   steps_first part =
       first_steps left s bytes place part some first
-      ∙ ap (λ (ps : List PlacedEntry). asked s (tree_there bytes place)
+      ∙ ap (λ (ps : List Entry). asked s (tree_there bytes place)
       + sum_by (λ next. select_steps later (tree_there bytes next)) ps) (sym are)
 
 -- The first place, and its tree.
-first_tree_there : (bytes : List ℕ) (places : List PlacedEntry)
+first_tree_there : (bytes : List ℕ) (places : List Entry)
     → option_map (tree_there bytes) (first_entry places)
     ≡ first_tree (map (tree_there bytes) places)
 first_tree_there bytes [] = refl
 first_tree_there bytes (place ∷ places) = refl
 
-pub first_found : (path : List Selector) (b bytes : List ℕ) (t : Tree) (whole : PlacedEntry)
-    (found : Option PlacedEntry) → b ≡ bytes → IsPart bytes whole → tree_there bytes whole ≡ t
+pub first_found : (path : List Selector) (b bytes : List ℕ) (t : Tree) (whole : Entry)
+    (found : Option Entry) → b ≡ bytes → IsPart bytes whole → tree_there bytes whole ≡ t
     → found ≡ first_entry (selected_from path b whole)
     → option_map (tree_there b) found ≡ first_tree (selected path t)
 first_found path b bytes t whole found same part means is =

@@ -3,8 +3,8 @@
 ghost use Rattle.std.specs.Prelude.{◌≡◌, ◌≤◌, ◌<◌, ◌+◌, ◌^◌, [], IfOk, IfSome, drop, length};
 ghost use Rattle.std.specs.Prelude.{option_to_list};
 ghost use Rattle.std.specs.Iterator.{YieldsFirstBy};
-ghost use Rattle.jsonb.specs.Entries.{IsEntryIn, entry_there};
-ghost use Rattle.jsonb.specs.declared.entries.Entry.{Entry as PlacedEntry};
+ghost use Rattle.jsonb.specs.Entry.{entry_there, IsEntryIn};
+ghost use Rattle.jsonb.specs.declared.entries.Entry.{Entry};
 ghost use Rattle.jsonb_functions.specs.PathPlaces.{IsPlaceWithin, entries_after, header_there};
 ghost use Rattle.jsonb_functions.specs.PathPlaces.{item_entry, listed_places, member_entry, moved};
 ghost use Rattle.jsonb_functions.specs.PathPlaces.{place_from, places_at};
@@ -35,10 +35,10 @@ pub struct ChildWalk<'a> {
 
 impl<'a> Model for ChildWalk<'a> {
     ghost use Rattle.std.specs.Prelude.{◌+◌, ◌<◌, ◌^◌, List, length, map, take};
-    ghost use Rattle.jsonb.specs.declared.entries.Entry.{Entry as PlacedEntry};
+    ghost use Rattle.jsonb.specs.declared.entries.Entry.{Entry};
     ghost use Rattle.jsonb_functions.specs.PathPlaces.{moved, read_entries};
 
-    ghost Value = { List PlacedEntry };
+    ghost Value = { List Entry };
 
     ghost view = { λ s. map (moved s.start) (take s.left (read_entries s.entries.entries)) };
 

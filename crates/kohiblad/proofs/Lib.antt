@@ -1,5 +1,4 @@
 pub mod CheckedRows
-pub mod ChildWalkLaws
 pub mod CutLaws
 pub mod EntryTextLaws
 pub mod ExponentRules
@@ -18,7 +17,6 @@ pub mod Orders
 pub mod OverRowsLaws
 pub mod PartLaws
 pub mod PathCallLaws
-pub mod PathPlaceLaws
 pub mod PlaceLaws
 pub mod EditRooms
 pub mod JoinedRooms

@@ -1,22 +1,28 @@
 -- The results of the calls on paths.
-use Rattle.std.proofs.Common.{◌≡◌, ◌⊎◌, ℕ, List, map, Option, None, Some, Result, Ok, Err, IfOk}
-use Rattle.std.proofs.Common.{IfErr}
+use Rattle.std.proofs.Common.{◌≡◌, ◌⊎◌, ◌<◌, ◌≤◌, ℕ, List, map, Option, None, Some, Result, Ok}
+use Rattle.std.proofs.Common.{Err, IfErr, IfOk}
 use Rattle.std.proofs.Common.{Vec, refl, ap, sym, subst, ◌∙◌, inl, inr}
 use Rattle.std.specs.Prelude.{◌↔◌, OnOk}
 use Rattle.std.specs.declared.alloc.Global.{Global}
 use Rattle.jsonb_value.specs.declared.error.Error.{Error}
 use Rattle.jsonb_value.specs.declared.error.Error.TheVariants.{InvalidJsonb, OutOfMemory}
+use Rattle.std.specs.Str.{IsUtf8}
 use Rattle.jsonb_codec.specs.Canon.{Fits, canon}
+use Rattle.jsonb_codec.specs.Depth.{IsDocumentWithin}
+use Rattle.jsonb.specs.Document.{tree_in}
+use Rattle.jsonb.specs.declared.entries.Entry.{Entry}
 use Rattle.jsonb.specs.declared.owned.OwnedJsonb.{OwnedJsonb}
 use Rattle.jsonb.specs.Owned.{result_bytes, owned_bytes}
 use Rattle.jsonb_functions.specs.PathDocument.{path_tree}
 use Rattle.jsonb_functions.specs.PathText.{PathText, SelectorView, selector_view, single_steps}
+use Rattle.jsonb_functions.specs.SelectSteps.{select_steps}
 use Rattle.jsonb_functions.specs.StoredPath.{StepView}
 use Rattle.jsonb_functions.specs.declared.selection.Selector.{Selector}
 use Rattle.kohiblad.specs.declared.places.KohibladPlace.{KohibladPlace}
-use Rattle.kohiblad.specs.PathCalls.{AreTextPlaces, GivesSteps, IsPathTextRead, found_answer}
-use Rattle.kohiblad.specs.PathPlaces.{selected_places}
-use Rattle.kohiblad.specs.Status.{code, IsAnswered, IsHandedOver, IsRefused}
+use Rattle.kohiblad.specs.PathCalls.{AreStepPlaces, AreTextPlaces, GivesSteps, IsAskedWithin}
+use Rattle.kohiblad.specs.PathCalls.{IsPathTextRead, found_answer}
+use Rattle.jsonb_functions.specs.PathPlaces.{selected_places}
+use Rattle.kohiblad.specs.Status.{code, too_many_steps, IsAnswered, IsHandedOver, IsRefused}
 
 -- The document of a path, which is made or not.
 module _ (text before after : List ℕ) (size status : ℕ) (path : List StepView)
@@ -107,3 +113,49 @@ places_answered bytes text before after count status path reads (Ok found) is on
     )
 places_answered bytes text before after count status path reads (Err e) is only over refused =
     inr (inr (subst (λ (e : Error). IsRefused (code e) before after count status) only refused))
+
+-- What is answered of a UTF-8 text and a document within the depth.
+pub asked_at : (depth : ℕ) (bytes text : List ℕ) (before after : List KohibladPlace)
+    (count status : ℕ) (Answered : List ℕ → List ℕ → Type 0) (given read : List ℕ)
+    → given ≡ bytes → (read ≡ text) × IsUtf8 text → IsDocumentWithin depth bytes
+    → Answered given read
+    → IsAskedWithin depth bytes text before after count status (Answered bytes text)
+asked_at depth bytes text before after count status Answered given read same utf8 within answered =
+    inr (
+      utf8.1,
+      inr (
+        within,
+        subst (λ (b : List ℕ). Answered b text) same
+            (subst (λ (t : List ℕ). Answered given t) utf8.0 answered),
+      ),
+    )
+
+-- The places that a path selects in so many steps, which are found or not.
+module _ (steps : ℕ) (bytes text : List ℕ) (before after : List KohibladPlace) (count status : ℕ)
+    (path : List Selector) (reads : PathText text (map selector_view path)) where
+  pub found_in_steps : (found : List Entry) → found ≡ selected_places path bytes
+      → select_steps path (tree_in bytes) ≤ steps → (r : Result (Vec KohibladPlace Global) Error)
+      → IfOk r (λ answers. answers.items ≡ map found_answer found)
+      → IfErr r (λ e. e ≡ OutOfMemory)
+      → IfOk r (λ answers. IsHandedOver answers.items before after count status)
+      → IfErr r (λ e. IsRefused (code e) before after count status)
+      → AreStepPlaces steps bytes text before after count status
+  found_in_steps found are enough (Ok answers) is only over refused =
+      inl (
+        path,
+        (
+          reads,
+          inl (
+            enough,
+            subst (λ (items : List KohibladPlace). IsHandedOver items before after count status)
+                (is ∙ ap (map found_answer) are) over,
+          ),
+        ),
+      )
+  found_in_steps found are enough (Err e) is only over refused =
+      inr (inr (subst (λ (e : Error). IsRefused (code e) before after count status) only refused))
+
+  pub given_up : steps < select_steps path (tree_in bytes)
+      → IsRefused too_many_steps before after count status
+      → AreStepPlaces steps bytes text before after count status
+  given_up few refused = inl (path, (reads, inr (few, refused)))

@@ -20,7 +20,7 @@ use Rattle.jsonb.specs.Entries.{placed_from, run_in}
 use Rattle.jsonb.specs.Parts.{length_in}
 use Rattle.jsonb.specs.StoredEntries.{IsArrayOfEntries, IsObjectOfEntries}
 use Rattle.jsonb.specs.Steps.{◌>>=◌}
-use Rattle.jsonb.proofs.EntryLaws.{IsLess, cut_later, left_after-get, length-placed_from, skip_cut}
+use Rattle.jsonb.proofs.EntryLaws.{IsLess, cut_later, left_after-get, length-placed_from}
 use Rattle.jsonb.proofs.EntryLaws.{skipped}
 use Rattle.jsonb.proofs.KindLaws.{container_cases, header_at-Scalar, header_at-array}
 use Rattle.jsonb.proofs.KindLaws.{header_at-object}
@@ -73,13 +73,6 @@ module _ (bytes : List ℕ) (header : ℕ × ℕ) (is : header_at bytes 0 ≡ Ok
         (skipped bytes k n k 4 (4 + 4 * n) less v ends))
         ∙ ap (λ (l : ℕ). slice_get (placed_from bytes l (4 + 4 * k) v) 0) some)
         ∙ one_part (placed_at bytes (4 + 4 * k) v)
-
-    pub part_cut_off : (e : Error) → payloads_end bytes k 4 (4 + 4 * n) ≡ Err e
-        → part_in bytes k ≡ Err e
-    part_cut_off e cut =
-        listed
-        ∙ ap option_transpose (cut_later bytes k n 4 (4 + 4 * n) e among
-        (skip_cut bytes k n k 4 (4 + 4 * n) less e cut))
 
 -- The part to which a cursor over all entries comes.
 module _ (bytes : List ℕ) (number : ℕ) (run : Run) (is : run_in bytes ≡ Ok run) where

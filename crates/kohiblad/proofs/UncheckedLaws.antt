@@ -24,8 +24,8 @@ use Rattle.jsonb_typed.specs.Types.{IsInt64, IsText, IsUInt64}
 use Rattle.jsonb_typed.specs.declared.numbers.Fit.{Fit}
 use Rattle.jsonb_typed.proofs.DocumentLaws as typed
 use Rattle.typed_vector.specs.Cells.{value}
-use Rattle.kohiblad.specs.PathPlaces.{HoldsFound, path_place_in, whole_place}
-use Rattle.kohiblad.proofs.PathPlaceLaws.{place_holds}
+use Rattle.jsonb_functions.specs.PathPlaces.{HoldsFound, path_place_in, whole_place}
+use Rattle.jsonb_functions.proofs.PathPlaceLaws.{place_holds}
 use Rattle.kohiblad.specs.Places.{IsValuePlace, is_name}
 use Rattle.kohiblad.specs.Taking.{HoldsScalars, IsSomeTaken, IsTakenCell, IsTakenUnchecked}
 use Rattle.kohiblad.specs.Taking.{IsDate, IsInt128, IsTimestamp, IsTruth}

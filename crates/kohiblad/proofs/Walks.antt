@@ -2,11 +2,9 @@
 use Rattle.std.proofs.Common.{◌≡◌, ℕ, zero, suc, ◌+◌, ◌*◌, ◌<◌, nat_le, if◌then◌else◌, Bool}
 use Rattle.std.proofs.Common.{true, false, List, Option, None, Some, Result, Ok, Err, refl}
 use Rattle.std.proofs.Common.{sym, ap, ap₂, subst, ◌∙◌, arith}
-use Rattle.std.specs.Prelude.{⊤}
 use Rattle.std.proofs.lemmas.Bool.{leb-false}
 use Rattle.jsonb_value.specs.declared.error.Error.{Error}
 use Rattle.jsonb_value.specs.declared.error.Error.TheVariants as errors
-use Rattle.jsonb_value.specs.declared.error.Error.TheVariants.{InvalidJsonb}
 use Rattle.jsonb_codec.specs.declared.jentry.JEntry.{JEntry}
 use Rattle.jsonb_codec.specs.JEntry.{jentry_at}
 use Rattle.jsonb_codec.specs.WordBytes.{header_at}
@@ -17,7 +15,6 @@ use Rattle.jsonb.specs.declared.entries.Entry.{Entry}
 use Rattle.kohiblad.specs.declared.children.Child.{Child}
 use Rattle.kohiblad.specs.declared.children.KohibladCursor.{KohibladCursor}
 use Rattle.kohiblad.specs.declared.children.ChildLayout.{ChildLayout}
-use Rattle.kohiblad.specs.ChildWalks.{found_child}
 use Rattle.kohiblad.specs.Children.{child_among, child_at_cursor, child_of, cursor_after}
 use Rattle.kohiblad.specs.Children.{cursor_among, cursor_at, end_of, first_value, key_end}
 use Rattle.kohiblad.specs.Children.{key_offset, layout_in, layout_under, numbered_among}
@@ -25,7 +22,7 @@ use Rattle.kohiblad.specs.Children.{numbered_child, part_at_cursor, payload_star
 use Rattle.kohiblad.specs.Children.{value_answer}
 use Rattle.kohiblad.specs.Places.{part_in}
 use Rattle.kohiblad.specs.Status.{code}
-use Rattle.kohiblad.proofs.PlaceLaws.{part_cut_off, part_from}
+use Rattle.kohiblad.proofs.PlaceLaws.{part_from}
 
 -- one entry more
 module _ (bytes : List ℕ) (v : ℕ) (e : JEntry) where
@@ -91,26 +88,6 @@ child_found_by false r (Ok value) child is =
     (sym (ap (λ (c : Child). c.key) same), ap (λ (c : Child). Ok c.value) same)
 child_found_by keyed r q child is = absurd cc
 
--- No child is found where a part of it cannot be.
-no_value : (keyed : Bool) (key value : Result (Option Entry) Error) (e : Error)
-    → value ≡ Err e → None ≡ found_child (child_of keyed key value)
-no_value true (Ok key) value e is = sym (ap (λ v. found_child (child_of true (Ok key) v)) is)
-no_value true (Err d) value e is = refl
-no_value false key value e is = sym (ap (λ v. found_child (child_of false key v)) is)
-
-no_key : (keyed : Bool) (start : Result ℕ Error) (key value : Result (Option Entry) Error)
-    (e : Error) → (if keyed then start else Ok 0) ≡ Err e → (start ≡ Err e → key ≡ Err e)
-    → None ≡ found_child (child_of keyed key value)
-no_key true start key value e is cut =
-    sym (ap (λ k. found_child (child_of true k value)) (cut is))
-no_key false start key value e is cut = absurd cc
-
--- There is no cursor.
-abbrev pub IsUnstarted : Result (Option KohibladCursor) Error → Type 0
-IsUnstarted (Ok (Some cursor)) = ⊥
-IsUnstarted (Ok None) = ⊤
-IsUnstarted (Err e) = ⊤
-
 -- What is found at the cursor before the child with an index in this layout, and where it comes.
 module _ (bytes : List ℕ) (i : ℕ) (header : ℕ × ℕ) (is : header_at bytes 0 ≡ Ok header)
     (layout : ChildLayout) (laid : layout_under header ≡ Some layout) where
@@ -123,30 +100,6 @@ module _ (bytes : List ℕ) (i : ℕ) (header : ℕ × ℕ) (is : header_at byte
       let all = entries_laid header layout laid in
       part_from bytes header is k (omega (arith, all)) v
       (ap (λ (n : ℕ). payloads_end bytes k 4 (4 + 4 * n)) all ∙ starts)
-
-  cut_here : (k : ℕ) (e : Error) → k < first + layout.count → payload_start bytes layout k ≡ Err e
-      → part_in bytes k ≡ Err e
-  cut_here k e among cut =
-      let all = entries_laid header layout laid in
-      part_cut_off bytes header is k (omega (arith, all)) e
-      (ap (λ (n : ℕ). payloads_end bytes k 4 (4 + 4 * n)) all ∙ cut)
-
-  unstarted_if : (past : Bool) → nat_le layout.count i ≡ past → (k v : Result ℕ Error)
-      → key_offset bytes layout i ≡ k → payload_start bytes layout (first + i) ≡ v
-      → IsUnstarted (k >>= (λ (key : ℕ). v
-      >>= (λ (value : ℕ). Ok (Some record { index = i; key = key; value = value }))))
-      → None ≡ found_child (if past then Ok None
-      else child_of layout.keyed (part_in bytes i) (part_in bytes (first + i)))
-  unstarted_if true past k v key value none = refl
-  unstarted_if false past (Ok k) (Ok v) key value none = absurd none
-  unstarted_if false past (Ok k) (Err e) key value none =
-      let among = leb-false layout.count i past in
-      no_value layout.keyed (part_in bytes i) (part_in bytes (first + i)) e
-      (cut_here (first + i) e (omega (arith, among)) value)
-  unstarted_if false past (Err e) v key value none =
-      let among = leb-false layout.count i past in
-      no_key layout.keyed (payload_start bytes layout i) (part_in bytes i)
-      (part_in bytes (first + i)) e key (cut_here i e (omega (arith, among)))
 
   module _ (k v : ℕ) (key_is : key_offset bytes layout i ≡ Ok k)
       (value_is : payload_start bytes layout (first + i) ≡ Ok v) where
@@ -252,25 +205,6 @@ module _ (bytes : List ℕ) (i : ℕ) (cursor : KohibladCursor) where
       ∙ walks.next child
       (sym (ap (λ (r : Result (Option ChildLayout) Error). r >>= child_among bytes cursor) is)
       ∙ found)
-
--- No child is found where there is no cursor before it.
-module _ (bytes : List ℕ) (i : ℕ) where
-  unstarted_at : (header : ℕ × ℕ) → header_at bytes 0 ≡ Ok header → (o : Option ChildLayout)
-      → layout_under header ≡ o → IsUnstarted (cursor_among bytes i o)
-      → None ≡ found_child (numbered_among bytes i o)
-  unstarted_at header is None laid none = refl
-  unstarted_at header is (Some layout) laid none =
-      unstarted_if bytes i header is layout laid _ refl _ _ refl refl none
-
-  unstarted_by : (r : Result (ℕ × ℕ) Error) → header_at bytes 0 ≡ r
-      → IsUnstarted ((r >>= (λ (h : ℕ × ℕ). Ok (layout_under h))) >>= cursor_among bytes i)
-      → None ≡ found_child
-      ((r >>= (λ (h : ℕ × ℕ). Ok (layout_under h))) >>= numbered_among bytes i)
-  unstarted_by (Ok header) is none = unstarted_at header is (layout_under header) refl none
-  unstarted_by (Err e) is none = refl
-
-  pub unstarted : IsUnstarted (cursor_at bytes i) → None ≡ found_child (numbered_child bytes i)
-  unstarted none = unstarted_by (header_at bytes 0) refl none
 
 -- a child was found where the status is 0
 no_code : (e : Error) → code e ≡ 0 → ⊥

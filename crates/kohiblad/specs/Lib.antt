@@ -13,9 +13,6 @@ pub mod EntryTexts
 pub mod Children
 pub mod Scalars
 pub mod Functions
-pub mod PathPlaces
-pub mod ChildWalks
-pub mod PlaceWalks
 pub mod PathCalls
 pub mod Names
 pub mod Picked

@@ -22,11 +22,11 @@ pub struct KohibladCursor {
     pub value: u64,
 }
 
-/// The entry of a child, and for an object's member that of its key.
+// The entry of a child, and for an object's member that of its key.
 #[derive(Clone, Copy)]
-pub struct Child {
-    pub key: Option<Entry>,
-    pub value: Entry,
+struct Child {
+    key: Option<Entry>,
+    value: Entry,
 }
 
 /// How the children of an array or object are laid out: whether they have keys, whose entries come
@@ -113,8 +113,8 @@ fn first_value(layout: ChildLayout) -> usize
     if layout.keyed { layout.count } else { 0 }
 }
 
-/// The cursor before the first child. `None` if the bytes are neither an array nor an object.
-pub fn first_cursor(bytes: &[u8]) -> Result<Option<KohibladCursor>, Error>
+// The cursor before the first child. `None` if the bytes are neither an array nor an object.
+fn first_cursor(bytes: &[u8]) -> Result<Option<KohibladCursor>, Error>
     ensures { result ≡ cursor_at bytes.now 0 }
 {
     let Some(layout) = layout_in(bytes)? else {
@@ -130,8 +130,8 @@ pub fn first_cursor(bytes: &[u8]) -> Result<Option<KohibladCursor>, Error>
     }))
 }
 
-/// The child at the cursor. `None` after the last one.
-pub fn child_at_cursor(bytes: &[u8], cursor: KohibladCursor) -> Result<Option<Child>, Error>
+// The child at the cursor. `None` after the last one.
+fn child_at_cursor(bytes: &[u8], cursor: KohibladCursor) -> Result<Option<Child>, Error>
     ensures value { result ≡ child_at_cursor bytes.now cursor }
     ensures moves { CanMove result cursor }
     ensures inside { IsChildIn bytes.now result }
@@ -153,8 +153,8 @@ pub fn child_at_cursor(bytes: &[u8], cursor: KohibladCursor) -> Result<Option<Ch
     Ok(Some(Child { key, value }))
 }
 
-/// The cursor after a child that was found, or the unchanged cursor if none was.
-pub fn cursor_after(found: Result<Option<Child>, Error>, cursor: KohibladCursor) -> KohibladCursor
+// The cursor after a child that was found, or the unchanged cursor if none was.
+fn cursor_after(found: Result<Option<Child>, Error>, cursor: KohibladCursor) -> KohibladCursor
     requires { CanMove found cursor }
     ensures { result ≡ cursor_after found cursor }
 {

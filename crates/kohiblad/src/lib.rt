@@ -35,7 +35,6 @@ mod member_table;
 mod named_paths;
 mod names;
 mod patch;
-mod path_places;
 mod paths;
 mod picking;
 mod places;

@@ -1,23 +1,28 @@
 //! Paths as texts, and the positions of the values to which paths lead.
 
 ghost use Rattle.std.specs.Prelude.{◌≡◌, ◌↔◌, IfErr, IfOk, List, Some, map, option_map};
-ghost use Rattle.jsonb_codec.specs.Doc.{IsDocument};
+ghost use Rattle.jsonb.specs.Document.{document_bytes};
 ghost use Rattle.jsonb_functions.specs.Found.{found_at};
+ghost use Rattle.jsonb_functions.specs.PathPlaces.{HoldTrees, HoldsFound, path_place};
+ghost use Rattle.jsonb_functions.specs.PathPlaces.{selected_places};
 ghost use Rattle.jsonb_functions.specs.Selected.{selected};
 ghost use Rattle.jsonb_functions.specs.StoredPath.{StepView, step_view};
 ghost use Rattle.jsonb_functions.specs.declared.path.Step.{Step as PathStep};
 ghost use Rattle.jsonb_functions.specs.declared.selection.Selector.{Selector as PathSelector};
-ghost use Rattle.kohiblad.specs.PathCalls.{AreSelectedWithin, AreTextPlaces, GivesSteps};
+ghost use Rattle.kohiblad.specs.PathCalls.{AreSelectedInSteps, AreSelectedWithin, AreStepPlaces};
+ghost use Rattle.kohiblad.specs.PathCalls.{AreTextPlaces, GivesSteps};
 ghost use Rattle.kohiblad.specs.PathCalls.{IsPathPlace, IsPathPlaceWithin, IsPathTextRead};
 ghost use Rattle.kohiblad.specs.PathCalls.{IsPathWritten, found_answer};
-ghost use Rattle.kohiblad.specs.PathPlaces.{HoldTrees, HoldsFound, path_place, selected_places};
 ghost use Rattle.kohiblad.specs.Words.{Doc, Error, Meaning, Tree, document_tree, meaning_within};
 
-use crate::answer::{OTHER_KIND, code, hand_over_items, hand_over_made, refuse};
-use crate::path_places::{append_selected, place_at_end, whole_place};
+use crate::answer::{OTHER_KIND, TOO_MANY_STEPS, code, hand_over_items, hand_over_made, refuse};
 use crate::places::{KohibladPlace, no_place, place_answer};
+use jsonb::layer::Entry;
 use jsonb::{Document, Error, SortKey, is_document_within};
-use jsonb_functions::{Selector, Step, document_of_path, read_path, read_path_text, steps_of_path};
+use jsonb_functions::{
+    Selector, Step, document_of_path, place_at_end, read_path, read_path_text, select_places,
+    select_places_within, steps_of_path, whole_place,
+};
 use simdutf8::basic;
 use std::alloc::Global;
 
@@ -153,45 +158,114 @@ pub extern "C" fn kohiblad_select(
     let Ok(path) = basic::from_utf8(path) else {
         return refuse(code(Error::InvalidUtf8), out, count);
     };
-    if !is_document_within(bytes, depth) {
+    let Some(document) = Document::within(bytes, depth) else {
         return refuse(code(Error::InvalidJsonb), out, count);
-    }
-    write_selected(alloc, bytes, path, out, count)
+    };
+    write_selected(alloc, document, path, out, count)
 }
 
 // Copies out the positions of the values that a path selects.
 fn write_selected(
     alloc: Global,
-    bytes: &[u8],
+    document: Document<'_>,
     path: &str,
     out: &mut [KohibladPlace],
     count: &mut usize,
 ) -> u32
-    requires { IsDocument bytes.now }
-    ensures { AreTextPlaces bytes.now path.now out.old out.new count.new result }
+    ensures { AreTextPlaces (document_bytes document.entry) path.now
+        out.old out.new count.new result }
 {
     match read_path_text(alloc, path) {
-        Ok(Some(path)) => hand_over_items(selected_places(alloc, bytes, &path), out, count),
+        Ok(Some(path)) => hand_over_items(selected_answers(alloc, document, &path), out, count),
         Ok(None) => refuse(OTHER_KIND, out, count),
         Err(error) => refuse(code(error), out, count),
     }
 }
 
-// The positions of the values that a path selects.
-#[tactic(auto, using(crate::proofs::PathPlaceLaws::whole_part))]
-fn selected_places(
+// The positions of the values that a path selects, as C receives them.
+fn selected_answers(
     alloc: Global,
-    bytes: &[u8],
+    document: Document<'_>,
     path: &[Selector<'_>],
 ) -> Result<Vec<KohibladPlace>, Error>
-    requires { IsDocument bytes.now }
-    ensures ok { IfOk result (λ found. found.items
-        ≡ map found_answer (selected_places path.now bytes.now)) }
+    ensures ok { IfOk result (λ answers. answers.items
+        ≡ map found_answer (selected_places path.now (document_bytes document.entry))) }
     ensures memory { IfErr result (λ e. e ≡ Error.OutOfMemory) }
 {
-    let mut found = Vec::new(alloc);
-    if let Ok(whole) = whole_place(bytes) {
-        append_selected(bytes, whole, path, &mut found)?;
+    let places = select_places(alloc, document, path)?;
+    answers_at(alloc, &places)
+}
+
+// Positions, as C receives them.
+fn answers_at(alloc: Global, places: &[Entry]) -> Result<Vec<KohibladPlace>, Error>
+    ensures ok { IfOk result (λ answers. answers.items ≡ map found_answer places.now) }
+    ensures memory { IfErr result (λ e. e ≡ Error.OutOfMemory) }
+{
+    let mut answers = Vec::with_capacity(alloc, places.len())?;
+    let mut left = places;
+    while let [place, rest @ ..] = left {
+        answers.push(place_answer(Ok(Some(*place))))?;
+        left = rest;
     }
-    Ok(found)
+    Ok(answers)
+}
+
+/// Copies the positions of the values that a path selects, as `kohiblad_select` does, unless that
+/// takes more than `steps` steps, for a path that others chose. There is a step for each value that
+/// a step of the path is asked of, and one for each of its items or members, or of the bytes of a
+/// text, or of binary or opaque data; a list of indexes takes as many for each of them. A filter
+/// takes one for each comparison, `&&`, `||`, `!(`, `(` and `)`, and for a comparison also one for
+/// each item, member or byte of each value on the way of its path: `$.*?(@ > 1)` takes 3 of
+/// {"a":2}. `InvalidUtf8` if the text is not UTF-8; `InvalidJsonb` if the bytes are not a document
+/// of at most this depth; `OTHER_KIND` if the text is not a path; `TOO_MANY_STEPS` if the steps do
+/// not suffice; `OutOfMemory` if an allocation fails; `NO_ROOM` if `out` is too short. If the
+/// status is not `OK`, `out` is unchanged, and `count` is 0, or for `NO_ROOM` the number of
+/// positions.
+#[unsafe(no_mangle)]
+pub extern "C" fn kohiblad_select_within(
+    alloc: Global,
+    bytes: &[u8],
+    path: &[u8],
+    depth: usize,
+    steps: usize,
+    out: &mut [KohibladPlace],
+    count: &mut usize,
+) -> u32
+    ensures places { AreSelectedInSteps depth steps bytes.now path.now
+        out.old out.new count.new result }
+
+    // In a document the values at these positions are those that the path selects.
+    ensures document { (t : Tree) (selectors : List PathSelector) → Doc bytes.now t
+        → HoldTrees bytes.now (selected_places selectors bytes.now) (selected selectors t) }
+{
+    let Ok(path) = basic::from_utf8(path) else {
+        return refuse(code(Error::InvalidUtf8), out, count);
+    };
+    let Some(document) = Document::within(bytes, depth) else {
+        return refuse(code(Error::InvalidJsonb), out, count);
+    };
+    write_within(alloc, document, path, steps, out, count)
+}
+
+// Copies out the positions of the values that a path selects in so many steps.
+fn write_within(
+    alloc: Global,
+    document: Document<'_>,
+    path: &str,
+    steps: usize,
+    out: &mut [KohibladPlace],
+    count: &mut usize,
+) -> u32
+    ensures { AreStepPlaces steps (document_bytes document.entry) path.now
+        out.old out.new count.new result }
+{
+    match read_path_text(alloc, path) {
+        Ok(Some(path)) => match select_places_within(alloc, document, &path, steps) {
+            Ok(Some(places)) => hand_over_items(answers_at(alloc, &places), out, count),
+            Ok(None) => refuse(TOO_MANY_STEPS, out, count),
+            Err(error) => refuse(code(error), out, count),
+        },
+        Ok(None) => refuse(OTHER_KIND, out, count),
+        Err(error) => refuse(code(error), out, count),
+    }
 }

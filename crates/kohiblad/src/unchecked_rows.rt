@@ -4,12 +4,10 @@ ghost use Rattle.std.specs.Prelude.{◌≡◌, ◌≢◌, ◌⊎◌, [], IfErr, 
 ghost use Rattle.std.specs.Prelude.{Some, option_map};
 ghost use Rattle.jsonb_codec.specs.declared.constants.TheConstants.{CONTAINER_TAG};
 ghost use Rattle.jsonb_functions.specs.Found.{found_at};
-ghost use Rattle.kohiblad.specs.ChildWalks.{IsPlaceWithin};
-ghost use Rattle.kohiblad.specs.PathPlaces.{HoldsFound};
+ghost use Rattle.jsonb_functions.specs.PathPlaces.{HoldsFound, IsPlaceWithin};
 ghost use Rattle.kohiblad.specs.UncheckedRows.{IsReadAs};
 ghost use Rattle.kohiblad.specs.Words.{Doc, IsPayloadOf, Tree, node_tree};
 
-use crate::path_places::{bytes_at, place_at_end, whole_place};
 use crate::places::place_of_key;
 use crate::taking::{NO_DOCUMENT, UNFIT};
 use jsonb::layer::Entry;
@@ -17,7 +15,7 @@ use jsonb::{Error, ExtensionItem, Node, NumberItem};
 use jsonb_codec::constants::{
     CONTAINER_TAG, EXTENSION_TAG, FALSE_TAG, NULL_TAG, NUMBER_TAG, STRING_TAG, TRUE_TAG,
 };
-use jsonb_functions::Step;
+use jsonb_functions::{Step, bytes_at, place_at_end, whole_place};
 use simdutf8::basic;
 
 /// The member of a row at the end of a path, if it is a scalar; or the state of the row. `Ok(None)`
@@ -55,7 +53,7 @@ fn member_place(row: &[u8], path: &[Step<'_>]) -> Result<Option<Entry>, Error>
 }
 
 // The position at the end of a path of any steps.
-#[tactic(auto, using(crate::proofs::PathPlaceLaws::place_holds))]
+#[tactic(auto, using(jsonb_functions::proofs::PathPlaceLaws::place_holds))]
 fn path_end(row: &[u8], path: &[Step<'_>]) -> Result<Option<Entry>, Error>
     ensures document { (t : Tree) → Doc row.now t
         → IsOkAnd result (λ found. HoldsFound row.now found (found_at path.now t)) }

@@ -1,7 +1,7 @@
 use Rattle.std.proofs.Common.{subst, sym, ◌∙◌}
 use Rattle.jsonb_codec.specs.Parts.{IsPayloadOf}
 use Rattle.jsonb.proofs.EntryTreeLaws.{entry_tree-is}
-use Rattle.jsonb.specs.Entries.{entry_there}
+use Rattle.jsonb.specs.Entry.{entry_there}
 use Rattle.jsonb_functions.proofs.places.node_at_place.Goals as goal
 
 pub returns : goal.returns

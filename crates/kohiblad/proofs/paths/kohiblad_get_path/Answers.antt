@@ -1,4 +1,4 @@
-use Rattle.kohiblad.proofs.PathPlaceLaws.{place_holds}
+use Rattle.jsonb_functions.proofs.PathPlaceLaws.{place_holds}
 use Rattle.kohiblad.proofs.paths.kohiblad_get_path.Goals as goal
 
 pub returns-then-not-is_document_within-clause-document :

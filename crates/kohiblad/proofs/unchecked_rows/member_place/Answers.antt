@@ -1,7 +1,7 @@
 use Rattle.std.proofs.Common.{List, ℕ, IsOkAnd, subst, sym}
 use Rattle.jsonb_functions.specs.Found.{found_at}
 use Rattle.jsonb_functions.specs.declared.path.Step.{Step}
-use Rattle.kohiblad.specs.PathPlaces.{HoldsFound}
+use Rattle.jsonb_functions.specs.PathPlaces.{HoldsFound}
 use Rattle.kohiblad.specs.Places.{IsValuePlace}
 use Rattle.kohiblad.proofs.UncheckedLaws.{one_key_held, one_step}
 use Rattle.kohiblad.proofs.unchecked_rows.member_place.Goals as goal
