@@ -43,7 +43,8 @@ pub type LaidLevel<'a, I, M> = Level<
     Laid<Object<'a>, Counted<M>>,
 >;
 
-/// Values that are changed, and the items and members that come of them.
+/// Values that are changed, and the items and members that come of them. It has no function, so that
+/// `kept_level`, which the rules call, can call none of theirs.
 pub trait Meant<'a>: Copy {
     type Items: Copy;
 
@@ -113,7 +114,7 @@ pub fn item_count(items: Children<'_>) -> usize
     ensures count { (ts : Trees) → AreChildren ts items.entry → result ≡ count ts }
     ensures few { result < 2 ^ 62 }
 {
-    items.entries.len() / 4
+    items.len()
 }
 
 // How many members there are.
@@ -122,7 +123,7 @@ pub fn item_count(items: Children<'_>) -> usize
 fn member_count(members: Members<'_>) -> usize
     ensures count { (ps : Pairs) → AreMembers ps members.entry → result ≡ pair_count ps }
 {
-    members.values.entries.len() / 4
+    members.values.len()
 }
 
 // The members after the first of so many.
