@@ -19,8 +19,8 @@ use Rattle.std.proofs.lemmas.Nat.{from_be_bytes-to_be_bytes_8}
 use Rattle.answer_lines.proofs.Output.{Known}
 use Rattle.jsonb_column.specs.Storage.{row_bytes}
 use Rattle.jsonb_column.proofs.StorageLaws.{length-row_bytes}
-use Rattle.kohiblad_shell.specs.declared.input.Form.TheVariants.{Lines, Documents}
-use Rattle.kohiblad_shell.specs.declared.input.Found.TheVariants.{Row, Cut, End}
+use Rattle.kohiblad_shell.specs.declared.input.Form.TheVariants.{Documents}
+use Rattle.kohiblad_shell.specs.declared.input.Found.TheVariants.{Row, Cut}
 use Rattle.kohiblad_shell.specs.Inputs.{AppendsHeld, IsNextLine, ReadsLine, ReadsPart, ReadsRow}
 
 abbrev no_feed : ℕ → Type 0
@@ -109,19 +109,6 @@ reads_line None new taken line is left some stripped = tt
 reads_line (Some bytes) new taken line is left some stripped =
     rw (left, stripped) (next_line bytes taken is some)
 
--- a line is a row
-pub line_row : (old new : Option (List ℕ)) (line : List ℕ) → ReadsLine old new line true
-    → ReadsRow Lines old new line Row
-line_row None new line read = tt
-line_row (Some bytes) None line read = absurd read
-line_row (Some bytes) (Some rest) line read = read
-
-pub line_end : (old new : Option (List ℕ)) (line : List ℕ) → ReadsLine old new line false
-    → ReadsRow Lines old new line End
-line_end None new line read = tt
-line_end (Some bytes) None line read = absurd read
-line_end (Some bytes) (Some rest) line read = read
-
 -- ---- a part of so many bytes
 
 known_end : (old mid new : Known) (part : List ℕ) → Consumes old mid part
@@ -141,14 +128,6 @@ module _ (limit : ℕ) (old mid new : Known) (before part : List ℕ) (is_end : 
   part_end is some = known_end old mid new before so_far (held.end is some)
 
 -- ---- documents
-
--- no byte is left
-pub stored_end : (old new : Known) (part : List ℕ) → ReadsPart 8 old new part
-    → length part ≡ 0 → ReadsRow Documents old new part End
-stored_end None new part read none = tt
-stored_end (Some bytes) None part read none = absurd read.taken
-stored_end (Some bytes) (Some rest) [] read none = read.taken ∙ read.all (omega arith)
-stored_end (Some bytes) (Some rest) (b ∷ part) read none = absurd (omega (arith, none))
 
 -- the bytes end within a length
 pub length_cut : (old new : Known) (part : List ℕ) → ReadsPart 8 old new part

@@ -5,3 +5,5 @@ pub mod SortLaws
 pub mod KeyLaws
 pub mod RemovalLaws
 pub mod ArgumentLaws
+pub mod MergeLaws
+pub mod MergeSteps

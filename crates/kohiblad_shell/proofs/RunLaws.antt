@@ -51,7 +51,7 @@ faults-append (Ok text ∷ os) ps = faults-append os ps
 faults-append (Err fault ∷ os) ps = omega (arith, faults-append os ps)
 
 module _ {rule : LineRule} {form : Form} where
-  Answers-append : {bytes mid end : List ℕ} {os ps : List Outcome}
+  pub Answers-append : {bytes mid end : List ℕ} {os ps : List Outcome}
       → Answers rule form bytes os mid → Answers rule form mid ps end
       → Answers rule form bytes (os ++ ps) end
   Answers-append none later = later
@@ -352,9 +352,3 @@ pub next_cut : (rule : LineRule) (form : Form) (old new : Known) (part : List �
 next_cut rule form None new part read = tt
 next_cut rule form (Some bytes) None part read = absurd read
 next_cut rule form (Some bytes) (Some rest) part (is, ended) = rw ended (cut part is none)
-
-pub next_end : (rule : LineRule) (form : Form) (old new : Known) (part : List ℕ)
-    → ReadsRow form old new part found.End → AnswersNext rule form old new End
-next_end rule form None new part read = tt
-next_end rule form (Some bytes) None part read = absurd read
-next_end rule form (Some bytes) (Some rest) part read = read

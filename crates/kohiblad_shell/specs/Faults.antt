@@ -5,7 +5,7 @@ use Rattle.kohiblad_shell.specs.declared.outcome.LineFault.{LineFault}
 use Rattle.kohiblad_shell.specs.declared.outcome.Reason.{Reason}
 use Rattle.kohiblad_shell.specs.declared.outcome.Reason.TheVariants.{BadUtf8, BadSyntax, BadNumber}
 use Rattle.kohiblad_shell.specs.declared.outcome.Reason.TheVariants.{TooDeep, TooLarge}
-use Rattle.kohiblad_shell.specs.declared.outcome.Reason.TheVariants.{BadDocument, Cut}
+use Rattle.kohiblad_shell.specs.declared.outcome.Reason.TheVariants.{BadDocument, Cut, NotSorted}
 
 -- The word for a reason.
 abbrev pub reason_name : Reason → List ℕ
@@ -16,6 +16,7 @@ reason_name TooDeep = codes "TooDeep"
 reason_name TooLarge = codes "TooLarge"
 reason_name BadDocument = codes "InvalidJsonb"
 reason_name Cut = codes "InvalidEOF"
+reason_name NotSorted = codes "NotSorted"
 
 -- Whether the row is cut off.
 abbrev pub is_cut : Reason → Bool

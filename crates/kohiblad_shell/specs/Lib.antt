@@ -6,6 +6,7 @@ pub mod Halts
 pub mod Keys
 pub mod KeyProofs
 pub mod Sorts
+pub mod Merges
 pub mod Rows
 pub mod Removals
 pub mod Ranges

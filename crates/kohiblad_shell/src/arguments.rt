@@ -29,6 +29,7 @@ enum CommandOption {
     Reverse,
     Unique,
     Documents,
+    OnError,
 }
 
 /// The operand of a command.
@@ -77,97 +78,109 @@ const NAMES: Operand = Operand {
     help: "Names with commas between them, such as id,who",
 };
 
-const COMMANDS: [CommandRow; 17] = [
+const COMMANDS: [CommandRow; 18] = [
     CommandRow {
         name: "check",
         about: "Report the lines that are not JSON",
         operand: None,
         value: None,
-        options: &[CommandOption::Documents],
+        options: &[CommandOption::Documents, CommandOption::OnError],
     },
     CommandRow {
         name: "canonical",
         about: "Write each value as compact JSON, with its keys in order",
         operand: None,
         value: None,
-        options: &[CommandOption::Documents],
+        options: &[CommandOption::Documents, CommandOption::OnError],
     },
     CommandRow {
         name: "get",
         about: "Write the first value to which a path leads, of each line",
         operand: Some(PATH),
         value: None,
-        options: &[CommandOption::Documents, CommandOption::Raw],
+        options: &[
+            CommandOption::Documents,
+            CommandOption::Raw,
+            CommandOption::OnError,
+        ],
     },
     CommandRow {
         name: "select",
         about: "Write all values to which a path leads, of each line",
         operand: Some(PATH),
         value: None,
-        options: &[CommandOption::Documents, CommandOption::Raw],
+        options: &[
+            CommandOption::Documents,
+            CommandOption::Raw,
+            CommandOption::OnError,
+        ],
     },
     CommandRow {
         name: "filter",
         about: "Write the lines in which a path leads to some value",
         operand: Some(CONDITION),
         value: None,
-        options: &[CommandOption::Documents],
+        options: &[CommandOption::Documents, CommandOption::OnError],
     },
     CommandRow {
         name: "count",
         about: "Count the lines in which a path leads to some value",
         operand: Some(CONDITION),
         value: None,
-        options: &[CommandOption::Documents],
+        options: &[CommandOption::Documents, CommandOption::OnError],
     },
     CommandRow {
         name: "contains",
         about: "Write the lines whose value contains another",
         operand: Some(VALUE),
         value: None,
-        options: &[CommandOption::Documents],
+        options: &[CommandOption::Documents, CommandOption::OnError],
     },
     CommandRow {
         name: "set",
         about: "Put a value at the end of a path, of each line",
         operand: Some(STEPS),
         value: Some(VALUE),
-        options: &[CommandOption::Documents],
+        options: &[CommandOption::Documents, CommandOption::OnError],
     },
     CommandRow {
         name: "remove",
         about: "Remove what is at the ends of paths, of each line",
         operand: Some(REMOVED),
         value: None,
-        options: &[CommandOption::Documents],
+        options: &[CommandOption::Documents, CommandOption::OnError],
     },
     CommandRow {
         name: "merge",
         about: "Apply a JSON Merge Patch to each line",
         operand: Some(VALUE),
         value: None,
-        options: &[CommandOption::Documents],
+        options: &[CommandOption::Documents, CommandOption::OnError],
     },
     CommandRow {
         name: "pick",
         about: "Keep the members of these names, of each line",
         operand: Some(NAMES),
         value: None,
-        options: &[CommandOption::Documents],
+        options: &[CommandOption::Documents, CommandOption::OnError],
     },
     CommandRow {
         name: "strip-nulls",
         about: "Remove members that are null, of each line",
         operand: None,
         value: None,
-        options: &[CommandOption::Documents],
+        options: &[CommandOption::Documents, CommandOption::OnError],
     },
     CommandRow {
         name: "range",
         about: "Write the lines whose value lies from one up to before another",
         operand: Some(FROM),
         value: Some(TO),
-        options: &[CommandOption::Documents, CommandOption::ByOne],
+        options: &[
+            CommandOption::Documents,
+            CommandOption::ByOne,
+            CommandOption::OnError,
+        ],
     },
     CommandRow {
         name: "sort",
@@ -179,28 +192,40 @@ const COMMANDS: [CommandRow; 17] = [
             CommandOption::By,
             CommandOption::Reverse,
             CommandOption::Unique,
+            CommandOption::OnError,
         ],
+    },
+    CommandRow {
+        name: "merge-sorted",
+        about: "Write the lines of sorted files in the order of their values",
+        operand: None,
+        value: None,
+        options: &[CommandOption::Documents, CommandOption::By],
     },
     CommandRow {
         name: "keys",
         about: "Write the comparable key of each line in hexadecimal",
         operand: None,
         value: None,
-        options: &[CommandOption::Documents, CommandOption::By],
+        options: &[
+            CommandOption::Documents,
+            CommandOption::By,
+            CommandOption::OnError,
+        ],
     },
     CommandRow {
         name: "encode",
         about: "Write the document of each line as a column stores it",
         operand: None,
         value: None,
-        options: &[],
+        options: &[CommandOption::OnError],
     },
     CommandRow {
         name: "decode",
         about: "Write the text of each document of a stored column",
         operand: None,
         value: None,
-        options: &[CommandOption::Pretty],
+        options: &[CommandOption::Pretty, CommandOption::OnError],
     },
 ];
 
@@ -233,7 +258,7 @@ fn command_of<'a>(alloc: Global, row: &CommandRow) -> Result<Command<'a>, AllocE
     for option in row.options {
         command = command.arg(option_of(alloc, *option))?;
     }
-    command.arg(on_error(alloc))?.arg(files(alloc))
+    command.arg(files(alloc))
 }
 
 // An operand of a command.
@@ -247,37 +272,47 @@ fn operand_of<'a>(alloc: Global, id: &'a str, operand: &Operand) -> Arg<'a> {
 // An option of a command.
 fn option_of<'a>(alloc: Global, option: CommandOption) -> Arg<'a> {
     match option {
-        CommandOption::Raw => Arg::new(alloc, "raw")
-            .short('r')
-            .long("raw")
-            .help("Write strings without quotes and escapes")
-            .action(ArgAction::SetTrue),
-        CommandOption::Pretty => Arg::new(alloc, "pretty")
-            .long("pretty")
-            .help("Write each item and member on a line of its own")
-            .action(ArgAction::SetTrue),
-        CommandOption::By => Arg::new(alloc, "by")
-            .long("by")
-            .value_name("PATH")
+        CommandOption::Raw => {
+            flag(alloc, "raw", "Write strings without quotes and escapes").short('r')
+        }
+        CommandOption::Pretty => {
+            flag(
+                alloc,
+                "pretty",
+                "Write each item and member on a line of its own",
+            )
+        }
+        CommandOption::By => deciding_path(alloc)
             .help("A path to the value that decides; with several the first one decides first")
             .action(ArgAction::Append),
-        CommandOption::ByOne => Arg::new(alloc, "by")
-            .long("by")
-            .value_name("PATH")
-            .help("A path to the value that decides"),
-        CommandOption::Reverse => Arg::new(alloc, "reverse")
-            .long("reverse")
-            .help("Write the last one first")
-            .action(ArgAction::SetTrue),
-        CommandOption::Unique => Arg::new(alloc, "unique")
-            .long("unique")
-            .help("Write only the first of several lines that are equal")
-            .action(ArgAction::SetTrue),
-        CommandOption::Documents => Arg::new(alloc, "documents")
-            .long("documents")
-            .help("Read documents as a column stores them, and write rows as such")
-            .action(ArgAction::SetTrue),
+        CommandOption::ByOne => deciding_path(alloc).help("A path to the value that decides"),
+        CommandOption::Reverse => flag(alloc, "reverse", "Write the last one first"),
+        CommandOption::Unique => {
+            flag(
+                alloc,
+                "unique",
+                "Write only the first of several lines that are equal",
+            )
+        }
+        CommandOption::Documents => {
+            let help = "Read documents as a column stores them, and write rows as such";
+            flag(alloc, "documents", help)
+        }
+        CommandOption::OnError => on_error(alloc),
     }
+}
+
+// An option without a value.
+fn flag<'a>(alloc: Global, name: &'a str, help: &'a str) -> Arg<'a> {
+    Arg::new(alloc, name)
+        .long(name)
+        .help(help)
+        .action(ArgAction::SetTrue)
+}
+
+// The option with a path to the value that decides.
+fn deciding_path<'a>(alloc: Global) -> Arg<'a> {
+    Arg::new(alloc, "by").long("by").value_name("PATH")
 }
 
 // What happens at a line that is wrong.

@@ -8,6 +8,7 @@ mod arguments;
 mod halt;
 mod input;
 mod key;
+mod merge;
 mod operation;
 mod outcome;
 mod range;
@@ -27,8 +28,9 @@ use halt::{Halt, halt_of_write};
 use input::Form;
 use jsonb::{Document, OwnedJsonb};
 use jsonb_functions::{Selector, Step, read_path_text, steps_of_path};
+use merge::{InputFault, MergeEnd};
 use operation::{Change, Job, Operation};
-use outcome::Unanswered;
+use outcome::{Unanswered, fault_text};
 use range::ValueRange;
 use removal::path_count;
 use row::parse_line;
@@ -37,11 +39,14 @@ use sort::{Arrangement, sort_rows};
 use status::{Aim, FAILURE, FOUND, MISUSE, NOT_FOUND, halt_status, run_status};
 use std::env;
 use std::fs::File;
-use std::io::{self, BufReader, BufWriter, Read, Write};
+use std::io::{self, BufRead, BufReader, BufWriter, Read, Write};
 use std::process::ExitCode;
 
 // How many bytes are read, and written, at a time.
 const BUFFER_LEN: usize = 1 << 16;
+
+// How many files are merged at most: each row is compared with the next one of every file.
+const MAX_MERGED: usize = 64;
 
 fn main(rt: HostRuntime) -> ExitCode {
     ExitCode::from(shell(&rt))
@@ -104,7 +109,7 @@ fn run_command(rt: &HostRuntime, name: &str, arguments: &ArgMatches<'_>) -> u8 {
         write_rows(rt, Operation::Encode, arguments)
     } else if name == "decode" {
         decode(rt, arguments)
-    } else if name == "sort" || name == "keys" {
+    } else if name == "sort" || name == "keys" || name == "merge-sorted" {
         with_paths(rt, name, arguments)
     } else if name == "set" {
         with_steps(rt, arguments)
@@ -175,6 +180,8 @@ fn with_paths(rt: &HostRuntime, name: &str, arguments: &ArgMatches<'_>) -> u8 {
     }
     if name == "sort" {
         write_in_order(rt, &paths, arguments)
+    } else if name == "merge-sorted" {
+        write_merged(rt, &paths, arguments)
     } else {
         write_rows(rt, Operation::Key(&paths), arguments)
     }
@@ -203,6 +210,77 @@ fn write_sorted(rt: &HostRuntime, kept: &[u8], arrangement: Arrangement) -> Resu
         return Err(Halt::Memory);
     };
     sort::write_rows(&mut writer, &rows)
+}
+
+// Merges files whose rows are sorted, or checks that those of standard input are.
+fn write_merged(rt: &HostRuntime, paths: &[Vec<Selector<'_>>], arguments: &ArgMatches<'_>) -> u8 {
+    let job = job_of(Operation::Sort(paths), arguments);
+    let names = words_in(arguments).unwrap_or(&[]);
+    if names.is_empty() {
+        return match buffered(rt, rt.reader()) {
+            Ok(reader) => merge_readers(rt, job, &mut [reader], &["-"]),
+            Err(halt) => failure(rt, halt),
+        };
+    }
+    if names.len() > MAX_MERGED {
+        return misuse(rt, "at most 64 files can be merged at a time");
+    }
+    match open_files(rt, names) {
+        Ok(mut readers) => merge_readers(rt, job, &mut readers, names),
+        Err(halt) => failure(rt, halt),
+    }
+}
+
+// The files of these names. One that cannot be opened is reported.
+fn open_files(rt: &HostRuntime, names: &[&str]) -> Result<Vec<BufReader<File>>, Halt> {
+    let mut readers = Vec::new(rt.alloc());
+    for name in names {
+        let reader = buffered(rt, open_file(rt, *name)?)?;
+        if readers.push(reader).is_err() {
+            return Err(Halt::Memory);
+        }
+    }
+    Ok(readers)
+}
+
+// Merges the rows of these readers, which have names.
+fn merge_readers<R: BufRead>(
+    rt: &HostRuntime,
+    job: Job<'_>,
+    readers: &mut [R],
+    names: &[&str],
+) -> u8 {
+    let alloc = rt.alloc();
+    let Ok(mut writer) = BufWriter::with_capacity(alloc, BUFFER_LEN, io::writer(rt)) else {
+        return failure(rt, Halt::Memory);
+    };
+    match merge::merge(alloc, &job, job.form, readers, &mut writer) {
+        Ok(rows) => {
+            let summary = Summary {
+                rows,
+                faults: 0,
+                is_stopped: false,
+            };
+            run_status(Aim::Rows, Ok(summary))
+        }
+        Err(MergeEnd::Halted(halt)) => failure(rt, halt),
+        Err(MergeEnd::Faulty(at)) => input_fault(rt, at, names),
+    }
+}
+
+// Reports the fault at which a merge ended.
+fn input_fault(rt: &HostRuntime, at: InputFault, names: &[&str]) -> u8 {
+    let name = match names.get(at.input) {
+        Some(name) => *name,
+        None => "-",
+    };
+    match fault_text(rt.alloc(), name, at.number, at.fault) {
+        Ok(report) => {
+            let _ = eprint!(rt; "{report}");
+            NOT_FOUND
+        }
+        Err(halt) => failure(rt, halt),
+    }
 }
 
 // What an operation does in the form that the arguments name.
@@ -419,12 +497,8 @@ fn run_files<W: Write>(
         return run_reader(rt, job, plan, rt.reader(), writer);
     }
     for name in names {
-        let Ok(file) = File::open(rt, *name) else {
-            let _ = eprintln!(rt; "kohiblad: cannot open {name}");
-            return Err(Halt::Read);
-        };
         plan.name = name;
-        total = total.with(run_reader(rt, job, plan, file, writer)?);
+        total = total.with(run_reader(rt, job, plan, open_file(rt, *name)?, writer)?);
         if total.is_stopped && !goes_on {
             break;
         }
@@ -448,10 +522,26 @@ fn run_reader<R: Read + Drop, W: Write>(
     reader: R,
     writer: &mut W,
 ) -> Result<Summary, Halt> {
-    let alloc = rt.alloc();
-    let Ok(mut reader) = BufReader::with_capacity(alloc, BUFFER_LEN, reader) else {
-        return Err(Halt::Memory);
-    };
+    let mut reader = buffered(rt, reader)?;
     let mut errors = rt.stderr();
-    run::run(alloc, &job, &plan, &mut reader, writer, &mut errors)
+    run::run(rt.alloc(), &job, &plan, &mut reader, writer, &mut errors)
+}
+
+// A file, which is reported if it cannot be opened.
+fn open_file(rt: &HostRuntime, name: &str) -> Result<File, Halt> {
+    match File::open(rt, name) {
+        Ok(file) => Ok(file),
+        Err(_) => {
+            let _ = eprintln!(rt; "kohiblad: cannot open {name}");
+            Err(Halt::Read)
+        }
+    }
+}
+
+// A reader that reads many bytes at a time.
+fn buffered<R: Read + Drop>(rt: &HostRuntime, reader: R) -> Result<BufReader<R>, Halt> {
+    match BufReader::with_capacity(rt.alloc(), BUFFER_LEN, reader) {
+        Ok(reader) => Ok(reader),
+        Err(_) => Err(Halt::Memory),
+    }
 }

@@ -24,6 +24,8 @@ pub enum Reason {
     BadDocument,
     /// The input ends within it.
     Cut,
+    /// Its key is below that of the row before it.
+    NotSorted,
 }
 
 impl Reason {
@@ -39,6 +41,7 @@ impl Reason {
             Reason::TooLarge => "TooLarge",
             Reason::BadDocument => "InvalidJsonb",
             Reason::Cut => "InvalidEOF",
+            Reason::NotSorted => "NotSorted",
         }
     }
 

@@ -111,20 +111,18 @@ fn take_lines<L: LineWorker, R: BufRead, W: Write, E: Write>(
                 report_fault(alloc, plan.name, before + 1, fault, writer, errors)?;
                 faults += 1;
                 if plan.stops_at(fault) {
-                    let is_stopped = true;
                     return Ok(Summary {
                         rows,
                         faults,
-                        is_stopped,
+                        is_stopped: true,
                     });
                 }
             }
             Answer::End => {
-                let is_stopped = false;
                 return Ok(Summary {
                     rows,
                     faults,
-                    is_stopped,
+                    is_stopped: false,
                 });
             }
         }
@@ -133,7 +131,7 @@ fn take_lines<L: LineWorker, R: BufRead, W: Write, E: Write>(
 }
 
 /// What the next row of an input gives.
-enum Answer {
+pub enum Answer {
     /// Rows.
     Rows(Vec<u8>),
     /// It is wrong.
@@ -142,8 +140,9 @@ enum Answer {
     End,
 }
 
-// Reads the next row, in place of what `row` held, and answers it.
-fn answer_next<L: LineWorker, R: BufRead>(
+/// Reads the next row, in place of what `row` held, and answers it. `Read`: the reader failed.
+/// `Memory`: an allocation failed.
+pub fn answer_next<L: LineWorker, R: BufRead>(
     alloc: Global,
     worker: &L,
     form: Form,

@@ -102,8 +102,9 @@ fn read_rows<'a>(alloc: Global, bytes: &'a [u8]) -> Result<Vec<Keyed<'a>>, Halt>
     Ok(rows)
 }
 
-// The first row of these bytes with its key, and the bytes after it.
-fn split_keyed(bytes: &[u8]) -> Option<(Keyed<'_>, &[u8])>
+/// The first row of these bytes with its key, and the bytes after it. `None` if they do not begin
+/// with a row and its key.
+pub fn split_keyed(bytes: &[u8]) -> Option<(Keyed<'_>, &[u8])>
     ensures { IfSome result (λ parts. bytes.entry.now ≡ keyed_bytes parts.0 ++ parts.1.now) }
 {
     let Ok((key, rest)) = split_row(bytes) else {
