@@ -12,4 +12,5 @@ pub mod Removals
 pub mod Ranges
 pub mod Operations
 pub mod Arguments
+pub mod Commands
 pub mod Words

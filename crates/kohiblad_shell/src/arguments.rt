@@ -246,6 +246,13 @@ pub fn commands<'a>(alloc: Global) -> Result<Command<'a>, AllocError> {
     Ok(program)
 }
 
+/// Whether the table has a command of this name that is given an operand.
+pub fn has_operand(name: &str) -> bool {
+    COMMANDS
+        .iter()
+        .any(|row| row.name == name && matches!(row.operand, Some(_)))
+}
+
 // A command of the table.
 fn command_of<'a>(alloc: Global, row: &CommandRow) -> Result<Command<'a>, AllocError> {
     let mut command = Command::new(alloc, row.name).about(row.about);

@@ -5,6 +5,7 @@ ghost use Rattle.std.specs.Prelude.{◌≡◌, IfOk};
 ghost use Rattle.kohiblad_shell.specs.Words.{IsDocument, halt_status, owned_bytes, run_status};
 
 mod arguments;
+mod command;
 mod halt;
 mod input;
 mod key;
@@ -20,16 +21,17 @@ mod status;
 mod write;
 
 use arguments::{
-    arrangement_in, commands, form_in, layout_in, operand_in, stops_in, style_in, value_in,
-    words_in,
+    arrangement_in, commands, form_in, has_operand, layout_in, operand_in, stops_in, style_in,
+    value_in, words_in,
 };
 use clap::ArgMatches;
+use command::{Operands, operation_of};
 use halt::{Halt, halt_of_write};
 use input::Form;
 use jsonb::{Document, OwnedJsonb};
 use jsonb_functions::{Selector, Step, read_path_text, steps_of_path};
 use merge::{InputFault, MergeEnd};
-use operation::{Change, Job, Operation};
+use operation::{Job, Operation};
 use outcome::{Unanswered, fault_text};
 use range::ValueRange;
 use removal::path_count;
@@ -95,30 +97,53 @@ fn failure(rt: &HostRuntime, halt: Halt) -> u8
 
 // Runs a command.
 fn run_command(rt: &HostRuntime, name: &str, arguments: &ArgMatches<'_>) -> u8 {
-    if name == "check" {
-        check(rt, arguments)
-    } else if name == "canonical" {
-        write_rows(rt, Operation::Canonical, arguments)
-    } else if name == "strip-nulls" {
-        write_rows(rt, Operation::Change(Change::StripNulls), arguments)
-    } else if name == "contains" || name == "merge" {
+    if name == "contains" || name == "merge" {
         with_value(rt, name, arguments)
     } else if name == "pick" {
-        with_names(rt, arguments)
-    } else if name == "encode" {
-        write_rows(rt, Operation::Encode, arguments)
+        with_names(rt, name, arguments)
     } else if name == "decode" {
-        decode(rt, arguments)
+        run_operands(rt, name, Operands::Layout(layout_in(arguments)), arguments)
     } else if name == "sort" || name == "keys" || name == "merge-sorted" {
         with_paths(rt, name, arguments)
     } else if name == "set" {
-        with_steps(rt, arguments)
+        with_steps(rt, name, arguments)
     } else if name == "remove" {
-        with_removals(rt, arguments)
+        with_removals(rt, name, arguments)
     } else if name == "range" {
-        with_bounds(rt, arguments)
-    } else {
+        with_bounds(rt, name, arguments)
+    } else if has_operand(name) {
         with_path(rt, name, arguments)
+    } else {
+        run_operands(rt, name, Operands::Nothing, arguments)
+    }
+}
+
+// Runs the operation of a command that is given these operands.
+fn run_operands(
+    rt: &HostRuntime,
+    name: &str,
+    operands: Operands<'_>,
+    arguments: &ArgMatches<'_>,
+) -> u8 {
+    let Some(operation) = operation_of(name, operands) else {
+        return misuse(rt, "no such command");
+    };
+    let form = if name == "decode" {
+        Form::Documents
+    } else {
+        form_in(arguments)
+    };
+    let job = Job { operation, form };
+    if name == "check" {
+        check(rt, job, arguments)
+    } else if name == "count" {
+        count(rt, job, arguments)
+    } else if name == "sort" {
+        write_in_order(rt, job, arguments)
+    } else if name == "merge-sorted" {
+        write_merged(rt, job, arguments)
+    } else {
+        write_rows(rt, job, arguments)
     }
 }
 
@@ -145,21 +170,17 @@ fn with_value(rt: &HostRuntime, name: &str, arguments: &ArgMatches<'_>) -> u8 {
     match document_of(rt, operand_in(arguments)) {
         Ok(owned) => {
             let value = Document::new_unchecked(owned.as_bytes());
-            if name == "contains" {
-                write_rows(rt, Operation::Contains(value), arguments)
-            } else {
-                write_rows(rt, Operation::Change(Change::Merge(value)), arguments)
-            }
+            run_operands(rt, name, Operands::Value(value), arguments)
         }
         Err(status) => status,
     }
 }
 
 // Runs the command whose operand is a list of names.
-fn with_names(rt: &HostRuntime, arguments: &ArgMatches<'_>) -> u8 {
+fn with_names(rt: &HostRuntime, name: &str, arguments: &ArgMatches<'_>) -> u8 {
     let names = operand_in(arguments).split(',');
     match names.collect::<Vec<&str>>(rt.alloc()) {
-        Ok(names) => write_rows(rt, Operation::Change(Change::Pick(&names)), arguments),
+        Ok(names) => run_operands(rt, name, Operands::Names(&names), arguments),
         Err(_) => failure(rt, Halt::Memory),
     }
 }
@@ -178,19 +199,12 @@ fn with_paths(rt: &HostRuntime, name: &str, arguments: &ArgMatches<'_>) -> u8 {
             }
         }
     }
-    if name == "sort" {
-        write_in_order(rt, &paths, arguments)
-    } else if name == "merge-sorted" {
-        write_merged(rt, &paths, arguments)
-    } else {
-        write_rows(rt, Operation::Key(&paths), arguments)
-    }
+    run_operands(rt, name, Operands::Keys(&paths), arguments)
 }
 
-// Sorts the lines by these paths, in memory.
-fn write_in_order(rt: &HostRuntime, paths: &[Vec<Selector<'_>>], arguments: &ArgMatches<'_>) -> u8 {
+// Sorts the lines by their keys, in memory.
+fn write_in_order(rt: &HostRuntime, job: Job<'_>, arguments: &ArgMatches<'_>) -> u8 {
     let stops = stops_in(arguments, true);
-    let job = job_of(Operation::Sort(paths), arguments);
     let mut kept = Vec::new(rt.alloc());
     match run_files(rt, job, arguments, stops, &mut kept) {
         Ok(summary) if summary.is_stopped => NOT_FOUND,
@@ -213,8 +227,7 @@ fn write_sorted(rt: &HostRuntime, kept: &[u8], arrangement: Arrangement) -> Resu
 }
 
 // Merges files whose rows are sorted, or checks that those of standard input are.
-fn write_merged(rt: &HostRuntime, paths: &[Vec<Selector<'_>>], arguments: &ArgMatches<'_>) -> u8 {
-    let job = job_of(Operation::Sort(paths), arguments);
+fn write_merged(rt: &HostRuntime, job: Job<'_>, arguments: &ArgMatches<'_>) -> u8 {
     let names = words_in(arguments).unwrap_or(&[]);
     if names.is_empty() {
         return match buffered(rt, rt.reader()) {
@@ -283,23 +296,6 @@ fn input_fault(rt: &HostRuntime, at: InputFault, names: &[&str]) -> u8 {
     }
 }
 
-// What an operation does in the form that the arguments name.
-fn job_of<'a>(operation: Operation<'a>, arguments: &ArgMatches<'_>) -> Job<'a> {
-    Job {
-        operation,
-        form: form_in(arguments),
-    }
-}
-
-// Writes the texts of documents.
-fn decode(rt: &HostRuntime, arguments: &ArgMatches<'_>) -> u8 {
-    let job = Job {
-        operation: Operation::Decode(layout_in(arguments)),
-        form: Form::Documents,
-    };
-    write_job(rt, job, arguments)
-}
-
 // Runs a command whose operand is a path.
 fn with_path(rt: &HostRuntime, name: &str, arguments: &ArgMatches<'_>) -> u8 {
     let path = match read_path_text(rt.alloc(), operand_in(arguments)) {
@@ -307,20 +303,16 @@ fn with_path(rt: &HostRuntime, name: &str, arguments: &ArgMatches<'_>) -> u8 {
         Ok(None) => return misuse(rt, "the operand is not a path, such as '$.price'"),
         Err(_) => return failure(rt, Halt::Memory),
     };
-    let style = style_in(arguments);
-    if name == "get" {
-        write_rows(rt, Operation::Get(&path, style), arguments)
-    } else if name == "select" {
-        write_rows(rt, Operation::Select(&path, style), arguments)
-    } else if name == "filter" {
-        write_rows(rt, Operation::Filter(&path), arguments)
-    } else {
-        count(rt, &path, arguments)
-    }
+    run_operands(
+        rt,
+        name,
+        Operands::Path(&path, style_in(arguments)),
+        arguments,
+    )
 }
 
 // Runs the command whose operands are a path without wildcards, ranges and filters, and a value.
-fn with_steps(rt: &HostRuntime, arguments: &ArgMatches<'_>) -> u8 {
+fn with_steps(rt: &HostRuntime, name: &str, arguments: &ArgMatches<'_>) -> u8 {
     let steps = match steps_in(rt, operand_in(arguments)) {
         Ok(steps) => steps,
         Err(status) => return status,
@@ -328,14 +320,14 @@ fn with_steps(rt: &HostRuntime, arguments: &ArgMatches<'_>) -> u8 {
     match document_of(rt, value_in(arguments)) {
         Ok(owned) => {
             let value = Document::new_unchecked(owned.as_bytes());
-            write_rows(rt, Operation::Change(Change::Set(&steps, value)), arguments)
+            run_operands(rt, name, Operands::Steps(&steps, value), arguments)
         }
         Err(status) => status,
     }
 }
 
 // Runs the command whose operands are paths, which come before the files.
-fn with_removals(rt: &HostRuntime, arguments: &ArgMatches<'_>) -> u8 {
+fn with_removals(rt: &HostRuntime, name: &str, arguments: &ArgMatches<'_>) -> u8 {
     let mut paths = Vec::new(rt.alloc());
     if let Err(status) = push_steps(rt, &mut paths, operand_in(arguments)) {
         return status;
@@ -346,11 +338,11 @@ fn with_removals(rt: &HostRuntime, arguments: &ArgMatches<'_>) -> u8 {
             return status;
         }
     }
-    write_rows(rt, Operation::Remove(&paths), arguments)
+    run_operands(rt, name, Operands::Removed(&paths), arguments)
 }
 
 // Runs the command whose operands are the bounds of a range.
-fn with_bounds(rt: &HostRuntime, arguments: &ArgMatches<'_>) -> u8 {
+fn with_bounds(rt: &HostRuntime, name: &str, arguments: &ArgMatches<'_>) -> u8 {
     let path = match deciding_path_in(rt, arguments) {
         Ok(path) => path,
         Err(status) => return status,
@@ -366,7 +358,7 @@ fn with_bounds(rt: &HostRuntime, arguments: &ArgMatches<'_>) -> u8 {
                 from: Document::new_unchecked(from.as_bytes()),
                 to: Document::new_unchecked(to.as_bytes()),
             };
-            write_rows(rt, Operation::Range(range), arguments)
+            run_operands(rt, name, Operands::Range(range), arguments)
         }
         Err(status) => status,
     }
@@ -425,20 +417,14 @@ fn steps_in<'a>(rt: &HostRuntime, text: &'a str) -> Result<Vec<Step<'a>>, u8> {
 }
 
 // Reports all lines that are wrong.
-fn check(rt: &HostRuntime, arguments: &ArgMatches<'_>) -> u8 {
+fn check(rt: &HostRuntime, job: Job<'_>, arguments: &ArgMatches<'_>) -> u8 {
     let stops = stops_in(arguments, false);
-    let job = job_of(Operation::Check, arguments);
     let outcome = run_files(rt, job, arguments, stops, &mut io::sink());
     ended(rt, Aim::Faults, outcome)
 }
 
-// Writes the rows of an operation.
-fn write_rows(rt: &HostRuntime, operation: Operation<'_>, arguments: &ArgMatches<'_>) -> u8 {
-    write_job(rt, job_of(operation, arguments), arguments)
-}
-
 // Writes the rows of a job.
-fn write_job(rt: &HostRuntime, job: Job<'_>, arguments: &ArgMatches<'_>) -> u8 {
+fn write_rows(rt: &HostRuntime, job: Job<'_>, arguments: &ArgMatches<'_>) -> u8 {
     let stops = stops_in(arguments, true);
     let Ok(mut writer) = BufWriter::with_capacity(rt.alloc(), BUFFER_LEN, io::writer(rt)) else {
         return failure(rt, Halt::Memory);
@@ -447,11 +433,9 @@ fn write_job(rt: &HostRuntime, job: Job<'_>, arguments: &ArgMatches<'_>) -> u8 {
     ended(rt, Aim::Rows, outcome)
 }
 
-// Counts the rows in which a path leads to some value. After a wrong row at which the run stops no
-// number is written.
-fn count(rt: &HostRuntime, path: &[Selector<'_>], arguments: &ArgMatches<'_>) -> u8 {
+// Counts the rows that a job gives. After a wrong row at which the run stops no number is written.
+fn count(rt: &HostRuntime, job: Job<'_>, arguments: &ArgMatches<'_>) -> u8 {
     let stops = stops_in(arguments, true);
-    let job = job_of(Operation::Filter(path), arguments);
     match run_files(rt, job, arguments, stops, &mut io::sink()) {
         Ok(summary) if summary.is_stopped => NOT_FOUND,
         Ok(summary) => match println!(rt; "{}", summary.rows) {
