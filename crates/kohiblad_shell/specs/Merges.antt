@@ -146,12 +146,13 @@ pub record IsWholeMerge {R : Type 0} (remaining : R → Option (List ℕ)) (rule
   pub output : Appends old new (flat_map head_line written)
   pub counted : count ≡ length written
 
--- A merge ended at the row after those that were written of an input, if it ended at a fault.
+-- The last one of some rows, if there is one.
 abbrev pub last_of : List Head → Option Head
 last_of [] = None
 last_of (head ∷ []) = Some head
 last_of (head ∷ (next ∷ heads)) = last_of (next ∷ heads)
 
+-- A merge ended at the row after those that were written of an input, if it ended at a fault.
 abbrev pub IsFaultOf : {R : Type 0} → (R → Option (List ℕ)) → LineRule → Form → List R
     → List (List Head) → MergeEnd → Type 0
 IsFaultOf remaining rule form readers rows (Halted halt) = ⊤
