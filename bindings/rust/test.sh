@@ -54,6 +54,12 @@ for name_of_stack in CALL_STACK LEVEL_STACK EDIT_LEVEL_STACK; do
     grep -q "^#define KOHIBLAD_$name_of_stack $bytes$" ../kohiblad.h ||
         fail "$name_of_stack is not that of kohiblad.h"
 done
+# Names, reasons and the classes of what may come are those of the header.
+sed -n 's/^ *\(Error::.* => \)\{0,1\}\(".*"\),$/\2/p' src/error.rs src/words.rs > "$scratch/words"
+[ "$(wc -l < "$scratch/words")" -gt 50 ] || fail 'src/error.rs and src/words.rs have no words'
+while IFS= read -r words; do
+    grep -qF "return $words;" ../kohiblad.h || fail "kohiblad.h has no words $words"
+done < "$scratch/words"
 
 if cargo fmt --version > "$scratch/found" 2>&1; then
     run cargo fmt --check

@@ -110,6 +110,33 @@ impl Error {
         }
     }
 
+    /// What the status means, in a few words that are put after what was tried.
+    ///
+    /// ```
+    /// let refused = kohiblad::OwnedJsonb::parse("[[]]", 1).unwrap_err();
+    /// assert_eq!(refused.reason(), "the text nests deeper than the depth");
+    /// ```
+    pub fn reason(&self) -> &'static str {
+        match self {
+            Error::InvalidEOF => "the bytes are cut, or rows are outside them",
+            Error::InvalidJsonb => "no document within the depth, or past a limit of the format",
+            Error::InvalidJsonbHeader => "the header is of no kind",
+            Error::InvalidJsonbJEntry => "entries have no such type",
+            Error::InvalidJsonbNumber => "the payload is not that of a number",
+            Error::InvalidJsonbExtension => "there is no such extension value",
+            Error::InvalidUtf8 => "the text is not UTF-8",
+            Error::ObjectDuplicateKey => "a key comes twice",
+            Error::InvalidJson { .. } => "the text is no JSON",
+            Error::BadNumber { .. } => "the text has an unfinished or too large number",
+            Error::OutOfMemory => "an allocation failed",
+            Error::TooDeep => "the text nests deeper than the depth",
+            Error::OtherKind => "it is of another kind than the call takes",
+            Error::PastRange => "the number is no whole one of 64 bits",
+            Error::TooManySteps => "the call took more steps than it may",
+            Error::Unknown(_) => "the status is unknown",
+        }
+    }
+
     /// Where a text stops being JSON: how many bytes of it begin some JSON text. `None` of the
     /// errors that are of no place in a text.
     ///

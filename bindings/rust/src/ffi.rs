@@ -69,6 +69,13 @@ struct Fault {
     offset: u64,
 }
 
+/// What may come where a text is no JSON.
+#[repr(C)]
+struct Expected {
+    status: u32,
+    classes: u32,
+}
+
 #[repr(C)]
 struct Decimal {
     status: u32,
@@ -249,7 +256,22 @@ extern "C" {
         room: usize,
         length: *mut usize,
     ) -> u32;
+    fn kohiblad_print_at(
+        entry_type: u32,
+        payload: *const u8,
+        size: usize,
+        depth: usize,
+        out: *mut u8,
+        room: usize,
+        length: *mut usize,
+    ) -> u32;
     fn kohiblad_text_fault(text: *const u8, size: usize, depth: usize, exponents: u32) -> Fault;
+    fn kohiblad_text_expected(
+        text: *const u8,
+        size: usize,
+        depth: usize,
+        exponents: u32,
+    ) -> Expected;
     fn kohiblad_build_array(
         bytes: *const u8,
         size: usize,
@@ -932,21 +954,50 @@ pub(crate) fn parse(text: &[u8], depth: usize, exponents: Exponents) -> Result<V
         unsafe { kohiblad_parse(bytes, size, depth, exponents as u32, out, room, length) }
     })
     .map_err(|error| match error {
-        Error::InvalidJson { .. } => text_fault(text, depth, exponents),
+        Error::InvalidJson { .. } => text_fault(text, depth, exponents).unwrap_or(error),
         other => other,
     })
 }
 
-/// Why a text is no JSON, and where. Only such a text may be given.
-fn text_fault(text: &[u8], depth: usize, exponents: Exponents) -> Error {
+/// Why a text is no JSON, and where; `None` if it is JSON.
+pub(crate) fn text_fault(text: &[u8], depth: usize, exponents: Exponents) -> Option<Error> {
+    let (bytes, size) = (text.as_ptr(), text.len());
+    let depth = depth.min(MAX_DEPTH);
     // SAFETY: as above.
-    let fault = unsafe { kohiblad_text_fault(text.as_ptr(), text.len(), depth, exponents as u32) };
+    let fault = unsafe { kohiblad_text_fault(bytes, size, depth, exponents as u32) };
     // The offset is in the text, so it fits a `usize`.
-    Error::of_fault(fault.status, fault.offset as usize)
+    (fault.status != OK).then(|| Error::of_fault(fault.status, fault.offset as usize))
+}
+
+/// The classes of what may come where a text is no JSON, 0 if an allocation fails.
+pub(crate) fn text_expected(text: &[u8], depth: usize, exponents: Exponents) -> u32 {
+    let (bytes, size) = (text.as_ptr(), text.len());
+    let depth = depth.min(MAX_DEPTH);
+    // SAFETY: as above.
+    unsafe { kohiblad_text_expected(bytes, size, depth, exponents as u32) }.classes
 }
 
 pub(crate) fn to_string(bytes: &[u8]) -> Result<Vec<u8>, Error> {
     bounded(kohiblad_print, bytes, MAX_DEPTH, bytes.len())
+}
+
+/// The compact text of a part.
+pub(crate) fn text_of_part(part: Part<'_>) -> Result<Vec<u8>, Error> {
+    let payload = part.payload;
+    all_written(payload.len() + FIRST_ROOM, |out, room, length| {
+        // SAFETY: as above, of the payload; the call writes `length` bytes.
+        unsafe {
+            kohiblad_print_at(
+                part.entry_type,
+                payload.as_ptr(),
+                payload.len(),
+                MAX_DEPTH,
+                out,
+                room,
+                length,
+            )
+        }
+    })
 }
 
 pub(crate) fn to_pretty(bytes: &[u8]) -> Result<Vec<u8>, Error> {

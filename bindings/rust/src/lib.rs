@@ -58,6 +58,7 @@ mod node;
 mod owned;
 mod path;
 mod raw;
+mod words;
 
 pub use children::{Items, Members};
 pub use error::Error;
@@ -66,6 +67,7 @@ pub use node::{ExtensionValue, Kind, Node, Number};
 pub use owned::OwnedJsonb;
 pub use path::Path;
 pub use raw::RawJsonb;
+pub use words::{fault_words, fault_words_with_exponents};
 
 /// How deep a document or a text may nest. A scalar has depth 0, an array or object one more than
 /// its deepest child, and at least 1.

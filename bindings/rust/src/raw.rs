@@ -304,6 +304,43 @@ impl<'a> RawJsonb<'a> {
         ffi::to_string(self.bytes).map(string_of)
     }
 
+    /// The JSON text of the value of a key, without white space, with nothing copied; `None` if
+    /// there is no such key or the value is no object.
+    ///
+    /// ```
+    /// let row = kohiblad::OwnedJsonb::parse(r#"{"tags": ["a", 1.50]}"#, 64)?;
+    /// assert_eq!(row.as_raw().text_of("tags")?.as_deref(), Some(r#"["a",1.50]"#));
+    /// assert_eq!(row.as_raw().text_of("name")?, None);
+    /// # Ok::<(), kohiblad::Error>(())
+    /// ```
+    ///
+    /// # Errors
+    ///
+    /// - [`Error::OutOfMemory`]: an allocation failed.
+    pub fn text_of(&self, name: &str) -> Result<Option<String>, Error> {
+        text_of_part(known(ffi::find(self.bytes, name)))
+    }
+
+    /// The same of the value at the end of a path; `None` if the path leads nowhere.
+    ///
+    /// ```
+    /// use kohiblad::{OwnedJsonb, Path};
+    ///
+    /// let row = OwnedJsonb::parse(r#"{"tags": ["a", 1.50]}"#, 64)?;
+    /// let path = Path::new().key("tags").index(-1);
+    /// assert_eq!(row.as_raw().text_at(&path)?.as_deref(), Some("1.50"));
+    /// # Ok::<(), kohiblad::Error>(())
+    /// ```
+    ///
+    /// # Errors
+    ///
+    /// - [`Error::InvalidJsonb`]: a limit of the format is passed by the path.
+    /// - [`Error::OutOfMemory`]: an allocation failed.
+    pub fn text_at(&self, path: &Path) -> Result<Option<String>, Error> {
+        let path = path.to_document()?;
+        text_of_part(ffi::get_path(self.bytes, path.as_bytes())?)
+    }
+
     /// The JSON text on lines, indented by two spaces.
     ///
     /// ```
@@ -861,6 +898,11 @@ impl Hash for RawJsonb<'_> {
     fn hash<H: Hasher>(&self, state: &mut H) {
         self.key().expect("memory for a key").hash(state);
     }
+}
+
+fn text_of_part(part: Option<ffi::Part<'_>>) -> Result<Option<String>, Error> {
+    part.map(|part| ffi::text_of_part(part).map(string_of))
+        .transpose()
 }
 
 /// The JSON text without white space, and by `{:#}` on lines.
