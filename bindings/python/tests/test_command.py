@@ -5,10 +5,11 @@ import subprocess
 import sys
 import tempfile
 import unittest
+from datetime import date, datetime
 from importlib.util import find_spec
 
 import kohiblad
-from kohiblad import Document
+from kohiblad import Date, Document, Timestamp
 
 HAS_NUMPY = find_spec("numpy") is not None
 LINES = ['{"id":3,"town":"Oslo","at":1.50}', '{"id":1,"town":"Bergen"}', '[2]', '{"id":3.0}']
@@ -17,8 +18,11 @@ NDJSON = "".join(line + "\n" for line in LINES).encode()
 
 def stored(*texts):
     """A file of documents, as docs/COLUMN.md says it."""
-    documents = [bytes(Document.parse(text)) for text in texts]
-    return b"".join(len(it).to_bytes(8, "big") + it for it in documents)
+    return stored_documents(map(Document.parse, texts))
+
+
+def stored_documents(documents):
+    return b"".join(len(bytes(it)).to_bytes(8, "big") + bytes(it) for it in documents)
 
 
 def run(*arguments, given=b"", path=None):
@@ -231,13 +235,25 @@ class CommandTest(unittest.TestCase):
                       ["$.a", "decimal 256"]):
             self.assertEqual(run("extract", *words)[:2], (2, b""), words)
         self.assertEqual(run("survey", "a.b")[:2], (2, b""))
-        for words in (["a", "int64"], ["$.a", "date"], ["$.price", "text"]):
+        for words in (["a", "int64"], ["$.a", "interval"], ["$.price", "text"]):
             status, output, _ = run("extract", "$.price", "int64", source, "--and", *words)
             self.assertEqual((status, output), (1, b""), words)
         status, _, message = run("extract", "$.a", "int64", given=stored("1")[:-1])
         self.assertEqual(status, 1)
         self.assertIn("document 1: InvalidEOF", message)
         self.assertEqual(run("extract", "$.price", "int64", source, "-o", source)[0], 1)
+
+    def test_extract_of_moments(self):
+        rows = [[date(2026, 11, 28), datetime(2026, 11, 28, 12, 30)],
+                [Date(2**31 - 1), Timestamp(-2**63)], [None, 5]]
+        given = stored_documents(map(Document.of, rows))
+        for types in (["date", "timestamp"], ["least", "timestamp"]):
+            status, output, message = run("extract", "$[0]", types[0], "-", "--and", "$[1]",
+                                          types[1], given=given)
+            self.assertEqual((status, output.decode().splitlines()), (0, [
+                'row,"$[0]","$[1]"', "0,2026-11-28,2026-11-28T12:30:00",
+                f"1,{2**31 - 1},{-2**63}", "2,,"]))
+            self.assertIn("in 1 of 3 rows", message)
 
     def test_extract_counts_the_documents(self):
         given = stored("[7]") * 300_000
@@ -270,6 +286,9 @@ class CommandTest(unittest.TestCase):
         self.assertEqual(run("extract", "$[0]", "int64", numbers, "-o", one), (0, b"", ""))
         self.assertEqual((numpy.load(one).tolist(), numpy.load(one).dtype.name),
                          ([5, -1], "int64"))
+        days = self.path("days", stored_documents([Document.of([date(2026, 11, 28)])]))
+        self.assertEqual(run("extract", "$[0]", "date", days, "-o", one), (0, b"", ""))
+        self.assertEqual(numpy.load(one).tolist(), [date(2026, 11, 28)])
         status, _, message = run("extract", "$[0]", "int64", numbers, "--and", "$[1]", "boolean",
                                  "-o", one)
         self.assertEqual(status, 1)

@@ -14,12 +14,13 @@ import struct
 import threading
 import unittest
 import weakref
-from datetime import date, datetime, timezone
+from datetime import date, datetime, timedelta, timezone
 from decimal import Decimal
 from importlib.util import find_spec
+from unittest import mock
 
-from kohiblad import (Document, Interval, InvalidDocumentError, InvalidTextError, UnfitError,
-                      _capsules, _typed)
+from kohiblad import (Date, Document, Interval, InvalidDocumentError, InvalidTextError, Timestamp,
+                      UnfitError, _capsules, _typed)
 from kohiblad.arrow import Column, Survey, Typed
 from test_arrow import (ARRAY, RELEASE, RELEASE_AT, SCHEMA, Consumer, Given, Producer, new_capsule,
                         pointer_of, words)
@@ -33,7 +34,15 @@ NUMBERS = ["0", "5", "-5", "2.0", "1.5", "1.50", "-0.25", "9223372036854775807",
            "0." + 37 * "0" + "1", "100.00"]
 OTHERS = ["null", "true", "false", '"a"', '""', '"\u00e9\u20ac"', "[5]", '{"a":5}', "[]", None]
 TYPES = ["int64", "uint64", "decimal 0", "decimal 1", "decimal 2", "decimal 38", "decimal 255",
-         "boolean", "text", "nothing", "mixed"]
+         "boolean", "text", "date", "timestamp", "nothing", "mixed"]
+EPOCH = datetime(1970, 1, 1)
+# By the type that they fit.
+MOMENTS = {
+    "date": [date(1970, 1, 1), date(2026, 11, 28), date.min, date.max, Date(2**31 - 1),
+             Date(-2**31)],
+    "timestamp": [EPOCH, datetime(2026, 11, 28, 12, 30, 15, 123456), datetime.min, datetime.max,
+                  Timestamp(2**63 - 1), Timestamp(-2**63)],
+}
 
 
 def row_of(member):
@@ -79,6 +88,26 @@ def expected(member, name, exact):
     if is_number(member):
         value = fits(member, name, exact)
     return (UNFIT if value is None else VALUE), value
+
+
+def number_of(moment):
+    """What a date or a timestamp is stored as."""
+    if isinstance(moment, (Date, Timestamp)):
+        return moment[0]
+    if isinstance(moment, datetime):
+        return (moment - EPOCH) // timedelta(microseconds=1)
+    return (moment - EPOCH.date()).days
+
+
+def column_of_moments(name):
+    """Moments that fit a type and others, with their states and the values of the type."""
+    fitting = MOMENTS[name]
+    others = [it for other, moments in MOMENTS.items() if other != name for it in moments]
+    others += [7, "2026-11-28", datetime(2026, 1, 2, tzinfo=timezone.utc), Interval(1, 2, 3)]
+    rows = [{"a": it} for it in (*fitting, *others, None)] + [{}]
+    states = [VALUE] * len(fitting) + [UNFIT] * len(others) + [NULL, ABSENT]
+    return (Column.of(map(Document.of, rows)), states,
+            fitting + [None] * (len(rows) - len(fitting)), others)
 
 
 def is_held(member, name, exact):
@@ -175,7 +204,7 @@ class TypedTest(unittest.TestCase):
                 (InvalidTextError, ["\ud800"], None, "rest"),
                 *((ValueError, ["a"], [name], "rest") for name in (
                     "", "int", "INT64", "decimal", "decimal ", "decimal 256", "decimal -1",
-                    "decimal 1 ", "decimal \u0661", "decimal 1.5", "date", "text 1"))):
+                    "decimal 1 ", "decimal \u0661", "decimal 1.5", "interval", "text 1"))):
             with self.subTest(paths=paths, types=types), self.assertRaises(error):
                 column.extract(paths, types, unfit=unfit)
         self.assertEqual(column.extract(["a"], ["decimal 02"])[0].type, "decimal 2")
@@ -210,14 +239,83 @@ class TypedTest(unittest.TestCase):
                         self.assertEqual(name, held[0])
 
     def test_least_types_without_columns(self):
-        for value, name in ((date(2026, 1, 2), "date"), (datetime(2026, 1, 2), "timestamp"),
-                            (datetime(2026, 1, 2, tzinfo=timezone.utc), "timestamp_tz"),
+        for value, name in ((datetime(2026, 1, 2, tzinfo=timezone.utc), "timestamp_tz"),
                             (Interval(1, 2, 3), "interval"), (b"bytes", "mixed")):
             column = Column.of([Document.of({"a": value}), Document.of({"a": None})])
             self.assertEqual(column.least_type("a"), name)
             typed, = column.extract(["a"])
             self.assertEqual((typed.type, typed.to_list(), typed.rest),
                              ("mixed", [None, None], [(0, Document.of(value))]))
+
+    def test_dates_and_timestamps(self):
+        for name, code in (("date", "i"), ("timestamp", "q")):
+            column, states, values, others = column_of_moments(name)
+            typed, = column.extract(["a"], [name])
+            self.assertEqual((typed.type, typed.states.tolist()), (name, states))
+            self.assertEqual(list(map(repr, typed.to_list())), list(map(repr, values)))
+            self.assertEqual(typed[:], typed.to_list())
+            numbers = [0 if it is None else number_of(it) for it in values]
+            self.assertEqual((typed.values.format, typed.values.tolist()), (code, numbers))
+            self.assertEqual([it for _, it in typed.rest], list(map(Document.of, others)))
+            for rows in (column[:6], column[:3], column[-2:]):
+                least = name if len(rows) > 2 else "nothing"
+                self.assertEqual(rows.least_type("a"), least)
+                self.assertEqual(rows.extract(["a"])[0].type, least)
+            mixed = column.extract(["a"])[0]
+            self.assertEqual((mixed.type, mixed.unfit), ("mixed", len(states) - 2))
+            # More rows than a batch, where one decides that comes late.
+            many = Column.of([Document.of({"a": MOMENTS[name][1]})] * 3000 + [Document.of({"a": 5})])
+            self.assertEqual((many[:3000].extract(["a"])[0][2999], many.least_type("a")),
+                             (MOMENTS[name][1], "mixed"))
+
+    def test_rows_that_are_documents_are_checked_once(self):
+        class Foreign:
+            def __bytes__(self):
+                return b"no"
+
+        good = Document.of({"a": 5, "b": 6})
+        rows = Producer([bytes(good)] * 3, b"Z")
+        others = Producer([bytes(good)] * 3, b"Z")
+        bad = Producer([bytes(good), b"no"], b"Z")
+        for column, paths, types, wanted, states in (
+                (Column.of([good, None, good]), ["a", "b"], ["int64"] * 2, [1, 1], [1, 0, 1]),
+                (Column.of([good, None])[:1], ["a"], ["int64"], [1], [1]),
+                (Column.of([good, Foreign()]), ["a", "b"], ["int64"] * 2, [0, 0], [1, 4]),
+                (Column.from_arrow(rows), ["a", "b", "a"], ["int64"] * 3, [0, 1, 1], [1, 1, 1]),
+                (Column.from_arrow(others), ["a", "b"], None, [0, 1], [1, 1, 1]),
+                (Column.from_arrow(bad), ["a", "b"], ["int64"] * 2, [0, 0], [1, 4])):
+            calls = []
+
+            def counted(is_known, call):
+                return lambda *arguments: calls.append(is_known) or call(*arguments)
+
+            taking = tuple(map(counted, (0, 1), _typed.library.take_int64))
+            with mock.patch.object(_typed.library, "take_int64", taking):
+                columns = column.extract(paths, types)
+            self.assertEqual(calls, wanted)
+            self.assertEqual([it.states.tolist() for it in columns], [states] * len(paths))
+        # For the least type all rows are checked by a survey first.
+        source = Producer([bytes(row_of("1.5")), bytes(row_of("2"))], b"Z")
+        prices = Column.from_arrow(source)
+        unchecked = mock.Mock(side_effect=_typed.library.take_decimal[1])
+        with mock.patch.object(_typed.library, "take_decimal", (None, unchecked)):
+            self.assertEqual(prices.extract(["a"])[0].to_list(), [Decimal("1.5"), Decimal("2.0")])
+        self.assertEqual(unchecked.call_count, 1)
+
+    def test_each_type_without_a_check(self):
+        """What documents have is the same by the calls that check rows, which Arrow's need."""
+        members = NUMBERS + OTHERS
+        known, moments = Column.of(map(row_of, members)), column_of_moments("date")[0]
+        sources = [Producer(list(map(bytes, it)), b"Z") for it in (known, moments)]
+        given, given_moments = map(Column.from_arrow, sources)
+        for name in TYPES:
+            for one, other in ((known, given), (moments, given_moments)):
+                for exact in (False, True):
+                    found, = one.extract(["a"], [name], exact=exact)
+                    checked, = other.extract(["a"], [name], exact=exact)
+                    self.assertEqual((found.states, found.values, found.to_list(), found.unfit),
+                                     (checked.states, checked.values, checked.to_list(),
+                                      checked.unfit), name)
 
     def test_what_does_not_fit(self):
         column = Column.of(map(row_of, ["5", '"a"', None, "null", "1.5"]))
@@ -343,9 +441,10 @@ class TypedTest(unittest.TestCase):
         batch = next(column._batches())
         # The same rows, without an end.
         endless = type("Endless", (), {"__len__": lambda self: 100, "_batches": lambda self:
-                                       itertools.repeat(batch), "_bytes_at": column._bytes_at})()
+                                       itertools.repeat(batch), "_bytes_at": column._bytes_at,
+                                       "_are_documents": False})()
         for call in (lambda: _typed.survey_of(endless._batches(), ("a",)),
-                     lambda: _typed.extract(endless, ("a",), "int64", "rest", False)):
+                     lambda: _typed.extract(endless, [(("a",), "int64")], "rest", False)):
             timer = threading.Timer(.1, signal.raise_signal, [signal.SIGINT])
             timer.start()
             with self.assertRaises(KeyboardInterrupt):
@@ -389,10 +488,10 @@ class TypedConsumer(Consumer):
                                  ctypes.string_at(first, 8 * self.length + 8))
             return [ctypes.string_at(texts + start, end - start).decode()
                     for start, end in zip(ends, ends[1:])]
-        if self.format in (b"l", b"L"):
-            form = {b"l": "q", b"L": "Q"}[self.format]
-            return list(struct.unpack(f"={self.length}{form}",
-                                      ctypes.string_at(first, 8 * self.length)))
+        if self.format in (b"l", b"L", b"tdD", b"tsu:"):
+            form = {b"l": "q", b"L": "Q", b"tdD": "i", b"tsu:": "q"}[self.format]
+            layout = struct.Struct(f"={self.length}{form}")
+            return list(layout.unpack(ctypes.string_at(first, layout.size)))
         kind, digits, scale = re.fullmatch(b"(d):([0-9]+),([0-9]+)", self.format).groups()
         assert (kind, digits) == (b"d", b"38")
         data = ctypes.string_at(first, 16 * self.length)
@@ -466,6 +565,18 @@ class InterfaceTest(unittest.TestCase):
                     self.assertEqual(len(read.buffers), {"text": 3, "nothing": 0, "mixed": 0}.get(
                         name, 2))
                     read.release()
+        self.assert_all_released()
+
+    def test_dates_and_timestamps(self):
+        for name, form in (("date", b"tdD"), ("timestamp", b"tsu:")):
+            column, _, values, _ = column_of_moments(name)
+            typed, = column.extract(["a"], [name])
+            read = TypedConsumer(typed)
+            self.assertEqual((read.format, read.null_count), (form, values.count(None)))
+            self.assertEqual(read.values(), [None if it is None else number_of(it)
+                                             for it in values])
+            self.assertEqual(read.buffers[1], typed.values.obj.buffer_info()[0])
+            read.release()
         self.assert_all_released()
 
     def test_columns_without_nulls_need_no_bits(self):
@@ -614,6 +725,26 @@ class NumpyTest(unittest.TestCase):
             self.assertEqual(typed.masked.tolist(), [
                 None if it is None else value for it, value in zip(typed.to_list(), values)])
             self.assertEqual(self.numpy.asarray(typed.states).tolist(), list(typed.states))
+
+    def test_dates_and_timestamps(self):
+        days = [date(1, 1, 1), date(2026, 11, 28), date(9999, 12, 31)]
+        moments = [datetime(1, 1, 1), datetime(2026, 11, 28, 12, 30, 15, 123456), datetime.max]
+        for name, form, values in (("date", "datetime64[D]", days),
+                                   ("timestamp", "datetime64[us]", moments)):
+            column = Column.of(Document.of({"a": it}) for it in (*values, None, 5))
+            typed, = column.extract(["a"], [name])
+            found = typed.numpy
+            first = type(values[0])(1970, 1, 1)
+            self.assertEqual((found.dtype.name, found.tolist()), (form, values + [first] * 2))
+            self.assertEqual(typed.masked.tolist(), values + [None] * 2)
+            self.assertEqual(str(found.max()), values[2].isoformat())
+            at = self.numpy.asarray(typed.values).__array_interface__["data"][0]
+            self.assertEqual(found.__array_interface__["data"][0] == at, name == "timestamp")
+        for name in ("date", "timestamp"):
+            empty, = Column.of([]).extract(["a"], [name])
+            self.assertEqual((empty.numpy.tolist(), empty.masked.tolist()), ([], []))
+        least, = Column.of([Document.of({"a": Timestamp(-2**63)})]).extract(["a"])
+        self.assertTrue(self.numpy.isnat(least.numpy[0]))
 
     def test_what_is_copied(self):
         column = Column.of(map(row_of, [str(2**64), "-1", "null", '"a"', str(-2**127)]))

@@ -253,11 +253,21 @@ get_path = _export("get_path", Place, *_BYTES, *_BYTES, c_size_t)
 _MEMBERS = (c_void_p, c_size_t, c_void_p, c_size_t, *_BYTES, c_size_t)
 _COLUMN = (c_void_p, c_size_t, c_void_p, c_size_t)
 survey = _export("survey", SurveyCounts, *_MEMBERS)
-take_int64 = _export("take_int64", Taken, *_MEMBERS, c_uint32, *_COLUMN)
-take_uint64 = _export("take_uint64", Taken, *_MEMBERS, c_uint32, *_COLUMN)
-take_decimal = _export("take_decimal", Taken, *_MEMBERS, c_uint32, c_uint32, *_COLUMN)
-take_boolean = _export("take_boolean", Taken, *_MEMBERS, *_COLUMN)
-take_text = _export("take_text", Taken, *_MEMBERS, *_OUT, *_COLUMN)
+
+
+def _take(name: str, *parameters: Any) -> Tuple[Callable[..., Any], Callable[..., Any]]:
+    """The call that takes the members of rows, and the one that does not check the rows."""
+    return (_export(name, Taken, *_MEMBERS, *parameters),
+            _export(f"{name}_unchecked", Taken, *_MEMBERS, *parameters))
+
+
+take_int64 = _take("take_int64", c_uint32, *_COLUMN)
+take_uint64 = _take("take_uint64", c_uint32, *_COLUMN)
+take_decimal = _take("take_decimal", c_uint32, c_uint32, *_COLUMN)
+take_boolean = _take("take_boolean", *_COLUMN)
+take_text = _take("take_text", *_OUT, *_COLUMN)
+take_date = _take("take_date", *_COLUMN)
+take_timestamp = _take("take_timestamp", *_COLUMN)
 _begin = _export("begin", c_uint32, *_BYTES, c_void_p)
 _next = _export("next", c_uint32, *_BYTES, c_void_p, c_void_p, c_void_p)
 # The same of a document inside another, by its address.

@@ -1,6 +1,7 @@
 """What ``python -m kohiblad survey`` and ``extract`` write, and how they read their arguments."""
 import argparse
 import os
+from datetime import date
 from decimal import Decimal
 from importlib import import_module
 from typing import IO, Any, Callable, Dict, Iterator, List, Sequence, Tuple, cast
@@ -11,6 +12,7 @@ from ._document import Document
 from ._encode import bytes_of_text
 from ._errors import KohibladError, PathError
 from ._expected import quoted_path
+from ._scalars import Date, Timestamp
 from ._typed import type_of
 from .arrow import Column, Survey, Typed
 
@@ -39,8 +41,8 @@ def add_survey_options(command: argparse.ArgumentParser) -> None:
 def add_extract_options(command: argparse.ArgumentParser) -> None:
     _add_path(command)
     command.add_argument("type", metavar="TYPE", type=_type,
-                         help="boolean, int64, uint64, text, decimal with a scale, as 'decimal 2', "
-                              "or least: the first of these that holds all members")
+                         help="boolean, int64, uint64, text, date, timestamp, decimal with a scale, "
+                              "as 'decimal 2', or least: the first of these that holds all members")
     command.add_argument("--and", dest="others", metavar=("PATH", "TYPE"), nargs=2,
                          action="append", default=[],
                          help="another member, after FILE; may be repeated")
@@ -148,6 +150,10 @@ def _writer(type_: str) -> Callable[[Any], str]:
             return ""
         if isinstance(value, str):
             return _quoted(value)
+        if isinstance(value, date):
+            return value.isoformat()
+        if isinstance(value, (Date, Timestamp)):
+            return str(value[0])
         # A Decimal has no exponent so.
         return format(value, "f") if isinstance(value, Decimal) else str(value)
 

@@ -96,9 +96,9 @@ def extension_of(tag: int, value: int, months: int, days: int, seconds: int,
                  data: bytes) -> Scalar:
     """The extension value with these fields, as the library has them."""
     if tag == _DATE:
-        return _date_of(value)
+        return date_of(value)
     if tag == _TIMESTAMP:
-        return _timestamp_of(value)
+        return timestamp_of(value)
     if tag == _TIMESTAMP_TZ:
         return _timestamp_tz_of(value, seconds)
     if tag == _INTERVAL:
@@ -106,14 +106,16 @@ def extension_of(tag: int, value: int, months: int, days: int, seconds: int,
     return data if tag == _BINARY else Opaque(tag, data)
 
 
-def _date_of(days: int) -> Union[date, Date]:
+def date_of(days: int) -> Union[date, Date]:
+    """The date so many days from 1970-01-01."""
     try:
         return _EPOCH.date() + timedelta(days=days)
     except OverflowError:
         return Date(days)
 
 
-def _timestamp_of(micros: int) -> Union[datetime, Timestamp]:
+def timestamp_of(micros: int) -> Union[datetime, Timestamp]:
+    """The timestamp so many microseconds from 1970-01-01 00:00."""
     try:
         return _EPOCH + timedelta(microseconds=micros)
     except OverflowError:

@@ -7,7 +7,7 @@ import array
 import ctypes
 from importlib import import_module
 from itertools import islice
-from typing import (Any, Callable, Iterable, Iterator, List, NamedTuple, NoReturn, Optional,
+from typing import (Any, Callable, Dict, Iterable, Iterator, List, NamedTuple, NoReturn, Optional,
                     Protocol, Sequence, Tuple, Union, overload)
 
 from . import _capsules as capsules
@@ -16,7 +16,7 @@ from ._changes import Step, document_of_path
 from ._document import Document
 from ._encode import DEPTH
 from ._errors import KohibladError, UnfitError
-from ._scalars import decimal_of, decimals_of
+from ._scalars import date_of, decimal_of, decimals_of, timestamp_of
 
 BATCH = 2048
 
@@ -24,12 +24,15 @@ _MOST_SCALE = 255
 _MOST_SHOWN = 70
 # Of a decimal of Arrow with 128 bits.
 _MOST_DIGITS = 38
-_FORMATS = {"int64": b"l", "uint64": b"L", "boolean": b"b", "text": b"U", "nothing": b"n",
-            "mixed": b"n"}
+_FORMATS = {"int64": b"l", "uint64": b"L", "boolean": b"b", "text": b"U", "date": b"tdD",
+            "timestamp": b"tsu:", "nothing": b"n", "mixed": b"n"}
 _NO_VALUES = ("nothing", "mixed")
-_WITHOUT_SCALE = ("boolean", "int64", "uint64", "text", *_NO_VALUES)
+_WITHOUT_SCALE = ("boolean", "int64", "uint64", "text", "date", "timestamp", *_NO_VALUES)
 # The library takes no values of these.
-_WITHOUT_CALLS = ("date", "timestamp", "timestamp_tz", "interval")
+_WITHOUT_CALLS = ("timestamp_tz", "interval")
+# What makes Python values of the values of these types.
+_MAKERS: Dict[str, Callable[[Any], Any]] = {"boolean": bool, "date": date_of,
+                                            "timestamp": timestamp_of}
 # The states of rows of a type that has no values, where those of another type have some.
 _WITHOUT_VALUES = bytes([library.ROW_ABSENT, library.ROW_UNFIT, library.ROW_NULL,
                          library.ROW_UNFIT, library.ROW_NO_DOCUMENT, *range(5, 256)])
@@ -58,6 +61,8 @@ class Batch(NamedTuple):
 
 class Rows(Protocol):
     """What a column of documents has for the calls here."""
+    # Whether each row that has bytes is known to be a document.
+    _are_documents: bool
 
     def __len__(self) -> int: ...
     def _batches(self) -> Iterator[Batch]: ...
@@ -136,16 +141,18 @@ def possible_types(survey: Survey) -> List[str]:
 class Typed(Sequence[Any]):
     """The member of each row as a value of one type, and None where a row has none.
 
-    It is a sequence of Python values: int, Decimal, bool or str. The buffers behind it can be read
-    without a copy, also by numpy: ``states``, a byte for each row, ``values``, where a row without
-    a value has 0, and of texts ``offsets`` and ``texts``.
+    It is a sequence of Python values: int, Decimal, bool, str, date or datetime, and Date or
+    Timestamp where Python has no such date. Its buffers can be read without a copy, also by numpy:
+    ``states``, a byte for each row, ``values``, where a row without a value has 0, and of texts
+    ``offsets`` and ``texts``.
 
     The state of a row is 0 if it has no such member, 1 if it has a value, 2 if the member is null,
     3 if it is another that does not fit, and 4 if the row is not a document.
     """
     __slots__ = ("type", "scale", "path", "unfit", "states", "values", "offsets", "texts", "_rows",
                  "__weakref__")
-    # As docs/TYPED.md names them: boolean, int64, uint64, decimal 2, text, nothing or mixed.
+    # As docs/TYPED.md names them: boolean, int64, uint64, decimal 2, text, date, timestamp, nothing
+    # or mixed.
     type: str
     # How many digits come after the point.
     scale: int
@@ -153,8 +160,9 @@ class Typed(Sequence[Any]):
     # How many rows have the states 3 and 4, or had them before they were taken as null.
     unfit: int
     states: memoryview
-    # Of the format q or Q, of booleans B; a decimal has two words of the format Q, the low one
-    # first, as Arrow's decimal128. Texts, nothing and mixed have none.
+    # Of the format q or Q, of booleans B; of dates i, the days from 1970-01-01, and of timestamps q,
+    # the microseconds. A decimal has two words of the format Q, the low one first, as Arrow's
+    # decimal128. Texts, nothing and mixed have none.
     values: memoryview
     # Of the format q, one more than there are rows: the text of row k goes from offsets[k] to
     # offsets[k + 1] in the UTF-8 that is `texts`.
@@ -185,7 +193,8 @@ class Typed(Sequence[Any]):
             return str(self.texts[self.offsets[row]:self.offsets[row + 1]], "utf-8")
         if self.type.startswith("decimal"):
             return decimal_of(_int128(*self.values[2 * row:2 * row + 2]), self.scale)
-        return bool(self.values[row]) if self.type == "boolean" else self.values[row]
+        value = self.values[row]
+        return _MAKERS[self.type](value) if self.type in _MAKERS else value
 
     def __iter__(self) -> Iterator[Any]:
         return iter(self.to_list())
@@ -198,8 +207,8 @@ class Typed(Sequence[Any]):
         if self.type == "text":
             values = (str(self.texts[start:end], "utf-8")
                       for start, end in zip(self.offsets, self.offsets[1:]))
-        elif self.type == "boolean":
-            values = map(bool, self.values)
+        elif self.type in _MAKERS:
+            values = map(_MAKERS[self.type], self.values)
         elif self.type.startswith("decimal"):
             values = decimals_of(map(_int128, self.values[::2], self.values[1::2]), self.scale)
         return [value if state == library.ROW_VALUE else None
@@ -224,8 +233,10 @@ class Typed(Sequence[Any]):
         """The values as an array of numpy, where a row without a value has 0.
 
         It has the memory of ``values``, and cannot be written to. Decimals are whole numbers
-        without their point, of 64 bits where all fit, and else Python's in a copy. Texts are a copy
-        too, with None where a row has none. ImportError: there is no numpy.
+        without their point, of 64 bits where all fit, and else Python's in a copy. Timestamps are
+        of the type datetime64[us], to which the least of 64 bits is not a time. Dates are a copy of
+        the type datetime64[D], and texts a copy with None where a row has none. ImportError: there
+        is no numpy.
         """
         np = import_module("numpy")
         if self.type == "text":
@@ -234,6 +245,10 @@ class Typed(Sequence[Any]):
             return texts
         if self.type == "boolean":
             return np.asarray(self.values).view(bool)
+        if self.type == "date":
+            return np.asarray(self.values).astype("datetime64[D]")
+        if self.type == "timestamp":
+            return np.asarray(self.values).view("datetime64[us]")
         if not self.type.startswith("decimal"):
             return np.asarray(self.values)
         words = np.asarray(self.values).view("int64")
@@ -249,7 +264,8 @@ class Typed(Sequence[Any]):
         return np.ma.MaskedArray(self.numpy, np.asarray(self.states) != library.ROW_VALUE)
 
     def __arrow_c_schema__(self) -> Any:
-        """A capsule of the type: integers of 64 bits, Decimal128, Boolean, LargeUtf8 or Null."""
+        """A capsule of the type: integers of 64 bits, Decimal128, Boolean, LargeUtf8, Date32,
+        Timestamp in microseconds without a zone, or Null."""
         if self.type.startswith("decimal"):
             return capsules.schema_capsule(f"d:{_MOST_DIGITS},{self.scale}".encode())
         return capsules.schema_capsule(_FORMATS[self.type])
@@ -337,8 +353,8 @@ def type_of(text: str) -> Tuple[str, int]:
     if name == "decimal" and digits.isdecimal() and digits.isascii() \
             and int(digits) <= _MOST_SCALE:
         return f"decimal {int(digits)}", int(digits)
-    raise ValueError(f"{text!r} is no type: there are boolean, int64, uint64, text, nothing, mixed "
-                     f"and decimal with a scale up to {_MOST_SCALE}, as decimal 2")
+    raise ValueError(f"{text!r} is no type: there are {', '.join(_WITHOUT_SCALE)} and decimal with a "
+                     f"scale up to {_MOST_SCALE}, as decimal 2")
 
 
 def names_of(types: Iterable[Optional[str]]) -> List[Optional[str]]:
@@ -355,8 +371,9 @@ class _Filled:
         self.name, self.scale = type_of(name)
         self.steps, self._path = steps, document_of_path(steps)
         self.states = array.array("B", [0]) * length
-        code, self._words, self._call, self._options = self._layout(
+        code, self._words, self._calls, self._options = self._layout(
             library.EXACT if exact else library.BY_VALUE)
+        self._call = self._calls[0]
         self.values = array.array(code, [0]) * (self._words * length)
         self.offsets, self.texts = array.array("q", [0]), bytearray()
         self.unfit = 0
@@ -364,18 +381,21 @@ class _Filled:
         self._room = ctypes.create_string_buffer(1)
         self._ends = array.array("Q", [0]) * (BATCH + 1)
 
-    def _layout(self, fit: int) -> Tuple[str, int, Callable[..., Any], Tuple[int, ...]]:
-        """The format of the values, how many words each has, the call that takes them, and what it
-        takes of its own."""
+    def _layout(self, fit: int) -> Tuple[str, int, Tuple[Callable[..., Any], ...],
+                                         Tuple[int, ...]]:
+        """The format of the values, how many words each has, the calls that take them, with a check
+        of the rows and without, and what these take of their own."""
         if self.name.startswith("decimal"):
             return "Q", 2, library.take_decimal, (fit, self.scale)
-        if self.name == "int64":
-            return "q", 1, library.take_int64, (fit,)
-        if self.name == "uint64":
-            return "Q", 1, library.take_uint64, (fit,)
-        if self.name == "text":
-            return "Q", 0, library.take_text, ()
-        return "B", int(self.name == "boolean"), library.take_boolean, ()
+        code, words, calls, has_fit = {
+            "int64": ("q", 1, library.take_int64, True),
+            "uint64": ("Q", 1, library.take_uint64, True),
+            "text": ("Q", 0, library.take_text, False),
+            "date": ("i", 1, library.take_date, False),
+            "timestamp": ("q", 1, library.take_timestamp, False),
+            "boolean": ("B", 1, library.take_boolean, False),
+        }.get(self.name, ("B", 0, library.take_boolean, False))
+        return code, words, calls, (fit,) if has_fit else ()
 
     def _members(self, batch: Batch) -> Tuple[Any, ...]:
         return (batch.data, batch.end, batch.offsets, batch.length + 1, self._path, len(self._path),
@@ -420,11 +440,13 @@ class _Filled:
     def _states_of(self, batch: Batch) -> bytes:
         return self.states[batch.first:batch.first + batch.length].tobytes()
 
-    def fill(self, rows: Rows, *, is_trial: bool, refuses: bool = False) -> bool:
+    def fill(self, rows: Rows, *, is_known: bool, is_trial: bool, refuses: bool = False) -> bool:
         """Takes all rows, and returns whether it did: a trial ends at a member that does not fit.
 
-        UnfitError, InvalidDocumentError: what does not fit is refused, and some row does not.
+        Rows that are known to be documents are not checked. UnfitError, InvalidDocumentError: what
+        does not fit is refused, and some row does not.
         """
+        self._call = self._calls[is_known]
         for batch in rows._batches():
             taken = self._take(batch)
             if taken.status != library.OK:
@@ -459,6 +481,10 @@ class _Filled:
         error.row, error.place = row, f"row {row}"
         return error
 
+    def shows_documents(self) -> bool:
+        """Whether the rows were all documents."""
+        return _NO_DOCUMENT not in self.states.tobytes()
+
     def typed(self, rows: Rows, unfit: str) -> Typed:
         it = Typed.__new__(Typed)
         states = self.states
@@ -474,35 +500,52 @@ class _Filled:
 
 def least_type(rows: Rows, steps: Tuple[Step, ...], exact: bool) -> str:
     """The first type that holds all members."""
-    found = _of_least_type(rows, steps, exact)
+    found, _ = _of_least_type(rows, steps, exact, rows._are_documents)
     return found if isinstance(found, str) else found.name
 
 
-def extract(rows: Rows, steps: Tuple[Step, ...], name: Optional[str], unfit: str,
-            exact: bool) -> Typed:
+def extract(rows: Rows, members: Iterable[Tuple[Tuple[Step, ...], Optional[str]]], unfit: str,
+            exact: bool) -> List[Typed]:
+    """For each path the column of a type, or of the least one if none is named."""
+    columns, is_known = [], rows._are_documents
+    for steps, name in members:
+        column = _filled(rows, steps, name, unfit == "error", exact, is_known)
+        # Rows that were checked for one member are not checked again for the next ones.
+        is_known = is_known or column.shows_documents()
+        columns.append(column.typed(rows, unfit))
+    return columns
+
+
+def _filled(rows: Rows, steps: Tuple[Step, ...], name: Optional[str], refuses: bool, exact: bool,
+            is_known: bool) -> _Filled:
     """The column of a type, or of the least one if none is named."""
-    found = _of_least_type(rows, steps, exact) if name is None else name
+    found: Union[str, _Filled, None] = name
+    if found is None:
+        found, is_known = _of_least_type(rows, steps, exact, is_known)
     if isinstance(found, str):
         column = _Filled("mixed" if found in _WITHOUT_CALLS else found, steps, exact, len(rows))
-        column.fill(rows, is_trial=False, refuses=unfit == "error")
-    else:
-        column = found
-        if unfit == "error" and column.unfit:
-            column.refuse_first(rows)
-    return column.typed(rows, unfit)
+        column.fill(rows, is_known=is_known, is_trial=False, refuses=refuses)
+        return column
+    if refuses and found.unfit:
+        found.refuse_first(rows)
+    return found
 
 
-def _of_least_type(rows: Rows, steps: Tuple[Step, ...], exact: bool) -> Union[str, _Filled]:
-    """The column of the least type, or its name if no column of it was tried."""
+def _of_least_type(rows: Rows, steps: Tuple[Step, ...], exact: bool,
+                   is_known: bool) -> Tuple[Union[str, _Filled], bool]:
+    """The column of the least type, or its name if no column of it was tried; and whether the rows
+    are known to be documents by then."""
     # If the first rows have some values of such a type, and it holds all members, it is the least.
     guess = possible_types(survey_of(islice(rows._batches(), 1), steps))[0]
-    if guess in ("boolean", "int64", "text"):
+    if guess in ("boolean", "int64", "text", "date", "timestamp"):
         column = _Filled(guess, steps, exact, len(rows))
-        if column.fill(rows, is_trial=True):
-            return column
-    *tried, last = possible_types(survey_of(rows._batches(), steps))
+        if column.fill(rows, is_known=is_known, is_trial=True):
+            return column, is_known
+    survey = survey_of(rows._batches(), steps)
+    is_known = is_known or not survey.not_documents
+    *tried, last = possible_types(survey)
     for name in tried:
         column = _Filled(name, steps, exact, len(rows))
-        if name != guess and column.fill(rows, is_trial=True):
-            return column
-    return last
+        if name != guess and column.fill(rows, is_known=is_known, is_trial=True):
+            return column, is_known
+    return last, is_known

@@ -65,13 +65,16 @@ class Column(Sequence[Optional[Document]]):
 
     A document is copied, and checked, when it is read: InvalidDocumentError, if it is not one.
     """
-    __slots__ = ("_length", "_offsets", "_data", "_validity", "_first", "_kept", "__weakref__")
+    __slots__ = ("_length", "_offsets", "_data", "_validity", "_first", "_kept", "_are_documents",
+                 "__weakref__")
     _length: int
     _offsets: Any
     _data: int
     _validity: Optional[int]
     _first: int
     _kept: Tuple[Any, ...]
+    # Whether each row that has bytes is known to be a document: those of Arrow are not.
+    _are_documents: bool
 
     def __init__(self) -> None:
         raise TypeError("a column is made by Column.of or Column.from_arrow")
@@ -81,23 +84,28 @@ class Column(Sequence[Optional[Document]]):
         """The column of documents; None is a row that is missing."""
         capsules.release_some()
         data, offsets, validity = bytearray(), array.array("q", [0]), bytearray()
+        are_documents = True
         for row, document in enumerate(documents):
             if row % 8 == 0:
                 validity.append(0)
             if document is not None:
                 validity[-1] |= 1 << row % 8
-                data += bytes(document)
+                stored = bytes(document)
+                # A subclass may hand out other bytes.
+                are_documents = are_documents and stored is getattr(document, "_data", None)
+                data += stored
             offsets.append(len(data))
         has_all = all(validity[row // 8] >> row % 8 & 1 for row in range(len(offsets) - 1))
         # An empty buffer has no address.
         data, validity = data or bytearray(1), validity or bytearray(1)
         at = [(ctypes.c_char * len(it)).from_buffer(it) for it in (data, validity)]
         return cls._new(len(offsets) - 1, offsets.buffer_info()[0], ctypes.addressof(at[0]),
-                        None if has_all else ctypes.addressof(at[1]), 0, (offsets, *at))
+                        None if has_all else ctypes.addressof(at[1]), 0, (offsets, *at),
+                        are_documents)
 
     @classmethod
     def _new(cls, length: int, offsets: int, data: int, validity: Optional[int], first: int,
-             kept: Tuple[Any, ...]) -> "Column":
+             kept: Tuple[Any, ...], are_documents: bool) -> "Column":
         column = cls.__new__(cls)
         column._length = length
         column._offsets = (c_int64 * (first + length + 1)).from_address(offsets)
@@ -105,6 +113,7 @@ class Column(Sequence[Optional[Document]]):
         column._validity = validity
         column._first = first
         column._kept = kept
+        column._are_documents = are_documents
         return column
 
     @classmethod
@@ -134,7 +143,7 @@ class Column(Sequence[Optional[Document]]):
         # An empty array needs no memory, and without data no row has a byte.
         column = cls._new(given.length, offsets, data or offsets,
                           validity if given.null_count else None,
-                          given.offset if given.length else 0, (taken, kept))
+                          given.offset if given.length else 0, (taken, kept), False)
         ctypes.memmove(byref(taken), byref(given), ctypes.sizeof(capsules.Array))
         given.release = capsules.Release(0)
         weakref.finalize(column, _end, taken)
@@ -155,7 +164,8 @@ class Column(Sequence[Optional[Document]]):
             return self._row(rows)
         if rows.step == 1:
             return self._new(len(rows), ctypes.addressof(self._offsets), self._data,
-                             self._validity, self._first + rows.start, (self,))
+                             self._validity, self._first + rows.start, (self,),
+                             self._are_documents)
         return Column.of(map(self._row, rows))
 
     def _row(self, row: int) -> Optional[Document]:
@@ -228,10 +238,13 @@ class Column(Sequence[Optional[Document]]):
         ('text', [None, None, 'k7', None])
 
         A path is one as for ``Document.set``, so a str is a key. A type is boolean, int64, uint64,
-        text, decimal with a scale, as decimal 2, or nothing or mixed, which have no values. Where
-        none is named it is the ``least_type``, and mixed in place of dates, timestamps and
-        intervals, of which there are no columns. A number fits if it equals a value of the type,
-        or, if it is ``exact``, if the value gives its kind and digits back.
+        text, date, timestamp, decimal with a scale, as decimal 2, or nothing or mixed, which have
+        no values. Where none is named it is the ``least_type``, and mixed in place of timestamps
+        with a zone and of intervals, of which there are no columns. A number fits if it equals a
+        value of the type, or, if it is ``exact``, if the value gives its kind and digits back.
+
+        The rows of a column that was made of documents are not checked again, nor are those of
+        Arrow for the second path and the later ones, unless one of them is no document.
 
         What ``unfit`` says is done with members that do not fit, but for null, and with rows that
         are no documents: the ``rest`` keeps them, they count as null, or the first is an error.
@@ -246,7 +259,7 @@ class Column(Sequence[Optional[Document]]):
         names = typed.names_of([None] * len(steps) if types is None else types)
         if len(names) != len(steps):
             raise ValueError(f"there are {len(steps)} paths and {len(names)} types")
-        return [typed.extract(self, it, name, unfit, exact) for it, name in zip(steps, names)]
+        return typed.extract(self, zip(steps, names), unfit, exact)
 
     def _batches(self) -> Iterator[typed.Batch]:
         for first in range(0, self._length, typed.BATCH):
