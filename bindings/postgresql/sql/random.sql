@@ -125,3 +125,18 @@ CREATE TABLE answered AS
 SELECT number, count(*), count(*) FILTER (WHERE of_jsonb IS NOT DISTINCT FROM of_kohiblad
                                             OR is_document AND same_json(of_jsonb, of_kohiblad))
 FROM answered GROUP BY number ORDER BY number;
+-- The same in one query, whose calls keep what they make of a path or a key for the next row.
+SELECT number, count(*) > 50, bool_and(same_json(of_jsonb, CASE number
+        WHEN 7 THEN document - key
+        WHEN 8 THEN document - path
+        WHEN 10 THEN document #- path
+        WHEN 11 THEN kohiblad_set(document, path, other)
+        WHEN 12 THEN kohiblad_set(document, path, other, false)
+        WHEN 13 THEN kohiblad_insert(document, path, other)
+        WHEN 14 THEN kohiblad_insert(document, path, other, true)
+        WHEN 26 THEN document #> path
+    END::text))
+FROM (SELECT number, document::kohiblad, other::kohiblad, path, key, of_jsonb FROM answered
+      WHERE number IN (7, 8, 10, 11, 12, 13, 14, 26) AND of_jsonb !~ '^[0-9A-Z]{5}$'
+      ORDER BY number, path, key OFFSET 0) s
+GROUP BY number ORDER BY number;

@@ -14,10 +14,6 @@ static bool find_member(Bytes document, const text *name, Part *child) {
     return find_key(document, utf8_of_text(name), child);
 }
 
-static bool find_at_path(Bytes document, ArrayType *path, Part *child) {
-    return find_path(document, path_of_array(path), child);
-}
-
 static Datum answer_document(FunctionCallInfo fcinfo, bool is_there, Part part) {
     if (!is_there) PG_RETURN_NULL();
     PG_RETURN_POINTER(document_of_part(part));
@@ -45,8 +41,8 @@ OPERATOR(pg_kohiblad_member, answer_document, find_member, PG_GETARG_TEXT_PP(1))
 OPERATOR(pg_kohiblad_member_text, answer_text, find_member, PG_GETARG_TEXT_PP(1))
 OPERATOR(pg_kohiblad_item, answer_document, find_index, PG_GETARG_INT32(1))
 OPERATOR(pg_kohiblad_item_text, answer_text, find_index, PG_GETARG_INT32(1))
-OPERATOR(pg_kohiblad_path, answer_document, find_at_path, PG_GETARG_ARRAYTYPE_P(1))
-OPERATOR(pg_kohiblad_path_text, answer_text, find_at_path, PG_GETARG_ARRAYTYPE_P(1))
+OPERATOR(pg_kohiblad_path, answer_document, find_path, kept_path(fcinfo))
+OPERATOR(pg_kohiblad_path_text, answer_text, find_path, kept_path(fcinfo))
 
 PG_FUNCTION_INFO_V1(pg_kohiblad_kind);
 Datum pg_kohiblad_kind(PG_FUNCTION_ARGS) {

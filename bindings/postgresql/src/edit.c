@@ -35,22 +35,21 @@ static struct varlena *taken(struct varlena *value, uint32_t status, size_t leng
     return NULL;
 }
 
-struct varlena *edited(Bytes document, const Rows *steps, enum kohiblad_edit_kind kind,
+struct varlena *edited(Bytes document, Bytes steps, int count, enum kohiblad_edit_kind kind,
                        Bytes value) {
-    if (kind != KOHIBLAD_REMOVE) check_depth_below(value, steps->count);
-    struct varlena *path_value = array_of_rows(steps), *result = NULL;
-    Bytes path = bytes_of(path_value);
+    if (kind != KOHIBLAD_REMOVE) check_depth_below(value, count);
+    struct varlena *result = NULL;
     size_t depth = depth_of_size(Max(document.size, value.size)), length;
-    size_t room = Min(document.size + value.size + path.size + EDIT_SLACK, MaxAllocSize - VARHDRSZ);
-    check_stack_for(edit_stack_of_depth(Min(MAX_DEPTH, depth + steps->count)));
+    size_t room =
+        Min(document.size + value.size + steps.size + EDIT_SLACK, MaxAllocSize - VARHDRSZ);
+    check_stack_for(edit_stack_of_depth(Min(MAX_DEPTH, depth + count)));
     while (!result) {
         struct varlena *out = palloc(VARHDRSZ + room);
         uint32_t status =
-            kohiblad_edit(document.at, document.size, path.at, path.size, kind, value.at,
+            kohiblad_edit(document.at, document.size, steps.at, steps.size, kind, value.at,
                           value.size, depth, (uint8_t *)VARDATA(out), room, &length);
         result = taken(out, status, length, &room);
     }
-    pfree(path_value);
     return result;
 }
 
@@ -104,31 +103,28 @@ static bool is_scalar(Bytes document) {
 }
 
 /* The path of an argument, to change a document that is no scalar. */
-static TextPath path_to_change(FunctionCallInfo fcinfo, Bytes document, const char *reason) {
-    TextPath path = path_of_array(PG_GETARG_ARRAYTYPE_P(1));
+static Path *path_to_change(FunctionCallInfo fcinfo, Bytes document, const char *reason) {
+    Path *path = kept_path(fcinfo);
     if (is_scalar(document)) refuse_edit(reason);
     return path;
 }
 
-/* Ends the steps of a path by what its last element names, or another index in its place. */
-static const Rows *all_steps(PathEnd *end, int64 index) {
-    if (end->is_array)
-        add_int64(end->steps, index);
-    else
-        add_text(end->steps, end->key);
-    return end->steps;
+/* The document edited at the end that a path was followed to, where an array has this index. */
+static struct varlena *edited_at(Bytes document, Path *path, const PathEnd *end, int64 index,
+                                 enum kohiblad_edit_kind kind, Bytes value) {
+    return edited(document, steps_through(path, end, index), path->count, kind, value);
 }
 
 static Datum set_at_path(FunctionCallInfo fcinfo, Bytes value) {
     struct varlena *given = PG_GETARG_VARLENA_PP(0);
     Bytes document = bytes_of(given);
-    TextPath path = path_to_change(fcinfo, document, "cannot set path in scalar");
+    Path *path = path_to_change(fcinfo, document, "cannot set path in scalar");
     bool may_add = PG_GETARG_BOOL(3);
     PathEnd end;
-    if (path.count == 0 || (kind_of(document).count == 0 && !may_add)) PG_RETURN_POINTER(given);
+    if (path->count == 0 || (kind_of(document).count == 0 && !may_add)) PG_RETURN_POINTER(given);
     if (!follow_path(document, path, &end)) PG_RETURN_POINTER(given);
-    if (end.level < path.count - 1 || !(may_add || is_end_there(&end))) PG_RETURN_POINTER(given);
-    PG_RETURN_POINTER(edited(document, all_steps(&end, end.index), KOHIBLAD_PUT, value));
+    if (end.level < path->count - 1 || !(may_add || is_end_there(&end))) PG_RETURN_POINTER(given);
+    PG_RETURN_POINTER(edited_at(document, path, &end, end.index, KOHIBLAD_PUT, value));
 }
 
 PG_FUNCTION_INFO_V1(pg_kohiblad_set);
@@ -140,12 +136,12 @@ PG_FUNCTION_INFO_V1(pg_kohiblad_delete_path);
 Datum pg_kohiblad_delete_path(PG_FUNCTION_ARGS) {
     struct varlena *given = PG_GETARG_VARLENA_PP(0);
     Bytes document = bytes_of(given);
-    TextPath path = path_to_change(fcinfo, document, "cannot delete path in scalar");
+    Path *path = path_to_change(fcinfo, document, "cannot delete path in scalar");
     PathEnd end;
-    if (path.count == 0 || kind_of(document).count == 0) PG_RETURN_POINTER(given);
+    if (path->count == 0 || kind_of(document).count == 0) PG_RETURN_POINTER(given);
     if (!follow_path(document, path, &end)) PG_RETURN_POINTER(given);
-    if (end.level < path.count - 1 || !is_end_there(&end)) PG_RETURN_POINTER(given);
-    PG_RETURN_POINTER(edited(document, all_steps(&end, end.index), KOHIBLAD_REMOVE, (Bytes){0}));
+    if (end.level < path->count - 1 || !is_end_there(&end)) PG_RETURN_POINTER(given);
+    PG_RETURN_POINTER(edited_at(document, path, &end, end.index, KOHIBLAD_REMOVE, (Bytes){0}));
 }
 
 #define TREATMENTS "\"delete_key\", \"return_target\", \"use_json_null\", or \"raise_exception\""
@@ -186,22 +182,23 @@ PG_FUNCTION_INFO_V1(pg_kohiblad_insert);
 Datum pg_kohiblad_insert(PG_FUNCTION_ARGS) {
     struct varlena *given = PG_GETARG_VARLENA_PP(0);
     Bytes document = bytes_of(given), value = bytes_of(PG_GETARG_VARLENA_PP(2));
-    TextPath path = path_to_change(fcinfo, document, "cannot set path in scalar");
+    Path *path = path_to_change(fcinfo, document, "cannot set path in scalar");
     PathEnd end;
-    if (path.count == 0 || !follow_path(document, path, &end)) PG_RETURN_POINTER(given);
-    if (end.level < path.count - 1) PG_RETURN_POINTER(given);
+    if (path->count == 0 || !follow_path(document, path, &end)) PG_RETURN_POINTER(given);
+    if (end.level < path->count - 1) PG_RETURN_POINTER(given);
     if (!end.is_array && is_end_there(&end))
         ereport(ERROR, (errcode(ERRCODE_INVALID_PARAMETER_VALUE),
                         errmsg("kohiblad: cannot replace existing key"),
                         errhint("kohiblad_set replaces the value of a key.")));
-    const Rows *steps = all_steps(&end, place_of_item(&end, PG_GETARG_BOOL(3)));
-    PG_RETURN_POINTER(edited(document, steps, KOHIBLAD_INSERT, value));
+    int64 index = place_of_item(&end, PG_GETARG_BOOL(3));
+    PG_RETURN_POINTER(edited_at(document, path, &end, index, KOHIBLAD_INSERT, value));
 }
 
-/* Names that go. */
+/* Names that go, in order, and their array as the library takes it, NULL until it is needed. */
 typedef struct Names {
     Bytes *at;
     size_t count;
+    struct varlena *listed;
 } Names;
 
 static int compare_names(const void *left, const void *right) {
@@ -211,9 +208,8 @@ static int compare_names(const void *left, const void *right) {
     return order ? order : (l->size > r->size) - (l->size < r->size);
 }
 
-/* Whether a name is among names in order. */
-static bool is_among(Names names, Bytes name) {
-    return names.count && bsearch(&name, names.at, names.count, sizeof name, compare_names);
+static bool is_among(const Names *names, Bytes name) {
+    return names->count && bsearch(&name, names->at, names->count, sizeof name, compare_names);
 }
 
 static uint32_t pick_others(const uint8_t *bytes, size_t size, const uint8_t *names,
@@ -222,22 +218,30 @@ static uint32_t pick_others(const uint8_t *bytes, size_t size, const uint8_t *na
     return kohiblad_pick(bytes, size, names, names_size, KOHIBLAD_OTHERS, depth, out, room, length);
 }
 
-/* An object without the members that are named, or as it was if there are none. */
-static struct varlena *without_members(struct varlena *given, Names names) {
-    Bytes document = bytes_of(given);
+/* The names' array, which is kept as they are. */
+static Bytes listed_names(Names *names) {
+    if (names->listed) return bytes_of(names->listed);
     Rows *rows = new_rows();
-    for (size_t i = 0; i < names.count; i++) {
+    for (size_t i = 0; i < names->count; i++) {
         CHECK_FOR_INTERRUPTS();
-        add_text(rows, names.at[i]);
+        add_text(rows, names->at[i]);
     }
-    struct varlena *listed = array_of_rows(rows);
-    struct varlena *result = made_of_two(pick_others, document, bytes_of(listed));
-    pfree(listed);
+    MemoryContext caller = MemoryContextSwitchTo(GetMemoryChunkContext(names));
+    names->listed = array_of_rows(rows);
+    MemoryContextSwitchTo(caller);
+    free_rows(rows);
+    return bytes_of(names->listed);
+}
+
+/* An object without the members that are named, or as it was if there are none. */
+static struct varlena *without_members(struct varlena *given, Names *names) {
+    Bytes document = bytes_of(given);
+    struct varlena *result = made_of_two(pick_others, document, listed_names(names));
     return kind_of(bytes_of(result)).count == kind_of(document).count ? given : result;
 }
 
 /* Gathers the items that stay; whether a text among them goes. */
-static bool gather_others(Bytes document, Names names, Rows *rows) {
+static bool gather_others(Bytes document, const Names *names, Rows *rows) {
     struct kohiblad_cursor cursor;
     struct kohiblad_place key, place;
     bool any_goes = false;
@@ -256,32 +260,47 @@ static bool gather_others(Bytes document, Names names, Rows *rows) {
     return any_goes;
 }
 
-static Datum without(struct varlena *given, Names names) {
+static Datum without(struct varlena *given, Names *names) {
     Bytes document = bytes_of(given);
     if (is_scalar(document)) refuse_edit("cannot delete from scalar");
     if (kind_of(document).kind == KOHIBLAD_OBJECT) PG_RETURN_POINTER(without_members(given, names));
-    if (names.count) qsort(names.at, names.count, sizeof *names.at, compare_names);
     Rows *rows = new_rows();
     if (!gather_others(document, names, rows)) PG_RETURN_POINTER(given);
     PG_RETURN_POINTER(array_of_rows(rows));
 }
 
+static Names *new_names(int most) {
+    Names *names = palloc0(sizeof *names);
+    names->at = palloc(Max(most, 1) * sizeof *names->at);
+    return names;
+}
+
+static void *make_name(struct varlena *name) {
+    Names *names = new_names(1);
+    names->at[names->count++] = utf8_of_text((text *)name);
+    return names;
+}
+
+static void *make_names(struct varlena *array) {
+    TextPath given = path_of_array(DatumGetArrayTypeP(PointerGetDatum(array)));
+    Names *names = new_names(given.count);
+    for (int i = 0; i < given.count; i++) {
+        CHECK_FOR_INTERRUPTS();
+        if (!given.nulls[i])
+            names->at[names->count++] = utf8_of_text(DatumGetTextPP(given.elements[i]));
+    }
+    if (names->count) qsort(names->at, names->count, sizeof *names->at, compare_names);
+    return names;
+}
+
 PG_FUNCTION_INFO_V1(pg_kohiblad_delete);
 Datum pg_kohiblad_delete(PG_FUNCTION_ARGS) {
-    Bytes name = utf8_of_text(PG_GETARG_TEXT_PP(1));
-    return without(PG_GETARG_VARLENA_PP(0), (Names){&name, 1});
+    return without(PG_GETARG_VARLENA_PP(0), made_of_argument(fcinfo, 1, make_name));
 }
 
 PG_FUNCTION_INFO_V1(pg_kohiblad_delete_array);
 Datum pg_kohiblad_delete_array(PG_FUNCTION_ARGS) {
-    TextPath given = path_of_array(PG_GETARG_ARRAYTYPE_P(1));
-    Names names = {palloc(Max(given.count, 1) * sizeof(Bytes)), 0};
-    for (int i = 0; i < given.count; i++) {
-        CHECK_FOR_INTERRUPTS();
-        if (!given.nulls[i])
-            names.at[names.count++] = utf8_of_text(DatumGetTextPP(given.elements[i]));
-    }
-    return without(PG_GETARG_VARLENA_PP(0), names);
+    return without(PG_GETARG_VARLENA_PP(0), made_of_argument(fcinfo, 1, make_names));
 }
 
 PG_FUNCTION_INFO_V1(pg_kohiblad_delete_index);
@@ -295,7 +314,8 @@ Datum pg_kohiblad_delete_index(PG_FUNCTION_ARGS) {
     if (!has_index(kind_of(document).count, index)) PG_RETURN_POINTER(given);
     Rows *steps = new_rows();
     add_int64(steps, index);
-    PG_RETURN_POINTER(edited(document, steps, KOHIBLAD_REMOVE, (Bytes){0}));
+    Bytes path = bytes_of(array_of_rows(steps));
+    PG_RETURN_POINTER(edited(document, path, 1, KOHIBLAD_REMOVE, (Bytes){0}));
 }
 
 PG_FUNCTION_INFO_V1(pg_kohiblad_strip_nulls);

@@ -6,8 +6,9 @@
 
 #pragma GCC visibility push(hidden)
 
-/* A document that is edited after these steps; a removal has no value. */
-extern struct varlena *edited(Bytes document, const Rows *steps, enum kohiblad_edit_kind kind,
+/* A document that is edited at the end of so many steps, which the library takes as a document; a
+ * removal has no value. */
+extern struct varlena *edited(Bytes document, Bytes steps, int count, enum kohiblad_edit_kind kind,
                               Bytes value);
 
 /* Two documents put together. */

@@ -19,10 +19,6 @@ TextPath path_of_array(ArrayType *array) {
     return elements_of_array(array);
 }
 
-static bool is_null(TextPath path, int level) {
-    return path.nulls && path.nulls[level];
-}
-
 static bool index_of_bytes(Bytes element, int *index) {
     char *digits = pnstrdup((const char *)element.at, element.size), *end;
     errno = 0;
@@ -32,8 +28,32 @@ static bool index_of_bytes(Bytes element, int *index) {
     return is_index;
 }
 
-bool index_of_text(const text *element, int *index) {
-    return index_of_bytes(bytes_of(element), index);
+static Element read_element(TextPath texts, int i) {
+    Element element = {0};
+    if (texts.nulls && texts.nulls[i]) return element;
+    element.given = DatumGetTextPP(texts.elements[i]);
+    element.is_index = index_of_bytes(bytes_of(element.given), &element.index);
+    return element;
+}
+
+Path *path_of_texts(TextPath texts) {
+    Path *path = palloc0(sizeof *path);
+    size_t places = Max(texts.count, 1);
+    path->elements = palloc(places * sizeof *path->elements);
+    path->are_indexes = palloc0(places * sizeof *path->are_indexes);
+    for (; path->count < texts.count; path->count++) {
+        CHECK_FOR_INTERRUPTS();
+        path->elements[path->count] = read_element(texts, path->count);
+    }
+    return path;
+}
+
+static void *make_path(struct varlena *array) {
+    return path_of_texts(path_of_array(DatumGetArrayTypeP(PointerGetDatum(array))));
+}
+
+Path *kept_path(FunctionCallInfo fcinfo) {
+    return made_of_argument(fcinfo, 1, make_path);
 }
 
 static bool is_found(struct kohiblad_place place, Bytes document, Part *child) {
@@ -48,12 +68,16 @@ bool find_key(Bytes document, Bytes key, Part *child) {
                     child);
 }
 
+/* Finds an item of an array of so many. */
+static bool find_item(Bytes array, int64 count, int64 index, Part *child) {
+    if (index < 0) index += count;
+    if (index < 0) return false;
+    return is_found(kohiblad_find_index(array.at, array.size, index), array, child);
+}
+
 bool find_index(Bytes document, int64 index, Part *child) {
     struct kohiblad_value_kind kind = kind_of(document);
-    if (kind.kind != KOHIBLAD_ARRAY) return false;
-    if (index < 0) index += kind.count;
-    if (index < 0) return false;
-    return is_found(kohiblad_find_index(document.at, document.size, index), document, child);
+    return kind.kind == KOHIBLAD_ARRAY && find_item(document, kind.count, index, child);
 }
 
 bool find_step(Bytes container, Bytes element, Part *child) {
@@ -62,41 +86,53 @@ bool find_step(Bytes container, Bytes element, Part *child) {
     return index_of_bytes(element, &index) && find_index(container, index, child);
 }
 
-bool find_path(Bytes document, TextPath path, Part *child) {
+static bool find_element(Bytes container, const Element *element, Part *child) {
+    struct kohiblad_value_kind kind = kind_of(container);
+    if (kind.kind != KOHIBLAD_ARRAY)
+        return find_key(container, utf8_of_text(element->given), child);
+    return element->is_index && find_item(container, kind.count, element->index, child);
+}
+
+bool find_path(Bytes document, const Path *path, Part *child) {
     *child = part_of_document(document);
-    for (int i = 0; i < path.count; i++) {
+    for (int i = 0; i < path->count; i++) {
         CHECK_FOR_INTERRUPTS();
-        if (is_null(path, i) || !is_container(*child)) return false;
-        Bytes element = utf8_of_text(DatumGetTextPP(path.elements[i]));
-        if (!find_step(child->payload, element, child)) return false;
+        const Element *element = &path->elements[i];
+        if (!element->given || !is_container(*child)) return false;
+        if (!find_element(child->payload, element, child)) return false;
     }
     return true;
 }
 
-static int needed_index(const text *element, int level) {
-    int index;
-    if (!index_of_text(element, &index))
-        ereport(ERROR, (errcode(ERRCODE_INVALID_TEXT_REPRESENTATION),
-                        errmsg("kohiblad: path element at position %d is not an integer: \"%s\"",
-                               level + 1, text_to_cstring(element))));
-    return index;
+static void pg_attribute_noreturn() refuse_element(const Element *element, int level) {
+    if (!element->given)
+        ereport(ERROR, (errcode(ERRCODE_NULL_VALUE_NOT_ALLOWED),
+                        errmsg("kohiblad: path element at position %d is null", level + 1)));
+    ereport(ERROR, (errcode(ERRCODE_INVALID_TEXT_REPRESENTATION),
+                    errmsg("kohiblad: path element at position %d is not an integer: \"%s\"",
+                           level + 1, text_to_cstring(element->given))));
 }
 
 /* Takes the element at the end for what it is in its container, a key or an index. */
-static void take_element(TextPath path, PathEnd *end) {
-    const text *element = DatumGetTextPP(path.elements[end->level]);
+static void take_element(Path *path, PathEnd *end) {
+    const Element *element = &path->elements[end->level];
     struct kohiblad_value_kind kind = kind_of(end->container.payload);
     end->is_array = kind.kind == KOHIBLAD_ARRAY;
     end->count = kind.count;
-    if (end->is_array)
-        end->index = needed_index(element, end->level);
+    if (!end->is_array)
+        end->key = utf8_of_text(element->given);
+    else if (!element->is_index)
+        refuse_element(element, end->level);
     else
-        end->key = utf8_of_text(element);
+        end->index = element->index;
+    if (path->are_indexes[end->level] == end->is_array) return;
+    path->are_indexes[end->level] = end->is_array;
+    path->made = 0;
 }
 
 static bool find_end(const PathEnd *end, Part *child) {
     Bytes container = end->container.payload;
-    return end->is_array ? find_index(container, end->index, child)
+    return end->is_array ? find_item(container, end->count, end->index, child)
                          : find_key(container, end->key, child);
 }
 
@@ -110,28 +146,60 @@ bool is_end_there(const PathEnd *end) {
                          : find_key(end->container.payload, end->key, &child);
 }
 
-static void add_step(PathEnd *end) {
-    if (end->is_array)
-        add_int64(end->steps, end->index);
-    else
-        add_text(end->steps, end->key);
-}
-
-bool follow_path(Bytes document, TextPath path, PathEnd *end) {
-    *end = (PathEnd){.container = part_of_document(document), .steps = new_rows()};
+bool follow_path(Bytes document, Path *path, PathEnd *end) {
+    *end = (PathEnd){.container = part_of_document(document)};
     for (;; end->level++) {
         CHECK_FOR_INTERRUPTS();
-        if (is_null(path, end->level))
-            ereport(ERROR, (errcode(ERRCODE_NULL_VALUE_NOT_ALLOWED),
-                            errmsg("kohiblad: path element at position %d is null",
-                                   end->level + 1)));
+        if (!path->elements[end->level].given)
+            refuse_element(&path->elements[end->level], end->level);
         if (!is_container(end->container)) return false;
         take_element(path, end);
         Part child;
-        if (end->level == path.count - 1 || !find_end(end, &child)) return true;
-        add_step(end);
+        if (end->level == path->count - 1 || !find_end(end, &child)) return true;
         end->container = child;
     }
+}
+
+/* The rows of the first elements, the last of which is this index if it is one. */
+static Rows *rows_of_steps(const Path *path, int count, int64 last_index) {
+    Rows *rows = new_rows();
+    for (int i = 0; i < count; i++) {
+        CHECK_FOR_INTERRUPTS();
+        const Element *element = &path->elements[i];
+        if (path->are_indexes[i])
+            add_int64(rows, i < count - 1 ? element->index : last_index);
+        else
+            add_text(rows, utf8_of_text(element->given));
+    }
+    return rows;
+}
+
+static void make_steps(Path *path, int count, int64 last_index) {
+    if (path->steps) pfree(path->steps);
+    path->steps = NULL;
+    path->made = 0;
+    Rows *rows = rows_of_steps(path, count, last_index);
+    MemoryContext caller = MemoryContextSwitchTo(GetMemoryChunkContext(path));
+    path->steps = array_of_rows(rows);
+    MemoryContextSwitchTo(caller);
+    free_rows(rows);
+    path->made = count;
+    path->last_index = last_index;
+}
+
+static Bytes first_steps(Path *path, int count, int64 last_index) {
+    if (path->made != count || path->last_index != last_index)
+        make_steps(path, count, last_index);
+    return bytes_of(path->steps);
+}
+
+Bytes steps_before(Path *path, const PathEnd *end) {
+    bool is_index = path->are_indexes[end->level - 1];
+    return first_steps(path, end->level, is_index ? path->elements[end->level - 1].index : 0);
+}
+
+Bytes steps_through(Path *path, const PathEnd *end, int64 index) {
+    return first_steps(path, end->level + 1, end->is_array ? index : 0);
 }
 
 void refuse_path(void) {

@@ -3,6 +3,7 @@
 #ifndef PG_KOHIBLAD_PATHS_H
 #define PG_KOHIBLAD_PATHS_H
 
+#include "kept.h"
 #include "rows.h"
 
 #include "utils/array.h"
@@ -13,11 +14,28 @@ typedef struct TextPath {
     int count;
 } TextPath;
 
+/* An element of a path: a key in an object, and in an array an index, if it is one. */
+typedef struct Element {
+    const text *given; /* NULL if it is null */
+    bool is_index;
+    int index;
+} Element;
+
+/* A path whose elements are read; and the document of its first `made` elements, as the library
+ * takes them, which is taken again as long as they lead through containers of the same kinds. */
+typedef struct Path {
+    Element *elements;
+    int count;
+    bool *are_indexes; /* whether an array was there, where each element was last looked up */
+    struct varlena *steps;
+    int made;         /* 0 if there is no such document */
+    int64 last_index; /* of the last of these elements, 0 if it is a key */
+} Path;
+
 /* Where a path ends in a document, or stops to lead on. */
 typedef struct PathEnd {
     Part container; /* the value that the next element is looked up in */
     int level;      /* the number of elements before that one */
-    Rows *steps;    /* these elements as the library takes them, texts and whole numbers */
     int64 index;    /* the next element in an array of `count` items; from its end below 0 */
     int64 count;
     Bytes key;      /* the next element in an object */
@@ -30,8 +48,10 @@ typedef struct PathEnd {
 extern TextPath elements_of_array(ArrayType *array);
 extern TextPath path_of_array(ArrayType *array);
 
-/* Whether a text is an index, and which. */
-extern bool index_of_text(const text *element, int *index);
+/* The path of texts, and that of the second argument, which has one dimension: it is kept from call
+ * to call. */
+extern Path *path_of_texts(TextPath texts);
+extern Path *kept_path(FunctionCallInfo fcinfo);
 
 /* Finds a member of an object, or an item of an array; a negative index counts from the end. */
 extern bool find_key(Bytes document, Bytes key, Part *child);
@@ -41,12 +61,17 @@ extern bool find_index(Bytes document, int64 index, Part *child);
 extern bool find_step(Bytes container, Bytes element, Part *child);
 
 /* Finds what a path leads to. */
-extern bool find_path(Bytes document, TextPath path, Part *child);
+extern bool find_path(Bytes document, const Path *path, Part *child);
 
 /* Follows a path, which has an element, as far as it leads but for its last element, which is not
  * looked up. False if it leads to a scalar before its end. Refuses a null element, and for an array
  * one that is no index. */
-extern bool follow_path(Bytes document, TextPath path, PathEnd *end);
+extern bool follow_path(Bytes document, Path *path, PathEnd *end);
+
+/* The document of the elements that a path was followed by to an end, and of these and the next
+ * one, which in an array is this index. It is the path's own. */
+extern Bytes steps_before(Path *path, const PathEnd *end);
+extern Bytes steps_through(Path *path, const PathEnd *end, int64 index);
 
 /* Whether an array of so many items has one at an index; a negative one counts from the end. */
 extern bool has_index(int64 count, int64 index);

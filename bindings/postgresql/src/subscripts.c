@@ -89,13 +89,13 @@ static bool take_subscripts(ExprState *state pg_attribute_unused(), ExprEvalStep
     return true;
 }
 
-static TextPath path_of(const SubscriptingRefState *reference) {
+static Path *path_of(const SubscriptingRefState *reference) {
     const Subscripts *subscripts = reference->workspace;
-    return (TextPath){subscripts->elements, NULL, reference->numupper};
+    return path_of_texts((TextPath){subscripts->elements, NULL, reference->numupper});
 }
 
 /* The value at the subscripts, or null. */
-static Datum value_at(Datum given, TextPath path, bool *is_null) {
+static Datum value_at(Datum given, const Path *path, bool *is_null) {
     Part child;
     Bytes document = bytes_of(PG_DETOAST_DATUM_PACKED(given));
     *is_null = !find_path(document, path, &child);
@@ -128,12 +128,11 @@ static size_t gap_before(int64 index, int64 count) {
 
 /* Refuses gaps that do not fit a value beside so many bytes, before anything is made: the one at
  * the end of a path in the document, and those in the containers that the rest of it names. */
-static void check_gaps(TextPath path, const PathEnd *end, size_t bytes) {
+static void check_gaps(const Path *path, const PathEnd *end, size_t bytes) {
     if (end->is_array) bytes += gap_before(end->index, end->count);
-    for (int i = end->level + 1; i < path.count; i++) {
+    for (int i = end->level + 1; i < path->count; i++) {
         CHECK_FOR_INTERRUPTS();
-        int index;
-        if (index_of_text(DatumGetTextPP(path.elements[i]), &index)) bytes += gap_before(index, 0);
+        if (path->elements[i].is_index) bytes += gap_before(path->elements[i].index, 0);
     }
     check_room(bytes);
 }
@@ -174,14 +173,13 @@ static struct varlena *object_of_member(Bytes key, Bytes value) {
 }
 
 /* A value in the containers that these elements of a path name, from the last one to the first. */
-static Bytes wrapped(TextPath path, int first, Bytes value) {
+static Bytes wrapped(const Path *path, int first, Bytes value) {
     struct varlena *inner = NULL, *outer;
-    for (int i = path.count - 1; i >= first; i--, inner = outer) {
+    for (int i = path->count - 1; i >= first; i--, inner = outer) {
         CHECK_FOR_INTERRUPTS();
-        const text *element = DatumGetTextPP(path.elements[i]);
-        int index;
-        outer = index_of_text(element, &index) ? array_with_gap(index, value)
-                                               : object_of_member(utf8_of_text(element), value);
+        const Element *element = &path->elements[i];
+        outer = element->is_index ? array_with_gap(element->index, value)
+                                  : object_of_member(utf8_of_text(element->given), value);
         value = bytes_of(outer);
         if (inner) pfree(inner);
     }
@@ -195,16 +193,16 @@ static void pg_attribute_noreturn() refuse_scalar(void) {
 }
 
 /* The document with a value after the items of the array at the end, behind nulls for a gap. */
-static struct varlena *with_item(Bytes document, const PathEnd *end, Bytes value) {
+static struct varlena *with_item(Bytes document, Path *path, const PathEnd *end, Bytes value) {
     struct varlena *more = array_with_gap(end->index - end->count, value);
     struct varlena *array = joined(end->container.payload, bytes_of(more));
     pfree(more);
     if (end->level == 0) return array;
-    return edited(document, end->steps, KOHIBLAD_PUT, bytes_of(array));
+    return edited(document, steps_before(path, end), end->level, KOHIBLAD_PUT, bytes_of(array));
 }
 
 /* The document with a value at the subscripts, in containers that are made where there is none. */
-static struct varlena *with_value(Bytes document, TextPath path, Bytes value) {
+static struct varlena *with_value(Bytes document, Path *path, Bytes value) {
     PathEnd end;
     if (!follow_path(document, path, &end)) refuse_scalar();
     if (end.is_array && end.index < -end.count)
@@ -213,12 +211,9 @@ static struct varlena *with_value(Bytes document, TextPath path, Bytes value) {
                                end.level + 1, (int)end.index)));
     check_gaps(path, &end, document.size + value.size);
     value = wrapped(path, end.level + 1, value);
-    if (end.is_array && end.index >= end.count) return with_item(document, &end, value);
-    if (end.is_array)
-        add_int64(end.steps, end.index);
-    else
-        add_text(end.steps, end.key);
-    return edited(document, end.steps, KOHIBLAD_PUT, value);
+    if (end.is_array && end.index >= end.count) return with_item(document, path, &end, value);
+    Bytes steps = steps_through(path, &end, end.index);
+    return edited(document, steps, end.level + 1, KOHIBLAD_PUT, value);
 }
 
 /* An empty array or object, for a column that is null. */
