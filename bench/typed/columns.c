@@ -108,28 +108,47 @@ static int64_t checked(void) {
     return bad;
 }
 
-static int64_t taken(void) {
+typedef struct kohiblad_taken TakeInt64(const uint8_t *, size_t, const size_t *, size_t,
+                                        const uint8_t *, size_t, size_t, uint32_t, int64_t *,
+                                        size_t, uint8_t *, size_t);
+typedef struct kohiblad_taken TakeDecimal(const uint8_t *, size_t, const size_t *, size_t,
+                                          const uint8_t *, size_t, size_t, uint32_t, uint32_t,
+                                          struct kohiblad_int128 *, size_t, uint8_t *, size_t);
+
+static int64_t sum_by(TakeInt64 *take) {
     int64_t sum = 0;
     for (size_t first = 0; first < count; first += BATCH) {
         size_t many = count - first < BATCH ? count - first : BATCH;
-        struct kohiblad_taken answer = kohiblad_take_int64(rows, offsets[count], offsets + first,
-            many + 1, path, path_size, DEPTH, KOHIBLAD_BY_VALUE, values, BATCH, states, BATCH);
-        assert(answer.status == KOHIBLAD_OK);
+        struct kohiblad_taken answer = take(rows, offsets[count], offsets + first, many + 1, path,
+                                            path_size, DEPTH, KOHIBLAD_BY_VALUE, values, BATCH,
+                                            states, BATCH);
+        assert(answer.status == KOHIBLAD_OK && answer.unfit == 0);
         for (size_t i = 0; i < many; i++) sum += values[i];
     }
     return sum;
 }
 
-static int64_t taken_decimals(void) {
+static int64_t taken(void) { return sum_by(kohiblad_take_int64); }
+
+static int64_t taken_unchecked(void) { return sum_by(kohiblad_take_int64_unchecked); }
+
+static int64_t sum_of_decimals_by(TakeDecimal *take) {
     int64_t sum = 0;
     for (size_t first = 0; first < count; first += BATCH) {
         size_t many = count - first < BATCH ? count - first : BATCH;
-        struct kohiblad_taken answer = kohiblad_take_decimal(rows, offsets[count], offsets + first,
-            many + 1, path, path_size, DEPTH, KOHIBLAD_BY_VALUE, 2, decimals, BATCH, states, BATCH);
+        struct kohiblad_taken answer = take(rows, offsets[count], offsets + first, many + 1, path,
+                                            path_size, DEPTH, KOHIBLAD_BY_VALUE, 2, decimals, BATCH,
+                                            states, BATCH);
         assert(answer.status == KOHIBLAD_OK && answer.unfit == 0);
         for (size_t i = 0; i < many; i++) sum += (int64_t)decimals[i].low;
     }
     return sum;
+}
+
+static int64_t taken_decimals(void) { return sum_of_decimals_by(kohiblad_take_decimal); }
+
+static int64_t taken_decimals_unchecked(void) {
+    return sum_of_decimals_by(kohiblad_take_decimal_unchecked);
 }
 
 static int64_t surveyed(void) {
@@ -155,17 +174,37 @@ static int64_t timed(const char *what, int64_t (*way)(void)) {
     return sum;
 }
 
-static void ask(const char *member) {
+static void set_member(const char *member) {
     char text[16];
     name = member;
     snprintf(text, sizeof text, "$.%s", member);
     assert(!kohiblad_path_of_text((const uint8_t *)text, strlen(text), path, sizeof path,
                                   &path_size));
-    printf("%s\n", text);
 }
 
+static void ask(const char *member) {
+    set_member(member);
+    printf("$.%s\n", member);
+}
+
+static const char *const members[] = { "at", "qty", "tax" };
+
+static int64_t three(int64_t (*first)(void), int64_t (*later)(void)) {
+    int64_t sum = 0;
+    for (int i = 0; i < 3; i++) {
+        set_member(members[i]);
+        sum += (i ? later : first)();
+    }
+    return sum;
+}
+
+static int64_t three_trusting(void) { return three(trusting, trusting); }
+
+static int64_t three_checked_once(void) { return three(taken, taken_unchecked); }
+
+static int64_t three_unchecked(void) { return three(taken_unchecked, taken_unchecked); }
+
 int main(int many, char **words) {
-    static const char *const members[] = { "at", "qty", "tax" };
     count = many > 1 ? strtoul(words[1], NULL, 10) : 1000000;
     make_rows();
     timed("a word of each cache line", read_all);
@@ -175,9 +214,15 @@ int main(int many, char **words) {
         int64_t sum = timed("a loop in C that trusts the rows", trusting);
         assert(timed("kohiblad_get_key and _as_int64 of each row", one_by_one) == sum);
         assert(timed("kohiblad_take_int64, 2,048 rows at a time", taken) == sum);
+        assert(timed("kohiblad_take_int64_unchecked", taken_unchecked) == sum);
     }
+    printf("the three members\n");
+    int64_t total = timed("a loop in C that trusts the rows", three_trusting);
+    assert(timed("_take_int64, then twice _unchecked", three_checked_once) == total);
+    assert(timed("_take_int64_unchecked", three_unchecked) == total);
     ask("price");
-    timed("kohiblad_take_decimal, scale 2", taken_decimals);
+    int64_t prices = timed("kohiblad_take_decimal, scale 2", taken_decimals);
+    assert(timed("kohiblad_take_decimal_unchecked", taken_decimals_unchecked) == prices);
     timed("kohiblad_survey", surveyed);
     return 0;
 }

@@ -44,14 +44,17 @@ def main():
     count, rng = int(sys.argv[1]) if len(sys.argv) > 1 else 1_000_000, random.Random(1)
     column = Column.of(Document.parse(row_of(index, rng)) for index in range(count))
     stored = [column._bytes_at(row) for row in range(count)]
+    # Rows of Arrow are checked as they are taken; those of `Column.of` are known to be documents.
+    of_arrow = Column.from_arrow(column)
     print(f"{count:,} rows of {sum(map(len, stored)) / count:.0f} bytes, "
           f"{'with' if IS_NATIVE else 'without'} the extension module")
     for name in ("at", "qty", "tax"):
         print(f"$.{name}")
         total = timed("Document(stored)[name] of each row, and the sum",
                       lambda: sum(Document(it)[name] for it in stored))
-        assert total == timed("extract as int64, and numpy's sum", lambda: int(
-            column.extract([name], ["int64"])[0].numpy.sum()))
+        for what, rows in (("", column), ("of Arrow, ", of_arrow)):
+            assert total == timed(f"{what}extract as int64, and numpy's sum", lambda: int(
+                rows.extract([name], ["int64"])[0].numpy.sum()))
         timed("extract of the least type", lambda: len(column.extract([name])[0]))
         timed("survey", lambda: column.survey(name))
         typed, = column.extract([name], ["int64"])
@@ -60,15 +63,18 @@ def main():
     print("$.price")
     total = timed("Document(stored)[name] of each row, and the sum",
                   lambda: sum(Document(it)["price"] for it in stored))
-    assert total == timed("extract as decimal 2, and numpy's sum", lambda: Decimal(
-        int(column.extract(["price"], ["decimal 2"])[0].numpy.sum())).scaleb(-2))
+    for what, rows in (("", column), ("of Arrow, ", of_arrow)):
+        assert total == timed(f"{what}extract as decimal 2, and numpy's sum", lambda: Decimal(
+            int(rows.extract(["price"], ["decimal 2"])[0].numpy.sum())).scaleb(-2))
     timed("extract of the least type", lambda: len(column.extract(["price"])[0]))
     print("$.sku")
     timed("extract as text", lambda: len(column.extract(["sku"], ["text"])[0]))
     print("$.at, $.qty and $.tax")
     timed("Document(stored) of each row, and three members", lambda: len([
         (it["at"], it["qty"], it["tax"]) for it in map(Document, stored)]))
-    timed("extract as int64", lambda: len(column.extract(["at", "qty", "tax"], ["int64"] * 3)))
+    for what, rows in (("", column), ("of Arrow, ", of_arrow)):
+        timed(f"{what}extract as int64", lambda: len(
+            rows.extract(["at", "qty", "tax"], ["int64"] * 3)))
 
 
 if __name__ == "__main__":
