@@ -787,7 +787,7 @@ static void names_within(struct block b, bool shallow, size_t depth) {
 static void select_within(struct block b, bool shallow, size_t depth,
                           struct kohiblad_value_kind kind) {
     enum { MANY = 64, GOOD = 10 };
-    static struct kohiblad_place out[MANY], before[MANY];
+    static struct kohiblad_place out[MANY], before[MANY], within[MANY], whole[MANY];
     static const char *const tried[] = { "$[*]", "$.*", "$[1 to #-1]", "$[*][*]", "$.*.*",
                                          "$[0 to 0].*", "$?(@ == null)", "$[*]?(@[0] != 5)",
                                          "$[last, 0,0]", "$.*[0, last - 1]",
@@ -808,6 +808,17 @@ static void select_within(struct block b, bool shallow, size_t depth,
     if (!shallow) assert(status == KOHIBLAD_INVALID_JSONB);
     else assert(status == (which < GOOD ? KOHIBLAD_OK : KOHIBLAD_OTHER_KIND));
     if (status != KOHIBLAD_OK) assert(count == 0);
+    /* With steps enough the answer is the same, and with fewer the same or that they are too few. */
+    memset(whole, 0xA5, sizeof whole);
+    memset(within, 0xA5, sizeof within);
+    assert(kohiblad_select(b.at, b.size, t.at, t.size, depth, whole, MANY, &again) == status);
+    uint32_t limited = kohiblad_select_within(b.at, b.size, t.at, t.size, depth, SIZE_MAX, within,
+                                              MANY, &again);
+    assert(limited == status && again == count && !memcmp(within, whole, sizeof whole));
+    limited = kohiblad_select_within(b.at, b.size, t.at, t.size, depth, below(20), within, MANY,
+                                     &again);
+    if (limited == KOHIBLAD_TOO_MANY_STEPS) assert(status == KOHIBLAD_OK && again == 0);
+    else assert(limited == status && again == count);
     for (size_t i = 0; i < count; i++) {
         assert(out[i].status == KOHIBLAD_OK);
         assert(out[i].offset <= b.size && out[i].length <= b.size - out[i].offset);

@@ -172,6 +172,10 @@ int main(void) {
     assert(kohiblad_select(null, sizeof null, NULL, 0, 0, NULL, 0, &length) == KOHIBLAD_OTHER_KIND);
     assert(length == 0);
     assert(kohiblad_select(NULL, 0, NULL, 0, 0, NULL, 0, &length) == KOHIBLAD_INVALID_JSONB);
+    assert(kohiblad_select_within(NULL, 0, NULL, 0, 0, 9, NULL, 0, &length)
+           == KOHIBLAD_INVALID_JSONB);
+    assert(kohiblad_select_within(null, sizeof null, (const uint8_t *)"$", 1, 0, 0, NULL, 0, &length)
+           == KOHIBLAD_NO_ROOM);
     assert(kohiblad_select(null, sizeof null, (const uint8_t *)"$", 1, 0, NULL, 0, &length)
            == KOHIBLAD_NO_ROOM);
     assert(length == 1);
@@ -240,6 +244,12 @@ int main(void) {
     assert(kohiblad_select(null, 8, (uint8_t *)places + 40, 8, 0, places, 2, &length)
            == KOHIBLAD_OVERLAP);
     assert(kohiblad_select(null, 8, null, 8, 0, places, 2, (size_t *)places) == KOHIBLAD_OVERLAP);
+    assert(kohiblad_select_within((uint8_t *)places, 8, null, 8, 0, 9, places, 2, &length)
+           == KOHIBLAD_OVERLAP);
+    assert(kohiblad_select_within(null, 8, (uint8_t *)places + 40, 8, 0, 9, places, 2, &length)
+           == KOHIBLAD_OVERLAP);
+    assert(kohiblad_select_within(null, 8, null, 8, 0, 9, places, 2, (size_t *)places)
+           == KOHIBLAD_OVERLAP);
     assert(kohiblad_build_array(block, 8, numbers, 2, 0, block, 64, &length)
            == KOHIBLAD_OVERLAP);
     assert(kohiblad_build_object(block, 8, numbers, 2, 0, (uint8_t *)numbers, 8, &length)

@@ -26,7 +26,7 @@ void *__wrap_realloc(void *block, size_t size) {
 
 static const char text[] = "{\"a\":1,\"b\":[true,\"\\u00e9\"],"
                            "\"c\":{\"d\":\"e\",\"f\":-12.5,\"g\":[[],{}]}}";
-enum { ROOM = 1024, CALLS = 51 };
+enum { ROOM = 1024, CALLS = 52 };
 static uint8_t document[ROOM], pairs[ROOM];
 static size_t size, offsets[5], pairs_size, order[4];
 static uint64_t keys[ROOM / 8];
@@ -148,6 +148,9 @@ static uint32_t call(int which, uint8_t *out, size_t *length) {
     case 50:
         return kohiblad_select(document, size, (const uint8_t *)"$.c.g[last, 0]", 14, 8, places,
                                ROOM / 8, length);
+    case 51:
+        return kohiblad_select_within(document, size, (const uint8_t *)"$.c.g[last, 0]", 14, 8,
+                                      1000, places, ROOM / 8, length);
     default: return kohiblad_key_cut(document, size, 8, out, ROOM, length);
     }
 }

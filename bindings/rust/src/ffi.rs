@@ -477,6 +477,17 @@ extern "C" {
         room: usize,
         count: *mut usize,
     ) -> u32;
+    fn kohiblad_select_within(
+        bytes: *const u8,
+        size: usize,
+        path: *const u8,
+        path_size: usize,
+        depth: usize,
+        steps: usize,
+        out: *mut Place,
+        room: usize,
+        count: *mut usize,
+    ) -> u32;
     fn kohiblad_index_keys(
         bytes: *const u8,
         size: usize,
@@ -1215,11 +1226,9 @@ pub(crate) fn select<'a, T>(
     path: &str,
     made_of: impl Fn(Part<'a>) -> T,
 ) -> Result<Vec<T>, Error> {
-    let mut places: Vec<Place> = with_room(FIRST_PLACES)?;
-    let mut count = 0;
-    loop {
+    select_by(bytes, made_of, |places, count| {
         // SAFETY: as above, of the bytes, the path and the buffer for the places.
-        let status = unsafe {
+        unsafe {
             kohiblad_select(
                 bytes.as_ptr(),
                 bytes.len(),
@@ -1228,9 +1237,47 @@ pub(crate) fn select<'a, T>(
                 MAX_DEPTH,
                 places.as_mut_ptr(),
                 places.capacity(),
-                &mut count,
+                count,
             )
-        };
+        }
+    })
+}
+
+/// The same, of a call that takes at most so many steps.
+pub(crate) fn select_within<'a, T>(
+    bytes: &'a [u8],
+    path: &str,
+    steps: usize,
+    made_of: impl Fn(Part<'a>) -> T,
+) -> Result<Vec<T>, Error> {
+    select_by(bytes, made_of, |places, count| {
+        // SAFETY: as above, of the bytes, the path and the buffer for the places.
+        unsafe {
+            kohiblad_select_within(
+                bytes.as_ptr(),
+                bytes.len(),
+                path.as_ptr(),
+                path.len(),
+                MAX_DEPTH,
+                steps,
+                places.as_mut_ptr(),
+                places.capacity(),
+                count,
+            )
+        }
+    })
+}
+
+/// What is made of the values whose places a call writes to the room of a buffer, with their count.
+fn select_by<'a, T>(
+    bytes: &'a [u8],
+    made_of: impl Fn(Part<'a>) -> T,
+    mut call: impl FnMut(&mut Vec<Place>, &mut usize) -> u32,
+) -> Result<Vec<T>, Error> {
+    let mut places: Vec<Place> = with_room(FIRST_PLACES)?;
+    let mut count = 0;
+    loop {
+        let status = call(&mut places, &mut count);
         if status != NO_ROOM {
             tested(status)?;
             break;

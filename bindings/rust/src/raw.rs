@@ -175,6 +175,32 @@ impl<'a> RawJsonb<'a> {
         ffi::select(self.bytes, path, Node::of_part)
     }
 
+    /// The same, or `None` if it takes more than so many steps, for a path that others chose. There
+    /// is a step for each value that a step of the path is asked of, and one for each of its items
+    /// or members, or of the bytes of a text, or of binary or opaque data; a list of indexes takes
+    /// as many for each of them. A filter takes one for each comparison, `&&`, `||`, `!(`, `(` and
+    /// `)`, and for a comparison also one for each item, member or byte of each value on the way of
+    /// its path.
+    ///
+    /// # Errors
+    ///
+    /// Those of `select`.
+    ///
+    /// ```
+    /// use kohiblad::OwnedJsonb;
+    ///
+    /// let row = OwnedJsonb::parse(r#"{"a": 2}"#, 64)?;
+    /// assert_eq!(row.as_raw().select_within("$.*?(@ > 1)", 3)?.map(|all| all.len()), Some(1));
+    /// assert_eq!(row.as_raw().select_within("$.*?(@ > 1)", 2)?, None);
+    /// # Ok::<(), kohiblad::Error>(())
+    /// ```
+    pub fn select_within(&self, path: &str, steps: usize) -> Result<Option<Vec<Node<'a>>>, Error> {
+        match ffi::select_within(self.bytes, path, steps, Node::of_part) {
+            Err(Error::TooManySteps) => Ok(None),
+            answer => answer.map(Some),
+        }
+    }
+
     /// The item of an array at an index, from 0, as a document of its own; `None` if there is no
     /// such item or the value is no array. For all items take [`items`](Self::items).
     ///
