@@ -48,6 +48,13 @@ SELECT kohiblad_build_object('x', pairs, 'y', 1) @> kohiblad_build_object('x', r
     kohiblad_build_object('x', pairs, 'y', 1) @> kohiblad_build_object('x', reversed, 'y', 2),
     kohiblad_build_array(0, '[1]'::kohiblad, pairs) @> kohiblad_build_array(reversed, 0)
 FROM paired;
+-- Texts that have more bytes than the steps that are allowed at first are sorted nevertheless.
+CREATE TABLE long_texts AS SELECT kohiblad_agg(repeat(i::text, 12)) AS texts,
+    kohiblad_agg(repeat(i::text, 12) ORDER BY i DESC) AS reversed FROM generate_series(1, 50000) i;
+SET statement_timeout = '10s';
+SELECT texts @> reversed, texts @> (reversed || '"x"'), texts @> (reversed || '[[]]')
+FROM long_texts;
+RESET statement_timeout;
 -- It ends soon after a timeout, whenever that comes.
 CREATE TABLE long_paired AS SELECT pairs_of(array_agg(i)) AS pairs,
     pairs_of(array_agg(i ORDER BY i DESC)) AS reversed FROM generate_series(1, 20000) i;

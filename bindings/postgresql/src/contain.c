@@ -3,7 +3,8 @@
 
 #include "miscadmin.h"
 
-/* So many steps take some 0.2 seconds. To test what is asked in parts, take fewer. */
+/* So many steps, which take some 0.2 seconds, are allowed beside one for each byte: so many scalars
+ * in arrays take. To test what is asked in parts, allow fewer. */
 #ifndef MOST_STEPS
 #define MOST_STEPS 4000000
 #endif
@@ -17,10 +18,11 @@
  * one. */
 static bool contains_in_parts(Part left, Part right);
 
-/* Whether a document contains another; false if that takes more than so many steps. */
-static bool ends_within(size_t steps, Bytes left, Bytes right, bool *answer) {
+/* Whether a document contains another; false if that takes more steps than are allowed. */
+static bool ends_in_time(Bytes left, Bytes right, bool *answer) {
     CHECK_FOR_INTERRUPTS();
     size_t depth = depth_of_size(Max(left.size, right.size));
+    size_t steps = MOST_STEPS + left.size + right.size;
     check_stack_for(stack_of_depth(depth));
     struct kohiblad_truth truth =
         kohiblad_contains(left.at, left.size, right.at, right.size, depth, steps);
@@ -92,7 +94,7 @@ static bool has_item(Bytes array, Bytes wanted, Part item) {
     bool answer, is_single = has_one_child(array);
     Chunks chunks = chunks_of(array);
     while (take_items(&chunks)) {
-        if (is_single || !ends_within(MOST_STEPS, bytes_of(chunks.items), wanted, &answer)) {
+        if (is_single || !ends_in_time(bytes_of(chunks.items), wanted, &answer)) {
             if (halve_items(&chunks)) continue;
             answer = contains_in_parts(chunks.first, item);
         }
@@ -108,7 +110,7 @@ static bool contains_items(Bytes array, Bytes wanted) {
     Chunks chunks = chunks_of(wanted);
     while (take_items(&chunks)) {
         Bytes items = bytes_of(chunks.items);
-        if (is_single || !ends_within(MOST_STEPS, array, items, &answer)) {
+        if (is_single || !ends_in_time(array, items, &answer)) {
             if (halve_items(&chunks)) continue;
             answer = has_item(array, items, chunks.first);
         }
@@ -136,8 +138,7 @@ static bool move_to_key(Bytes object, struct kohiblad_cursor *cursor, Bytes want
 static bool contains_value(Part left, Part right) {
     bool answer, are_arrays = is_array_part(left) && is_array_part(right);
     bool are_objects = is_object_part(left) && is_object_part(right);
-    if ((are_arrays || are_objects) &&
-        ends_within(MOST_STEPS, left.payload, right.payload, &answer))
+    if ((are_arrays || are_objects) && ends_in_time(left.payload, right.payload, &answer))
         return answer;
     return contains_in_parts(left, right);
 }
@@ -161,11 +162,11 @@ static bool contains_members(Bytes object, Bytes wanted) {
     return true;
 }
 
-/* Whether two scalars are equal, which takes few steps but for long texts. */
+/* Whether two scalars are equal, which takes no more steps than they have bytes. */
 static bool are_equal_scalars(Part left, Part right) {
     bool answer = false;
     struct varlena *l = document_of_part(left), *r = document_of_part(right);
-    ends_within(SIZE_MAX, bytes_of(l), bytes_of(r), &answer);
+    ends_in_time(bytes_of(l), bytes_of(r), &answer);
     pfree(l);
     pfree(r);
     return answer;
@@ -191,7 +192,7 @@ static struct varlena *array_of_part(Part part) {
 /* An array contains a scalar too that is one of its items. */
 static bool contains(Bytes left, Bytes right) {
     bool answer;
-    if (ends_within(MOST_STEPS, left, right, &answer)) return answer;
+    if (ends_in_time(left, right, &answer)) return answer;
     Part whole = part_of_document(left), wanted = part_of_document(right);
     if (is_array_part(whole) && !is_container(wanted))
         return contains_items(left, bytes_of(array_of_part(wanted)));
