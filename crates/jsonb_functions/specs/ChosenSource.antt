@@ -14,6 +14,7 @@ use Rattle.jsonb_functions.specs.declared.choice.Choice.{Choice}
 use Rattle.jsonb_functions.specs.declared.chosen.Chosen.{Chosen}
 use Rattle.jsonb_functions.specs.declared.chosen.ChosenMembers.{ChosenMembers}
 use Rattle.jsonb_functions.specs.Overlay.{OverlayMeaning, OverlayLaws, Becomes, one_becomes}
+use Rattle.jsonb_functions.specs.Overlay.{part_unique}
 use Rattle.jsonb_functions.specs.Picked.{picked_pairs}
 
 -- The trees of parts in a list.
@@ -31,17 +32,17 @@ list_size (part ∷ list) = suc (length part.payload.now + list_size list)
 
 abbrev pub chosen_meaning : OverlayMeaning Chosen (Bor (List Part)) ChosenMembers
 chosen_meaning = record {
-  value = λ x t. ⊥;
+  value = λ x. PartMeans x.part;
   items = λ x ts. ts ≡ listed_trees x.now;
   members = λ x. Becomes (λ ps. AreMembers ps x.members) (kept_pairs x.choice);
-  value_size = λ x. 0;
+  value_size = λ x. length x.part.payload.now;
   items_size = λ x. list_size x.now;
   members_size = λ x. parts.items_size x.members.values;
 }
 
 pub chosen_laws : OverlayLaws chosen_meaning
 chosen_laws = record {
-  one_value = λ x t u h k. absurd h;
+  one_value = λ x. part_unique x.part;
   one_items = λ x ts us h k. h ∙ sym k;
   one_members = λ x. one_becomes (λ ps. AreMembers ps x.members) (kept_pairs x.choice)
       (λ ps qs h k. pairs_unique ps qs _ _ _ _ h k);

@@ -6,12 +6,15 @@ ghost use Rattle.jsonb_functions.specs.Words.{AreMembers, FirstKept, Pairs, item
 ghost use Rattle.jsonb_functions.specs.Words.{keys_size, kept_pairs, no_pairs, pair_count};
 
 use crate::choice::{Choice, is_kept};
-use crate::overlay::{Laid, LaidLevel, LaidMember, Meant, Overlay};
+use crate::overlay::{Laid, LaidLevel, LaidMember, Meant, Overlay, kept_level};
 use jsonb::layer::parts::{Children, Member, Members, Part};
 
-/// There is no choice below the whole value.
+/// A value below the whole. Nothing makes one, since what is chosen is kept; it is written as it is
+/// stored.
 #[derive(Clone, Copy)]
-pub enum Chosen {}
+pub struct Chosen<'a> {
+    pub part: Part<'a>,
+}
 
 /// Members that are left, and which of them are kept.
 #[derive(Clone, Copy)]
@@ -57,7 +60,7 @@ fn next_kept<'a>(members: Members<'a>, choice: Choice<'_>) -> Option<Member<'a>>
     None
 }
 
-impl<'a> Meant<'a> for Chosen {
+impl<'a> Meant<'a> for Chosen<'a> {
     type Items = &'a [Part<'a>];
 
     type Members = ChosenMembers<'a>;
@@ -67,10 +70,10 @@ impl<'a> Meant<'a> for Chosen {
     ghost laws = { chosen_laws };
 }
 
-impl<'a> Overlay<'a> for Chosen {
+impl<'a> Overlay<'a> for Chosen<'a> {
     #[inline(always)]
     fn level(self) -> ChosenLevel<'a> {
-        match self {}
+        kept_level::<Chosen<'a>>(self.part)
     }
 
     #[inline(always)]
@@ -81,7 +84,12 @@ impl<'a> Overlay<'a> for Chosen {
     #[inline(always)]
     fn next_item(
         items: &'a [Part<'a>],
-    ) -> Option<(Laid<Part<'a>, Chosen>, Laid<Children<'a>, &'a [Part<'a>]>)> {
+    ) -> Option<
+        (
+            Laid<Part<'a>, Chosen<'a>>,
+            Laid<Children<'a>, &'a [Part<'a>]>,
+        ),
+    > {
         let (part, later) = items.split_first()?;
         Some((Laid::Kept(*part), Laid::Changed(later)))
     }
@@ -89,7 +97,7 @@ impl<'a> Overlay<'a> for Chosen {
     #[inline(always)]
     fn next_member(
         members: ChosenMembers<'a>,
-    ) -> Option<LaidMember<'a, Chosen, ChosenMembers<'a>>> {
+    ) -> Option<LaidMember<'a, Chosen<'a>, ChosenMembers<'a>>> {
         let Member { key, value, later } = next_kept(members.members, members.choice)?;
         Some(LaidMember {
             key,
@@ -103,7 +111,7 @@ impl<'a> Overlay<'a> for Chosen {
 
     #[inline(always)]
     fn stored_len(self) -> usize {
-        match self {}
+        self.part.payload.len()
     }
 
     // The length of a list is not known without a walk.

@@ -13,7 +13,9 @@ ghost use Rattle.jsonb_functions.specs.Words.{maybe_members_size, maybe_object_s
 ghost use Rattle.jsonb_functions.specs.Words.{no_pairs, no_trees, object, owned_bytes, pair_count};
 ghost use Rattle.jsonb_functions.specs.Words.{run_size, shape_of};
 
-use crate::overlay::{Counted, Laid, LaidLevel, LaidMember, Meant, Overlay, item_count};
+use crate::overlay::{
+    Counted, Laid, LaidLevel, LaidMember, Meant, Overlay, item_count, kept_level,
+};
 use jsonb::constants::CONTAINER_TAG;
 use jsonb::layer::parts::{Child, Children, Contents, Member, Members, Object, Part};
 use jsonb::layer::writer::{Level, append_document};
@@ -21,9 +23,12 @@ use jsonb::{Document, Error, OwnedJsonb};
 use std::alloc::Global;
 use std::cmp::Ordering;
 
-/// Nothing is joined below the whole values.
+/// A value below the whole ones. Nothing makes one, since none is joined; it is written as it is
+/// stored.
 #[derive(Clone, Copy)]
-pub enum Joined {}
+pub struct Joined<'a> {
+    pub part: Part<'a>,
+}
 
 /// No item, one value, or the items of an array.
 #[derive(Clone, Copy)]
@@ -253,7 +258,7 @@ pub fn concat(alloc: Global, left: Document<'_>, right: Document<'_>) -> Result<
     Ok(OwnedJsonb::new(bytes))
 }
 
-impl<'a> Meant<'a> for Joined {
+impl<'a> Meant<'a> for Joined<'a> {
     type Items = JoinedItems<'a>;
 
     type Members = JoinedMembers<'a>;
@@ -263,10 +268,10 @@ impl<'a> Meant<'a> for Joined {
     ghost laws = { join_laws };
 }
 
-impl<'a> Overlay<'a> for Joined {
+impl<'a> Overlay<'a> for Joined<'a> {
     #[inline(always)]
     fn level(self) -> JoinedLevel<'a> {
-        match self {}
+        kept_level::<Joined<'a>>(self.part)
     }
 
     #[inline(always)]
@@ -277,7 +282,12 @@ impl<'a> Overlay<'a> for Joined {
     #[inline(always)]
     fn next_item(
         items: JoinedItems<'a>,
-    ) -> Option<(Laid<Part<'a>, Joined>, Laid<Children<'a>, JoinedItems<'a>>)> {
+    ) -> Option<
+        (
+            Laid<Part<'a>, Joined<'a>>,
+            Laid<Children<'a>, JoinedItems<'a>>,
+        ),
+    > {
         let JoinedItems { first, second } = items;
         if let Some((part, rest)) = split_run(first) {
             let later = JoinedItems {
@@ -297,7 +307,7 @@ impl<'a> Overlay<'a> for Joined {
     #[inline(always)]
     fn next_member(
         members: JoinedMembers<'a>,
-    ) -> Option<LaidMember<'a, Joined, JoinedMembers<'a>>> {
+    ) -> Option<LaidMember<'a, Joined<'a>, JoinedMembers<'a>>> {
         let next = next_merged(members.left, members.right)?;
         Some(LaidMember {
             key: next.key,
@@ -311,7 +321,7 @@ impl<'a> Overlay<'a> for Joined {
 
     #[inline(always)]
     fn stored_len(self) -> usize {
-        match self {}
+        self.part.payload.len()
     }
 
     #[inline(always)]
