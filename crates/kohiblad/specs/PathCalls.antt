@@ -65,7 +65,7 @@ IsPathPlaceWithin depth bytes path answer =
     ⊎ (IsDocumentWithin depth bytes × IsPathPlace bytes path answer)
 
 -- A place that was found, as C receives it.
-abbrev pub found_answer : Code → KohibladPlace
+abbrev pub found_answer : Entry → KohibladPlace
 found_answer place = place_answer (Ok (Some place))
 
 -- The places that the path of a UTF-8 text selects are handed over; a text that is not a path is
