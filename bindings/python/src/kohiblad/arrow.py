@@ -244,7 +244,7 @@ class Column(Sequence[Optional[Document]]):
         value of the type, or, if it is ``exact``, if the value gives its kind and digits back.
 
         The rows of a column that was made of documents are not checked again, nor are those of
-        Arrow for the second path and the later ones, unless one of them is no document.
+        Arrow for the second path and the later ones, unless one of them is not a document.
 
         What ``unfit`` says is done with members that do not fit, but for null, and with rows that
         are no documents: the ``rest`` keeps them, they count as null, or the first is an error.
