@@ -35,6 +35,16 @@ pub fn word_bytes(number: u32) -> [u8; 4]
     bytes
 }
 
+/// The word of a tag and a number, which `split_entry` and `split_header` take apart again: an entry
+/// word of a type and a length, or the header of a kind and a count.
+#[inline(always)]
+pub fn tagged_word(tag: u32, number: usize) -> u32
+    requires { tag + number < 2 ^ 32 }
+    ensures { result ≡ tag + number }
+{
+    tag + number as u32
+}
+
 /// The header at `index`: its kind (an array, object or scalar tag) and its count. `InvalidEOF` if
 /// the bytes end before the word does, `InvalidJsonb` if it is of none of the three kinds.
 #[inline]

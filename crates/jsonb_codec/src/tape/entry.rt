@@ -2,6 +2,7 @@
 
 ghost use Rattle.std.specs.Prelude.{◌≡◌, ◌+◌, ◌<◌, ◌≤◌, ◌^◌, IfSome, IfNone};
 
+use crate::word::tagged_word;
 use crate::writer::measure::MAX_PAYLOAD;
 
 /// A value: the type of its entry, and the length of its payload in bytes.
@@ -23,6 +24,6 @@ impl Entry {
         if self.size > MAX_PAYLOAD {
             return None;
         }
-        Some(self.type_code + self.size as u32)
+        Some(tagged_word(self.type_code, self.size))
     }
 }

@@ -18,7 +18,7 @@ use super::key::{Key, bytes_of};
 use super::member::Member;
 use super::place::Place;
 use crate::constants::{ARRAY_CONTAINER_TAG, OBJECT_CONTAINER_TAG, STRING_TAG};
-use crate::word::{split_entry, word_bytes};
+use crate::word::{split_entry, tagged_word, word_bytes};
 use crate::writer::measure::{MAX_COUNT, MAX_PAYLOAD};
 use jsonb_value::Error;
 use std::alloc::Global;
@@ -72,7 +72,7 @@ impl Storage {
         if count > MAX_COUNT {
             return Ok(None);
         }
-        self.push_word(ARRAY_CONTAINER_TAG + count as u32)?;
+        self.push_word(tagged_word(ARRAY_CONTAINER_TAG, count))?;
         self.heads.extend_from_slice(words)?;
         Ok(Some(4 + words.len() + payloads_len(words)))
     }
@@ -93,7 +93,7 @@ impl Storage {
         if count > MAX_COUNT {
             return Ok(None);
         }
-        self.push_word(OBJECT_CONTAINER_TAG + count as u32)?;
+        self.push_word(tagged_word(OBJECT_CONTAINER_TAG, count))?;
         let Some(size) = self.push_key_words(members)? else {
             return Ok(None);
         };
@@ -122,7 +122,7 @@ impl Storage {
             if member.word.is_none() || length > MAX_PAYLOAD {
                 return Ok(None);
             }
-            self.push_word(STRING_TAG + length as u32)?;
+            self.push_word(tagged_word(STRING_TAG, length))?;
             size += length + member.part.size;
         }
         Ok(Some(size))

@@ -20,9 +20,9 @@ use super::measure::{item_size, measure_document, value_size};
 use super::source::{Leaf, Level, Source};
 use crate::constants::{
     ARRAY_CONTAINER_TAG, CONTAINER_TAG, JENTRY_OFF_LEN_MASK, OBJECT_CONTAINER_TAG,
-    SCALAR_CONTAINER_TAG, STRING_TAG,
+    SCALAR_CONTAINER_TAG,
 };
-use crate::word::{read_word, word_bytes};
+use crate::word::{read_word, tagged_word, word_bytes};
 use jsonb_value::Error;
 
 // The top levels are measured without limits: limits do not help wide, shallow documents.
@@ -53,7 +53,7 @@ pub fn append_document<S: Source>(
     match level {
         Level::Leaf(leaf) => {
             append_word(buf, SCALAR_CONTAINER_TAG);
-            append_word(buf, leaf.type_code() + leaf.len() as u32);
+            let _ = append_leaf_entry(buf, leaf);
             leaf.append_to(buf);
         }
         Level::Array(items) => append_array::<S>(buf, items, size, UNLIMITED_LEVELS),
@@ -106,7 +106,7 @@ fn append_array<S: Source>(out: &mut Vec<u8>, items: S::Items, size: usize, unli
         → AppendsBytes out.old out.new (payload (shapes.array ss)) }
 {
     let count = S::count(items);
-    append_word(out, ARRAY_CONTAINER_TAG + count as u32);
+    append_word(out, tagged_word(ARRAY_CONTAINER_TAG, count));
     let words = out.len();
     append_item_entries::<S>(out, items, size - 4 - 4 * count, unlimited_levels);
     append_items::<S>(out, items, words, unlimited_levels.saturating_sub(1));
@@ -127,7 +127,7 @@ fn append_object<S: Source>(
 {
     let members = S::members(object);
     let count = S::members_left(&members);
-    append_word(out, OBJECT_CONTAINER_TAG + count as u32);
+    append_word(out, tagged_word(OBJECT_CONTAINER_TAG, count));
     append_key_entries::<S>(out, S::fork(&members));
     let words = out.len();
     append_value_entries::<S>(
@@ -206,7 +206,7 @@ fn append_leaf_entry<L: Leaf>(out: &mut Vec<u8>, leaf: L) -> usize
     ensures size { result ≡ length (L.code leaf).1 }
 {
     let size = leaf.len();
-    append_word(out, leaf.type_code() + size as u32);
+    append_word(out, tagged_word(leaf.type_code(), size));
     size
 }
 
@@ -218,7 +218,7 @@ fn append_container_entry(out: &mut Vec<u8>, size: usize) -> usize
     ensures written { AppendsBytes out.old out.new (word (CONTAINER_TAG + size)) }
     ensures size { result ≡ size }
 {
-    append_word(out, CONTAINER_TAG + size as u32);
+    append_word(out, tagged_word(CONTAINER_TAG, size));
     size
 }
 

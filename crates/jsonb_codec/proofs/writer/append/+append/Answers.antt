@@ -21,7 +21,7 @@ pub append_array-append_item_entries-requires : goal.append_array-append_item_en
 append_array-append_item_entries-requires g t c =
     let (ss, (h, can)) = c.requires in
     let count = c.count-count.ensures ss h in
-    let header = rw count at c.append_word.ensures in
+    let header = rw (c.tagged_word.ensures, count) at c.append_word.ensures in
     let room = array_entries_room c.args.out.now c.append_word.new.out ss can.room header in
     let few : AreFew ss = record { fit = can.fits.1; few = can.fits.0 } in
     let bare = ap length (g.S.Source.laws.bare_items c.args.items ss h) in (
@@ -50,7 +50,7 @@ append_object-append_value_entries-requires g t c =
     let (ss, (h, can)) = c.requires in
     let are = c.members-members.ensures.are ss h in
     let count = c.members_left-count.ensures ss are in
-    let header = rw count at c.append_word.ensures in
+    let header = rw (c.tagged_word.ensures, count) at c.append_word.ensures in
     let keys = c.append_key_entries in
     let room = object_entries_room c.args.out.now c.append_word.new.out keys.new.out ss can.room
     header (keys.ensures ss (c.fork.ensures ss are)) in
@@ -66,7 +66,8 @@ pub append_object-append_values-requires : goal.append_object-append_values-requ
 append_object-append_values-requires g t c κs within =
     let (ss, (h, can)) = c.requires in
     let are = c.members-members.ensures.are ss h in
-    let header = rw (c.members_left-count.ensures ss are) at c.append_word.ensures in
+    let header =
+    rw (c.tagged_word.ensures, c.members_left-count.ensures ss are) at c.append_word.ensures in
     let keys = c.append_key_entries in
     let words = c.append_value_entries.ensures ss (c.fork-2.ensures ss are) in
     let key_bytes = c.append_keys.ensures ss (c.fork-3.ensures ss are) in
@@ -94,7 +95,7 @@ append_object-returns g t c ss h =
     let are = c.members-members.ensures.are ss h in
     object_written c.args.out.now c.append_word.new.out c.append_key_entries.new.out
     c.append_value_entries.new.out c.append_keys.new.out c.append_values.new.out ss
-    (rw (c.members_left-count.ensures ss are) at c.append_word.ensures)
+    (rw (c.tagged_word.ensures, c.members_left-count.ensures ss are) at c.append_word.ensures)
     (c.append_key_entries.ensures ss (c.fork.ensures ss are))
     (c.append_value_entries.ensures ss (c.fork-2.ensures ss are))
     (c.append_keys.ensures ss (c.fork-3.ensures ss are))

@@ -21,7 +21,8 @@ stored c =
       moved = refl;
     } in
     stores_further c.args.self.now mid new (word (ARRAY_CONTAINER_TAG
-    + length c.args.words.now / 4)) c.args.words.now c.in_ok-push_word.ensures.ok second
+    + length c.args.words.now / 4)) c.args.words.now
+    (rw c.tagged_word.ensures at c.in_ok-push_word.ensures.ok) second
 
 pub returns-then-count-gt-MAX_COUNT-clause-grows :
     goal.returns-then-count-gt-MAX_COUNT-clause-grows

@@ -99,7 +99,8 @@ loop-member-preserved c =
     let size = c.key_len-length.result in
     let measured : size ≡ length (key_bytes mid.spelled.items m.key) =
     c.key_len-length.ensures ∙ ap (λ xs. length (key_bytes xs m.key)) c.deref.ensures.value in
-    let stored : StoresHead mid new (word (STRING_TAG + size)) = c.in_ok-push_word.ensures.ok in (
+    let stored : StoresHead mid new (word (STRING_TAG + size)) =
+    rw c.tagged_word.ensures at c.in_ok-push_word.ensures.ok in (
       grows_further old mid new c.loop-member.invariant.0 (head_grows mid new _ stored),
       (
         omega (

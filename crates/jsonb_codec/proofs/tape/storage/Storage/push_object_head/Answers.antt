@@ -76,9 +76,8 @@ returns-clause-ok c = λ base ps front h ascend.
     (c.in_ok-size.ensures.ok base ps front
     (members_stay old begun base ps members front first h)) in
     object_head old begun keyed valued c.push_keys.new.self base ps members front _ c.in-Some.size h
-    ascend (omega (arith, c.if-count-gt-MAX_COUNT.false)) c.in_ok-push_word.ensures.ok made.0
-    made.1.0
-    made.1.1
+    ascend (omega (arith, c.if-count-gt-MAX_COUNT.false))
+    (rw c.tagged_word.ensures at c.in_ok-push_word.ensures.ok) made.0 made.1.0 made.1.1
     (c.in_ok-push_value_words.ensures.ok base ps front
     (members_stay old keyed base ps members front second h) made.1.0)
     (c.in_ok-push_keys.ensures.ok base ps front
