@@ -22,7 +22,7 @@ use Rattle.jsonb.specs.declared.document.Document.{Document}
 use Rattle.jsonb.specs.Document.{document_bytes, document_tree, tree_in}
 use Rattle.jsonb.proofs.DocumentLaws.{tree_in-is}
 use Rattle.jsonb_functions.specs.declared.path.Step.{Step}
-use Rattle.jsonb_functions.specs.declared.path.Step.TheVariants.{Key, Index, FromEnd}
+use Rattle.jsonb_functions.specs.declared.path.Step.TheVariants.{Key, Index, FromEnd, End}
 use Rattle.jsonb_functions.specs.Found.{child_at, found_at, if_there}
 use Rattle.jsonb_functions.specs.NamedSteps.{child_by}
 use Rattle.jsonb_functions.specs.PathText.{PathText, SelectorView, single_steps}
@@ -54,6 +54,7 @@ child_same : (s : Step) (t : Tree) → child_by (step_view s) t ≡ child_at s t
 child_same (Key k) t = refl
 child_same (Index i) t = refl
 child_same (FromEnd i) t = refl
+child_same End t = refl
 
 both_there : (m : Option Tree) (f g : Tree → Option Tree) → ((u : Tree) → f u ≡ g u)
     → if_there m f ≡ if_there m g

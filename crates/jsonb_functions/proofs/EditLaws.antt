@@ -21,7 +21,7 @@ use Rattle.jsonb_codec.proofs.Decision.{known_object}
 use Rattle.jsonb.specs.EntryTrees.{part_tree}
 use Rattle.jsonb.proofs.EntryTreeLaws.{entry_tree-is}
 use Rattle.jsonb_functions.specs.declared.path.Step.{Step}
-use Rattle.jsonb_functions.specs.declared.path.Step.TheVariants.{Key, Index, FromEnd}
+use Rattle.jsonb_functions.specs.declared.path.Step.TheVariants.{Key, Index, FromEnd, End}
 use Rattle.jsonb_functions.specs.Path.{is_next, item_place}
 use Rattle.jsonb_functions.specs.declared.edit.EditedItems.{EditedItems}
 use Rattle.jsonb_functions.specs.declared.edit.EditedMembers.{EditedMembers}
@@ -221,6 +221,9 @@ within_item (FromEnd i) n place next path operation f e =
     let is : place ≡ (n - suc i, nat_lt i n) = cc in
     rw is (within_at true (nat_lt i n) next path operation f (n - suc i) n (omega arith)
     (λ h. let less : i < n = ltb-true i n h in omega (arith, less)))
+within_item End n place next path operation f e =
+    let is : place ≡ (n, false) = cc in
+    rw is (within_at true false next path operation f n n (omega arith) (λ h. absurd (cc)))
 
 less_more : (o : Ordering) (m n : ℕ) → m ≤ n → if_less o m ≤ suc n
 less_more Less m n h = omega (arith, h)
@@ -299,6 +302,7 @@ pub pairs_left : (s : Step) (rest : List Step) (operation : Operation) (f : Tree
 pairs_left (Key k) rest operation f ps other = absurd (other k refl)
 pairs_left (Index i) rest operation f ps other = refl
 pairs_left (FromEnd i) rest operation f ps other = refl
+pairs_left End rest operation f ps other = refl
 
 -- How many members there are then.
 pub members_count : (x : EditedMembers) (n : ℕ) (ps : Pairs) → EditedMembersMean x ps
@@ -407,3 +411,4 @@ pub made_array : (s : Step) (path later : List Step) (v : Tree) → path ≡ s �
 made_array (Key k) path later v path_is other = absurd (other k refl)
 made_array (Index i) path later v path_is other = rw path_is refl
 made_array (FromEnd i) path later v path_is other = rw path_is refl
+made_array End path later v path_is other = rw path_is refl

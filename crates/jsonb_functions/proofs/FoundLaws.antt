@@ -6,7 +6,7 @@ use Rattle.jsonb_value.specs.Tree.{Tree, array, Trees, count}
 use Rattle.jsonb_value.specs.Value.{trees_of}
 use Rattle.jsonb.specs.Node.{array_of, tree_list, item_at_index}
 use Rattle.jsonb_functions.specs.declared.path.Step.{Step}
-use Rattle.jsonb_functions.specs.declared.path.Step.TheVariants.{Key, Index, FromEnd}
+use Rattle.jsonb_functions.specs.declared.path.Step.TheVariants.{Key, Index, FromEnd, End}
 use Rattle.jsonb_functions.specs.Path.{item_place}
 use Rattle.jsonb_functions.specs.Found.{child_at, item_there, found_at}
 
@@ -19,6 +19,7 @@ child_array : (s : Step) (us : Trees)
 child_array (Key k) us = refl
 child_array (Index i) us = refl
 child_array (FromEnd i) us = refl
+child_array End us = refl
 
 there_is : (m : ℕ) (b : Bool) (place : Option (ℕ × Bool)) (us : Trees) → Some (m, b) ≡ place
     → b ≡ true → slice_get (tree_list us) m ≡ item_there place us

@@ -9,13 +9,14 @@ use Rattle.jsonb_codec.specs.Canon.{Fits, canon}
 use Rattle.jsonb_codec.specs.Doc.{Doc}
 use Rattle.jsonb_codec.proofs.CanonLaws.{Doc-canon}
 use Rattle.jsonb_functions.specs.PathDocument.{path_tree, step_tree, stored_step}
-use Rattle.jsonb_functions.specs.StoredPath.{StepView, key, index, from_end, path_in, step_in}
-use Rattle.jsonb_functions.specs.StoredPath.{step_then, steps_in}
+use Rattle.jsonb_functions.specs.StoredPath.{StepView, key, index, from_end, past_end, path_in}
+use Rattle.jsonb_functions.specs.StoredPath.{step_in, step_then, steps_in}
 
 step_read : (s : StepView) → step_in (step_tree s) ≡ Some (stored_step s)
 step_read (key k) = refl
 step_read (index i) = refl
 step_read (from_end i) = refl
+step_read past_end = refl
 
 pub path_read : (path : List StepView) → path_in (path_tree path) ≡ Some (map stored_step path)
 path_read [] = refl
@@ -28,6 +29,7 @@ step_norm : (s : StepView) → norm (step_tree s) ≡ step_tree s
 step_norm (key k) = refl
 step_norm (index i) = refl
 step_norm (from_end i) = refl
+step_norm past_end = refl
 
 steps_norm : (path : List StepView)
     → norms (trees_of (map step_tree path)) ≡ trees_of (map step_tree path)

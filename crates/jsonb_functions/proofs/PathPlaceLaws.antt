@@ -366,6 +366,7 @@ member_held b ps h (steps.Key k) =
     placed.values_there placed.within placed.mean)
 member_held b ps h (steps.Index i) = tt
 member_held b ps h (steps.FromEnd i) = tt
+member_held b ps h steps.End = tt
 
 all_held : (b : List ℕ) (ps : Pairs) → Payload (object ps) b
     → Pairwise (Held b) (run_entries (value_run b (pair_count ps)))
@@ -580,11 +581,7 @@ none_listed bytes place indexes n whole past left =
 selector_held : (s : Selector) (bytes : List ℕ) (place : Entry) (t : Tree)
     → Held bytes place t
     → Pairwise (Held bytes) (places_at s bytes place) (children_at s t)
-selector_held (selectors.Key k) bytes place t held = step_places (steps.Key k) bytes place t held
-selector_held (selectors.Index i) bytes place t held =
-    step_places (steps.Index i) bytes place t held
-selector_held (selectors.FromEnd i) bytes place t held =
-    step_places (steps.FromEnd i) bytes place t held
+selector_held (selectors.Step s) bytes place t held = step_places s bytes place t held
 selector_held selectors.AllItems bytes place t held =
     subst (Pairwise (Held bytes) (range_places (FromStart 0) (FromEnd 0) bytes place))
     (all_between (tree_list (items_or_none t)))

@@ -5,6 +5,7 @@ use Rattle.std.proofs.Common.{inl, inr, ne_eqb}
 use Rattle.std.proofs.Math.Dec.{eqb-suc-zero}
 use Rattle.std.proofs.lemmas.List.{append-nil}
 use Rattle.std.specs.Prelude.{Option, None, Some, ◌⊎◌, ◌==◌, ◌&&◌, not, if◌then◌else◌}
+use Rattle.jsonb_functions.specs.declared.path.Step.TheVariants as steps
 use Rattle.jsonb_functions.specs.declared.selection.Selector.{Selector}
 use Rattle.jsonb_functions.specs.declared.selection.Selector.TheVariants as selectors
 use Rattle.jsonb_functions.specs.PathText.{SelectorView, step, selector_view, Written, plain}
@@ -104,7 +105,7 @@ module _ (in_filter : Bool) where
   pub quoted_read : (text : List ℕ) (name rest : Bor (List ℕ))
       → text ≡ name.now ++ (34 ∷ rest.now) → all_are (is_not 34) name.now ≡ true
       → ReadsStep (BeginsWith in_filter) in_filter (46 ∷ (34 ∷ text))
-      (Some (selectors.Key name, rest))
+      (Some (selectors.Step (steps.Key name), rest))
   quoted_read text name rest e all = record {
     is = (
       written_bytes (quoted name.now),

@@ -20,9 +20,7 @@ use Rattle.jsonb_functions.specs.declared.path.Step.{Step}
 use Rattle.jsonb_functions.specs.declared.path.Step.TheVariants as steps
 use Rattle.jsonb_functions.specs.declared.selection.Bound.{Bound}
 use Rattle.jsonb_functions.specs.declared.selection.Selector.{Selector}
-use Rattle.jsonb_functions.specs.declared.selection.Selector.TheVariants.{AllItems, AllMembers}
-use Rattle.jsonb_functions.specs.declared.selection.Selector.TheVariants.{Filter, FromEnd, Index}
-use Rattle.jsonb_functions.specs.declared.selection.Selector.TheVariants.{Indexes, Key, Range}
+use Rattle.jsonb_functions.specs.declared.selection.Selector.TheVariants as selectors
 use Rattle.jsonb_functions.specs.Contains.{items_or_none}
 use Rattle.jsonb_functions.specs.Filter.{holds}
 use Rattle.jsonb_functions.specs.Found.{child_at, item_there}
@@ -114,6 +112,7 @@ child_less (steps.Index i) (array ts) u e =
     placed_less (item_place (steps.Index i) (count ts)) ts u e
 child_less (steps.FromEnd i) (array ts) u e =
     placed_less (item_place (steps.FromEnd i) (count ts)) ts u e
+child_less steps.End (array ts) u e = absurd (cc)
 child_less (steps.Key k) (object ps) u e =
     member_less (pointwise nat_eq k.now) (length k.now) ps u e
 child_less (steps.Key k) null u e = absurd (cc)
@@ -133,6 +132,12 @@ child_less (steps.FromEnd i) (number x) u e = absurd (cc)
 child_less (steps.FromEnd i) (text s) u e = absurd (cc)
 child_less (steps.FromEnd i) (extension x) u e = absurd (cc)
 child_less (steps.FromEnd i) (object ps) u e = absurd (cc)
+child_less steps.End null u e = absurd (cc)
+child_less steps.End (boolean b) u e = absurd (cc)
+child_less steps.End (number x) u e = absurd (cc)
+child_less steps.End (text s) u e = absurd (cc)
+child_less steps.End (extension x) u e = absurd (cc)
+child_less steps.End (object ps) u e = absurd (cc)
 
 -- So what is on the way of a path weighs less than the tree.
 way_within : (s : Step) (path : List Step) (t : Tree) (child : Option Tree) → child_at s t ≡ child
@@ -178,14 +183,12 @@ indexes_within (index ∷ indexes) t =
     )
 
 asked_within : (s : Selector) (t : Tree) → asked s t ≤ selector_size s * weight t
-asked_within (Indexes indexes) t = indexes_within indexes.items t
-asked_within (Key k) t = omega (arith, extent_within t)
-asked_within (Index i) t = omega (arith, extent_within t)
-asked_within (FromEnd i) t = omega (arith, extent_within t)
-asked_within AllItems t = omega (arith, extent_within t)
-asked_within AllMembers t = omega (arith, extent_within t)
-asked_within (Range first last) t = omega (arith, extent_within t)
-asked_within (Filter condition) t = terms_within condition.terms.items t
+asked_within (selectors.Indexes indexes) t = indexes_within indexes.items t
+asked_within (selectors.Step s) t = omega (arith, extent_within t)
+asked_within selectors.AllItems t = omega (arith, extent_within t)
+asked_within selectors.AllMembers t = omega (arith, extent_within t)
+asked_within (selectors.Range first last) t = omega (arith, extent_within t)
+asked_within (selectors.Filter condition) t = terms_within condition.terms.items t
 
 -- The children to which a selector leads weigh no more than the tree.
 listed : (ts : Trees) → total (tree_list ts) ≡ weights ts
@@ -251,12 +254,10 @@ at_total (index ∷ indexes) t =
 
 -- as often as there are ways to them
 children_within : (s : Selector) (t : Tree) → total (children_at s t) ≤ ways s * weight t
-children_within (Key k) t = omega (arith, step_total (steps.Key k) t)
-children_within (Index i) t = omega (arith, step_total (steps.Index i) t)
-children_within (FromEnd i) t = omega (arith, step_total (steps.FromEnd i) t)
-children_within AllItems t = omega (arith, items_total t)
-children_within AllMembers t = omega (arith, members_total t)
-children_within (Range first last) t =
+children_within (selectors.Step s) t = omega (arith, step_total s t)
+children_within selectors.AllItems t = omega (arith, items_total t)
+children_within selectors.AllMembers t = omega (arith, members_total t)
+children_within (selectors.Range first last) t =
     let ts = tree_list (items_or_none t) in
     let through = items_through last (length ts) in
     omega (
@@ -265,8 +266,8 @@ children_within (Range first last) t =
       total_taken through ts,
       items_total t,
     )
-children_within (Indexes indexes) t = at_total indexes.items t
-children_within (Filter condition) t = omega (arith, kept_total (holds condition t) t)
+children_within (selectors.Indexes indexes) t = at_total indexes.items t
+children_within (selectors.Filter condition) t = omega (arith, kept_total (holds condition t) t)
 
 sum_within : (path : List Selector) (us : List Tree)
     → ((u : Tree) → select_steps path u ≤ path_size path * weight u)

@@ -8,7 +8,7 @@ use Rattle.std.specs.declared.cmp.Ordering.TheVariants.{Less, Equal, Greater}
 use Rattle.jsonb_value.specs.Tree.{Tree, array, object}
 use Rattle.jsonb_value.specs.Tree.{Trees, no_trees, tree, Pairs, no_pairs, pair, count}
 use Rattle.jsonb_functions.specs.declared.path.Step.{Step}
-use Rattle.jsonb_functions.specs.declared.path.Step.TheVariants.{Key, Index, FromEnd}
+use Rattle.jsonb_functions.specs.declared.path.Step.TheVariants.{Key}
 use Rattle.jsonb_functions.specs.Path.{is_next, item_place, step_key}
 
 -- What is done at the end of a path: a value is put there, in place of what is there, if anything;
@@ -33,15 +33,13 @@ pub data Here : Type 0 where
 abbrev pub wrapped : List Step → Tree → Tree
 wrapped [] v = v
 wrapped (Key k ∷ path) v = object (pair k.now (wrapped path v) no_pairs)
-wrapped (Index i ∷ path) v = array (tree (wrapped path v) no_trees)
-wrapped (FromEnd i ∷ path) v = array (tree (wrapped path v) no_trees)
+wrapped (s ∷ path) v = array (tree (wrapped path v) no_trees)
 
 -- Whether a container is made for a step: for a key, and for the item of an empty array that comes
 -- next.
 abbrev pub makes_container : Step → Bool
 makes_container (Key k) = true
-makes_container (Index i) = is_next (Index i) 0
-makes_container (FromEnd i) = false
+makes_container s = is_next s 0
 
 -- Whether containers are made for all these steps.
 abbrev pub can_wrap : List Step → Bool

@@ -1,12 +1,12 @@
 -- The steps that names mean in a tree.
-use Rattle.std.specs.Prelude.{ℕ, zero, suc, ◌^◌, ◌-◌, List, [], ◌∷◌, length, slice_index, nat_lt}
+use Rattle.std.specs.Prelude.{ℕ, zero, suc, List, [], ◌∷◌, length, slice_index, nat_lt}
 use Rattle.std.specs.Prelude.{Bool, ◌&&◌, ◌==◌, if◌then◌else◌, Option, None, Some}
 use Rattle.jsonb_value.specs.Tree.{Tree, array}
 use Rattle.jsonb.specs.Node.{value_of_key}
-use Rattle.jsonb_functions.specs.declared.path.Step.TheVariants.{Index, FromEnd}
+use Rattle.jsonb_functions.specs.declared.path.Step.TheVariants.{Index, FromEnd, End}
 use Rattle.jsonb_functions.specs.Found.{child_at, if_there}
 use Rattle.jsonb_functions.specs.PathText.{capped_number}
-use Rattle.jsonb_functions.specs.StoredPath.{StepView, key, index, from_end}
+use Rattle.jsonb_functions.specs.StoredPath.{StepView, key, index, from_end, past_end}
 
 -- There are digits after a first `0`.
 abbrev pub has_leading_zero : List ℕ → Bool
@@ -33,7 +33,7 @@ end_or_key name None = key name
 abbrev pub item_step : List ℕ → StepView
 item_step [] = key []
 item_step (c ∷ []) =
-    if c == 45 then index (2 ^ 64 - 1) else index_or_key (c ∷ []) (index_in (c ∷ []))
+    if c == 45 then past_end else index_or_key (c ∷ []) (index_in (c ∷ []))
 item_step (c ∷ (d ∷ ds)) =
     if c == 45 then end_or_key (c ∷ (d ∷ ds)) (index_in (d ∷ ds))
     else index_or_key (c ∷ (d ∷ ds)) (index_in (c ∷ (d ∷ ds)))
@@ -50,6 +50,7 @@ child_by (key k) (array ts) = None
 child_by (key k) t = value_of_key k t
 child_by (index i) t = child_at (Index i) t
 child_by (from_end i) t = child_at (FromEnd i) t
+child_by past_end t = child_at End t
 
 -- The steps that names are from a place on: each at the place to which those before it lead.
 abbrev pub steps_by : List (List ℕ) → Option Tree → List StepView

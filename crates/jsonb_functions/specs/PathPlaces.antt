@@ -85,8 +85,7 @@ item_entry (Some (before, false)) bytes n = None
 abbrev pub member_entry : Step → List ℕ → ℕ → Option Entry
 member_entry (steps.Key k) bytes n = named_entry k.now bytes
     (read_entries (key_run bytes n).entries) (run_entries (value_run bytes n))
-member_entry (steps.Index i) bytes n = None
-member_entry (steps.FromEnd i) bytes n = None
+member_entry s bytes n = None
 
 -- The entry of the child to which a step leads in an array or object with this header.
 abbrev pub step_entry : Step → List ℕ → Option (ℕ × ℕ) → Option Entry
@@ -145,10 +144,7 @@ tree_there bytes place = entry_tree (entry_there bytes place)
 -- The places to which a selector leads from a place: those of children, in the order in which they
 -- are stored, or of the indexes; or that place itself, if the condition of a filter holds there.
 abbrev pub places_at : Selector → List ℕ → Entry → List Entry
-places_at (selectors.Key k) bytes place = option_to_list (step_place (steps.Key k) bytes place)
-places_at (selectors.Index i) bytes place = option_to_list (step_place (steps.Index i) bytes place)
-places_at (selectors.FromEnd i) bytes place =
-    option_to_list (step_place (steps.FromEnd i) bytes place)
+places_at (selectors.Step s) bytes place = option_to_list (step_place s bytes place)
 places_at selectors.AllItems bytes place = range_places (FromStart 0) (FromEnd 0) bytes place
 places_at selectors.AllMembers bytes place = value_places bytes place
 places_at (selectors.Range first last) bytes place = range_places first last bytes place

@@ -20,7 +20,8 @@ use Rattle.jsonb_functions.specs.declared.selection.Bound.{Bound}
 use Rattle.jsonb_functions.specs.declared.selection.Bound.TheVariants as bounds
 use Rattle.jsonb_functions.specs.declared.selection.Selector.{Selector}
 use Rattle.jsonb_functions.specs.declared.selection.Selector.TheVariants as selectors
-use Rattle.jsonb_functions.specs.StoredPath.{StepView, key, index, from_end, step_then, step_view}
+use Rattle.jsonb_functions.specs.Selected.{step_at}
+use Rattle.jsonb_functions.specs.StoredPath.{StepView, key, step_then, step_view}
 
 -- A term of a condition, without where its keys are stored; a test has the steps of its path, the
 -- comparison and the tree to compare with.
@@ -51,9 +52,7 @@ pub data SelectorView : Type 0 where
   filter : List TermView → SelectorView
 
 abbrev pub selector_view : Selector → SelectorView
-selector_view (selectors.Key k) = step (key k.now)
-selector_view (selectors.Index i) = step (index i)
-selector_view (selectors.FromEnd i) = step (from_end i)
+selector_view (selectors.Step s) = step (step_view s)
 selector_view selectors.AllItems = all_items
 selector_view selectors.AllMembers = all_members
 selector_view (selectors.Range first last) = range first last
@@ -148,7 +147,7 @@ capped_number ds = if are_digits ds then Some (min (digits_value 10 ds) (2 ^ 64 
 
 -- The item so far from the end, where 1 is the last item, and 0 is past the last one of any array.
 abbrev pub from_end_of : ℕ → Bound
-from_end_of zero = bounds.FromStart (2 ^ 64 - 1)
+from_end_of zero = bounds.End
 from_end_of (suc n) = bounds.FromEnd n
 
 -- An item: a number from the start, `#-` and a number from the end, or `#`, past the last one.
@@ -190,11 +189,6 @@ bound_after (Some rest) text = option_map (λ n. bounds.FromEnd n) (back_in rest
 abbrev pub bound_in : List ℕ → Option Bound
 bound_in text = bound_after (tail_after_word (codes "last") text) text
 
--- The step to an item.
-abbrev pub item_at : Bound → SelectorView
-item_at (bounds.FromStart i) = step (index i)
-item_at (bounds.FromEnd i) = step (from_end i)
-
 -- The range of two items, if both are there.
 abbrev pub range_of : Option Bound → Option Bound → Option SelectorView
 range_of (Some first) (Some last) = Some (range first last)
@@ -222,7 +216,9 @@ range_in place = range_at (ends_in place)
 
 -- An item, or the items from one to another.
 abbrev pub items_in : List ℕ → Option SelectorView
-items_in place = option_or (option_map item_at (bound_in place)) (range_in place)
+items_in place =
+    option_or (option_map (λ bound. step (step_view (step_at bound))) (bound_in place))
+    (range_in place)
 
 -- The parts of bytes between commas.
 abbrev pub onto_first : ℕ → List (List ℕ) → List (List ℕ)

@@ -8,9 +8,7 @@ use Rattle.jsonb_functions.specs.declared.path.Step.TheVariants as steps
 use Rattle.jsonb_functions.specs.declared.selection.Bound.{Bound}
 use Rattle.jsonb_functions.specs.declared.selection.Bound.TheVariants as bounds
 use Rattle.jsonb_functions.specs.declared.selection.Selector.{Selector}
-use Rattle.jsonb_functions.specs.declared.selection.Selector.TheVariants.{AllItems, AllMembers}
-use Rattle.jsonb_functions.specs.declared.selection.Selector.TheVariants.{FromEnd, Index, Key}
-use Rattle.jsonb_functions.specs.declared.selection.Selector.TheVariants.{Filter, Indexes, Range}
+use Rattle.jsonb_functions.specs.declared.selection.Selector.TheVariants as selectors
 use Rattle.jsonb_functions.specs.Contains.{items_or_none}
 use Rattle.jsonb_functions.specs.Filter.{filtered}
 use Rattle.jsonb_functions.specs.Found.{child_at}
@@ -19,11 +17,13 @@ use Rattle.jsonb_functions.specs.Found.{child_at}
 abbrev pub items_before : Bound → ℕ → ℕ
 items_before (bounds.FromStart i) n = min i n
 items_before (bounds.FromEnd i) n = n - suc i
+items_before bounds.End n = n
 
 -- How many of n items are up to a bound, with the item there.
 abbrev pub items_through : Bound → ℕ → ℕ
 items_through (bounds.FromStart i) n = min (suc i) n
 items_through (bounds.FromEnd i) n = n - i
+items_through bounds.End n = n
 
 -- The items from the first bound to the last one.
 abbrev pub trees_between : Bound → Bound → List Tree → List Tree
@@ -39,6 +39,7 @@ member_trees t = []
 abbrev pub step_at : Bound → Step
 step_at (bounds.FromStart i) = steps.Index i
 step_at (bounds.FromEnd i) = steps.FromEnd i
+step_at bounds.End = steps.End
 
 -- The items at indexes, in the order of these, of an array that has them.
 abbrev pub trees_at : List Bound → Tree → List Tree
@@ -47,14 +48,12 @@ trees_at indexes t = flat_map (λ index. option_to_list (child_at (step_at index
 -- The children that a selector leads to, in the order in which they are stored, or of the indexes;
 -- a filter leads to the tree itself.
 abbrev pub children_at : Selector → Tree → List Tree
-children_at (Key k) t = option_to_list (child_at (steps.Key k) t)
-children_at (Index i) t = option_to_list (child_at (steps.Index i) t)
-children_at (FromEnd i) t = option_to_list (child_at (steps.FromEnd i) t)
-children_at AllItems t = tree_list (items_or_none t)
-children_at AllMembers t = member_trees t
-children_at (Range first last) t = trees_between first last (tree_list (items_or_none t))
-children_at (Indexes indexes) t = trees_at indexes.items t
-children_at (Filter condition) t = filtered condition t
+children_at (selectors.Step s) t = option_to_list (child_at s t)
+children_at selectors.AllItems t = tree_list (items_or_none t)
+children_at selectors.AllMembers t = member_trees t
+children_at (selectors.Range first last) t = trees_between first last (tree_list (items_or_none t))
+children_at (selectors.Indexes indexes) t = trees_at indexes.items t
+children_at (selectors.Filter condition) t = filtered condition t
 
 -- What is at the ends of all ways that a path allows, in the order in which these lead to it.
 abbrev pub selected : List Selector → Tree → List Tree
@@ -68,5 +67,5 @@ first_tree (t ∷ ts) = Some t
 
 -- The indexes of a list; none of any other selector.
 abbrev pub indexes_of : Selector → List Bound
-indexes_of (Indexes indexes) = indexes.items
+indexes_of (selectors.Indexes indexes) = indexes.items
 indexes_of s = []

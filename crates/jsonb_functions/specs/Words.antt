@@ -64,7 +64,7 @@ pub use Rattle.jsonb_functions.specs.PathText.{Reads, ReadsStep, SelectorView, S
 pub use Rattle.jsonb_functions.specs.PathText.{after_spaces, all_are, back_in, bound_in}
 pub use Rattle.jsonb_functions.specs.PathText.{capped_number, comparison_in, counted_in, ends_in}
 pub use Rattle.jsonb_functions.specs.PathText.{ends_in_space, from_end_of, indexes, indexes_in}
-pub use Rattle.jsonb_functions.specs.PathText.{is_in_name, is_in_word, is_not, is_space, item_at}
+pub use Rattle.jsonb_functions.specs.PathText.{is_in_name, is_in_word, is_not, is_space}
 pub use Rattle.jsonb_functions.specs.PathText.{items_in, mark_in, member_step, name_len, path_view}
 pub use Rattle.jsonb_functions.specs.PathText.{place_in, range_in, state_after, tail_after}
 pub use Rattle.jsonb_functions.specs.PathText.{scalar_tree, selector_view, single_step}

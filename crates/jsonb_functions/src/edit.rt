@@ -36,10 +36,9 @@ pub enum Edit<'a> {
     /// The value is put there, in place of what is there, if anything.
     Put(Document<'a>),
     /// The value is put there, and the containers that the path lacks are made: an object for a
-    /// key, an array for the index 0 or the greatest one, `usize::MAX`. An item is added right
-    /// after the last one only, at the index that is the number of items or at the greatest.
-    /// Nothing is done if a step leads to another missing item, into a scalar or into a container
-    /// of the other kind.
+    /// key, an array for the index 0 or `Step::End`. An item is added right after the last one
+    /// only, at the index that is the number of items or at `Step::End`. Nothing is done if a step
+    /// leads to another missing item, into a scalar or into a container of the other kind.
     Create(Document<'a>),
     /// The value is inserted before an item, or as a member whose key is not there.
     Insert(Document<'a>),

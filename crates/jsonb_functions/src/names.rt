@@ -75,7 +75,7 @@ fn item_step<'a>(name: &'a str) -> Step<'a>
     ensures { step_view result ≡ item_step name.now }
 {
     match name.as_bytes() {
-        [b'-'] => Step::Index(usize::MAX),
+        [b'-'] => Step::End,
         [b'-', digits @ ..] => end_or_key(name, read_index(digits)),
         digits => index_or_key(name, read_index(digits)),
     }

@@ -10,8 +10,9 @@ use std::alloc::Global;
 use std::borrow::CowStr;
 
 /// The canonical document of a path, which `read_path` reads: an array with a string for each key
-/// and a whole number for each index, where -1 is the last item. An index from the end above
-/// 2^63 - 1 is stored as 2^63 - 1, which is also before the first item of every array.
+/// and a whole number for each index, where -1 is the last item, and the greatest of 64 bits is
+/// `End`, also for an index that is so great. An index from the end above 2^63 - 1 is stored as
+/// 2^63 - 1, which is also before the first item of every array.
 /// `InvalidJsonb` if a key exceeds 268,435,455 bytes, or there are more than 536,870,911 steps;
 /// `OutOfMemory` if an allocation fails.
 pub fn document_of_path(alloc: Global, path: &[Step<'_>]) -> Result<OwnedJsonb, Error>
@@ -38,6 +39,7 @@ fn value_of_step<'a>(step: Step<'a>) -> Value<'a>
         Step::Key(name) => Value::String(CowStr::Borrowed(name)),
         Step::Index(index) => Value::Number(Number::UInt64(index as u64)),
         Step::FromEnd(index) => Value::Number(Number::Int64(stored_from_end(index))),
+        Step::End => Value::Number(Number::UInt64(u64::MAX)),
     }
 }
 

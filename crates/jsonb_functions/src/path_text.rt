@@ -10,7 +10,7 @@ ghost use Rattle.jsonb_functions.specs.Words.{IsLiteralWord, PathText, Reads, Re
 ghost use Rattle.jsonb_functions.specs.Words.{SelectorView, StopsAt, Tree, after_spaces, all_are};
 ghost use Rattle.jsonb_functions.specs.Words.{back_in, bound_in, comparison_in, counted_in};
 ghost use Rattle.jsonb_functions.specs.Words.{ends_in, ends_in_space, from_end_of, indexes};
-ghost use Rattle.jsonb_functions.specs.Words.{indexes_in, is_in_name, is_in_word, is_not, item_at};
+ghost use Rattle.jsonb_functions.specs.Words.{indexes_in, is_in_name, is_in_word, is_not};
 ghost use Rattle.jsonb_functions.specs.Words.{list_count};
 ghost use Rattle.jsonb_functions.specs.Words.{items_in, mark_in, member_step, name_len, node_tree};
 ghost use Rattle.jsonb_functions.specs.Words.{path_view, place_in, range_in, scalar_tree};
@@ -22,7 +22,7 @@ ghost use Rattle.jsonb_functions.specs.Words.{terms_view, tree_of};
 use crate::digits::read_number;
 use crate::filter::{Comparison, Condition, Term, Test};
 use crate::path::Step;
-use crate::selection::{Bound, Selector};
+use crate::selection::{Bound, Selector, step_at};
 use jsonb::layer::parse_scalar;
 use jsonb::{Error, Exponents, Node, NumberItem, Value};
 use std::alloc::Global;
@@ -125,9 +125,7 @@ fn step_of<'a>(selector: &Selector<'a>) -> Option<Step<'a>>
     ensures { option_map step_view result ≡ single_step (selector_view selector.now) }
 {
     match selector {
-        Selector::Key(name) => Some(Step::Key(name)),
-        Selector::Index(index) => Some(Step::Index(*index)),
-        Selector::FromEnd(index) => Some(Step::FromEnd(*index)),
+        Selector::Step(step) => Some(*step),
         _ => None,
     }
 }
@@ -189,7 +187,7 @@ fn read_quoted<'a>(text: &'a str, in_filter: bool) -> Option<(Selector<'a>, &'a 
     ensures { ReadsStep (BeginsWith in_filter) in_filter (46 ∷ (34 ∷ text.now)) result }
 {
     match split_at(text, '"') {
-        Some((name, rest)) => Some((Selector::Key(name), rest)),
+        Some((name, rest)) => Some((Selector::Step(Step::Key(name)), rest)),
         None => None,
     }
 }
@@ -214,7 +212,7 @@ fn member_of<'a>(name: &'a str) -> Selector<'a>
     if name == "*" {
         Selector::AllMembers
     } else {
-        Selector::Key(name)
+        Selector::Step(Step::Key(name))
     }
 }
 
@@ -347,18 +345,8 @@ fn read_items<'a>(place: &str) -> Option<Selector<'a>>
     ensures { option_map selector_view result ≡ items_in place.now }
 {
     match read_bound(place) {
-        Some(bound) => Some(item_at(bound)),
+        Some(bound) => Some(Selector::Step(step_at(bound))),
         None => read_range(place),
-    }
-}
-
-// The step to an item.
-fn item_at<'a>(bound: Bound) -> Selector<'a>
-    ensures { selector_view result ≡ item_at bound }
-{
-    match bound {
-        Bound::FromStart(index) => Selector::Index(index),
-        Bound::FromEnd(index) => Selector::FromEnd(index),
     }
 }
 
@@ -418,7 +406,7 @@ fn read_counted(bytes: &[u8]) -> Option<Bound>
     ensures { result ≡ counted_in bytes.now }
 {
     match bytes {
-        [b'#'] => Some(Bound::FromStart(usize::MAX)),
+        [b'#'] => Some(Bound::End),
         [b'#', b'-', digits @ ..] => {
             let number = read_number(digits)?;
             Some(bound_from_end(number))
@@ -435,7 +423,7 @@ fn bound_from_end(number: usize) -> Bound
     ensures { result ≡ from_end_of number }
 {
     if number == 0 {
-        Bound::FromStart(usize::MAX)
+        Bound::End
     } else {
         Bound::FromEnd(number - 1)
     }

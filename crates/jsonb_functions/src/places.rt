@@ -208,11 +208,7 @@ pub fn places_from<'a>(bytes: &'a [u8], place: Entry, selector: &Selector<'_>) -
         ≡ places_at selector.now bytes.now place }
 {
     match selector {
-        Selector::Key(name) => PlaceWalk::One(child_place(bytes, place, Step::Key(name))),
-        Selector::Index(index) => PlaceWalk::One(child_place(bytes, place, Step::Index(*index))),
-        Selector::FromEnd(index) => {
-            PlaceWalk::One(child_place(bytes, place, Step::FromEnd(*index)))
-        }
+        Selector::Step(step) => PlaceWalk::One(child_place(bytes, place, *step)),
         Selector::AllItems => {
             PlaceWalk::Children(items_at(bytes, place, Bound::FromStart(0), Bound::FromEnd(0)))
         }

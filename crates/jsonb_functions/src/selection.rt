@@ -25,22 +25,21 @@ use jsonb::{Document, Error, Node};
 use std::alloc::Global;
 
 /// An end of a range of items: an index, counted from 0, from the start or from the end:
-/// `FromEnd(0)` is the last item.
+/// `FromEnd(0)` is the last item, and `End` is the place right after that.
 #[derive(Clone, Copy, Debug)]
 pub enum Bound {
     FromStart(usize),
     FromEnd(usize),
+    End,
 }
 
-/// A step of a path with wildcards: the value of a key, an item of an array from the start or the
-/// end, each item of an array, each member's value of an object, the items of an array from one to
-/// another, both included, the items of an array at some indexes, in their order and as often as
-/// they are there, or the value itself if a condition on it holds.
+/// A step of a path with wildcards: one that leads to one value, or each item of an array, each
+/// member's value of an object, the items of an array from one to another, both included, the items
+/// of an array at some indexes, in their order and as often as they are there, or the value itself
+/// if a condition on it holds.
 #[derive(Debug, Drop)]
 pub enum Selector<'a> {
-    Key(&'a str),
-    Index(usize),
-    FromEnd(usize),
+    Step(Step<'a>),
     AllItems,
     AllMembers,
     Range { first: Bound, last: Bound },
@@ -421,6 +420,7 @@ pub fn count_before(bound: Bound, count: usize) -> usize
     match bound {
         Bound::FromStart(index) => index.min(count),
         Bound::FromEnd(index) => count.saturating_sub(index.saturating_add(1)),
+        Bound::End => count,
     }
 }
 
@@ -431,6 +431,7 @@ pub fn count_through(bound: Bound, count: usize) -> usize
     match bound {
         Bound::FromStart(index) => index.saturating_add(1).min(count),
         Bound::FromEnd(index) => count.saturating_sub(index),
+        Bound::End => count,
     }
 }
 
@@ -441,5 +442,6 @@ pub fn step_at<'a>(index: Bound) -> Step<'a>
     match index {
         Bound::FromStart(index) => Step::Index(index),
         Bound::FromEnd(index) => Step::FromEnd(index),
+        Bound::End => Step::End,
     }
 }

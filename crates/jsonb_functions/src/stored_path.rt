@@ -11,8 +11,9 @@ use jsonb::{Document, Error, Node, Number};
 use std::alloc::Global;
 
 /// The path that a document gives: an array of strings, which are keys, and whole numbers of 64
-/// bits, which are indexes; of those less than 0, -1 is the last item. A number that is stored as a
-/// decimal is no index, also one without digits after its point. The keys are the document's bytes.
+/// bits, which are indexes; of those less than 0, -1 is the last item, and the greatest of all is
+/// `End`. A number that is stored as a decimal is no index, also one without digits after its
+/// point. The keys are the document's bytes.
 /// `None` if the document is anything else; `OutOfMemory`, the only error, if an allocation fails.
 pub fn read_path<'a>(alloc: Global, document: Document<'a>) -> Result<Option<Vec<Step<'a>>>, Error>
     ensures ok { IfOk result (λ path. option_map (λ steps. map step_view steps.items) path
@@ -49,6 +50,7 @@ fn step_of_number<'a>(number: Number) -> Option<Step<'a>>
     ensures { option_map step_view result ≡ step_in (trees.number number) }
 {
     match number {
+        Number::UInt64(u64::MAX) => Some(Step::End),
         Number::UInt64(index) => Some(Step::Index(index as usize)),
         Number::Int64(index) => Some(step_at(index)),
         _ => None,

@@ -6,7 +6,7 @@ use Rattle.std.specs.Bool.{⊤}
 use Rattle.jsonb_value.specs.Tree.{Tree, array, object}
 use Rattle.jsonb_value.specs.Tree.{Trees, no_trees, tree, Pairs, no_pairs, pair, count}
 use Rattle.jsonb_functions.specs.declared.path.Step.{Step}
-use Rattle.jsonb_functions.specs.declared.path.Step.TheVariants.{Key, Index, FromEnd}
+use Rattle.jsonb_functions.specs.declared.path.Step.TheVariants.{Key, Index, FromEnd, End}
 use Rattle.jsonb_functions.specs.Path.{item_place, is_next, step_key}
 use Rattle.jsonb_functions.specs.Edited.{Operation, put, create, insert, remove, Here, nothing, replaced}
 use Rattle.jsonb_functions.specs.Edited.{before, removed, wrapped, can_wrap, here_last, before_if}
@@ -20,6 +20,7 @@ wrapped_room [] v = omega arith
 wrapped_room (Key k ∷ path) v = omega (arith, wrapped_room path v)
 wrapped_room (Index i ∷ path) v = omega (arith, wrapped_room path v)
 wrapped_room (FromEnd i ∷ path) v = omega (arith, wrapped_room path v)
+wrapped_room (End ∷ path) v = omega (arith, wrapped_room path v)
 
 -- What is done adds at most so many bytes to the children.
 abbrev pub Adds : Here → ℕ → Type 0
@@ -113,6 +114,7 @@ key_in_step : (s : Step) → key_room (step_key s) ≤ step_room s
 key_in_step (Key k) = omega arith
 key_in_step (Index i) = omega arith
 key_in_step (FromEnd i) = omega arith
+key_in_step End = omega arith
 
 pub edited_room : (path : List Step) (op : Operation) (t : Tree)
     → room (edited path op t) ≤ room t + (operation_room op + path_room path)

@@ -1,6 +1,8 @@
 -- How many bytes two trees take together, and how many the steps of a path may add.
 use Rattle.std.proofs.Common.{◌≡◌, ℕ, ◌+◌, ◌*◌, ◌≤◌, List, [], ◌∷◌, length, refl, ap, map, inl, inr}
-use Rattle.std.proofs.Common.{arith, length-append, Option, None, Some, ℤ, pos, negsuc}
+use Rattle.std.proofs.Common.{arith, length-append, Option, None, Some, ℤ, pos, negsuc, Bool, true}
+use Rattle.std.proofs.Common.{false}
+use Rattle.std.specs.Prelude.{◌-◌, ◌^◌, ◌==◌, if◌then◌else◌}
 use Rattle.std.specs.Ordering.{nat_cmp}
 use Rattle.std.specs.Cmp.Lexicographic.{slice_cmp}
 use Rattle.std.specs.declared.cmp.Ordering.{Ordering}
@@ -12,10 +14,10 @@ use Rattle.jsonb_value.specs.Tree.{Trees, no_trees, tree, Pairs, no_pairs, pair,
 use Rattle.jsonb_codec.specs.Canon.{canon}
 use Rattle.jsonb_codec.specs.Doc.{Doc, Payload, Children, type_of}
 use Rattle.jsonb_functions.specs.Joined.{put_beside, with_key, merged, items_or_one, append_trees, joined}
-use Rattle.jsonb_functions.specs.StoredPath.{StepView, key, index, from_end, step_view, step_to, step_in}
-use Rattle.jsonb_functions.specs.StoredPath.{step_then, steps_in, path_in}
+use Rattle.jsonb_functions.specs.StoredPath.{StepView, key, index, past_end, step_view, step_to}
+use Rattle.jsonb_functions.specs.StoredPath.{step_in, step_then, steps_in, path_in, stored_index}
 use Rattle.jsonb_functions.specs.declared.path.Step.{Step}
-use Rattle.jsonb_functions.specs.declared.path.Step.TheVariants.{Key, Index, FromEnd}
+use Rattle.jsonb_functions.specs.declared.path.Step.TheVariants.{Key, Index, FromEnd, End}
 use Rattle.kohiblad.proofs.Rooms.{room, rooms, pair_rooms, path_room}
 use Rattle.jsonb_codec.proofs.Words.{length-word-append}
 use Rattle.kohiblad.proofs.StoredRooms.{written_room}
@@ -64,8 +66,7 @@ joined_room t u = array_room t u
 -- what the steps of a path may add, by what they are
 abbrev view_room : StepView → ℕ
 view_room (key k) = 12 + length k
-view_room (index i) = 12
-view_room (from_end i) = 12
+view_room s = 12
 
 abbrev views_room : List StepView → ℕ
 views_room [] = 0
@@ -76,17 +77,26 @@ viewed [] = refl
 viewed (Key k ∷ path) = omega (arith, viewed path)
 viewed (Index i ∷ path) = omega (arith, viewed path)
 viewed (FromEnd i ∷ path) = omega (arith, viewed path)
+viewed (End ∷ path) = omega (arith, viewed path)
 
 to_room : (z : ℤ) → view_room (step_to z) ≡ 12
 to_room (pos n) = refl
 to_room (negsuc n) = refl
 
+either_room : (is_greatest : Bool) (n : ℕ)
+    → view_room (if is_greatest then past_end else index n) ≡ 12
+either_room true n = refl
+either_room false n = refl
+
+index_room : (n : ℕ) → view_room (stored_index n) ≡ 12
+index_room n = either_room (n == 2 ^ 64 - 1) n
+
 step_len : (t : Tree) (p : List ℕ) (s : StepView) → Payload t p → step_in t ≡ Some s
     → view_room s ≤ 3 * (4 + length p)
 step_len (text k) p s h e = let same : key k ≡ s = cc in
     omega (arith, ap view_room same, ap length h.0)
-step_len (number (UInt64 n)) p s h e = let same : index n ≡ s = cc in
-    omega (arith, ap view_room same)
+step_len (number (UInt64 n)) p s h e = let same : stored_index n ≡ s = cc in
+    omega (arith, ap view_room same, index_room n)
 step_len (number (Int64 z)) p s h e = let same : step_to z ≡ s = cc in
     omega (arith, ap view_room same, to_room z)
 step_len (number (Decimal64 d)) p s h e = absurd cc

@@ -5,7 +5,7 @@ use Rattle.jsonb_value.specs.Tree.{Trees, no_trees, tree, Pairs, no_pairs, pair}
 use Rattle.jsonb_value.specs.NumCode.{number_payload}
 use Rattle.jsonb_value.specs.ExtCode.{extension_payload}
 use Rattle.jsonb_functions.specs.declared.path.Step.{Step}
-use Rattle.jsonb_functions.specs.declared.path.Step.TheVariants.{Key, Index, FromEnd}
+use Rattle.jsonb_functions.specs.declared.path.Step.TheVariants.{Key}
 use Rattle.jsonb_functions.specs.Edited.{Operation, put, create, insert, remove}
 
 abbrev mutual
@@ -32,8 +32,7 @@ abbrev mutual
 -- The bytes of a container that is made for a step.
 abbrev pub step_room : Step → ℕ
 step_room (Key k) = 12 + length k.now
-step_room (Index i) = 12
-step_room (FromEnd i) = 12
+step_room s = 12
 
 -- Those of the containers for all steps.
 abbrev pub path_room : List Step → ℕ

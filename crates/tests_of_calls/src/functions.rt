@@ -168,14 +168,14 @@ fn leads_to(alloc: Global, path: &[Selector], numbers: &[u64]) -> Result<bool, E
 #[test]
 fn values_selected_by_paths_with_wildcards(rt: HostRuntime) -> Result<(), Fail> {
     let rates = [
-        Selector::Key("segments"),
+        Selector::Step(Step::Key("segments")),
         Selector::AllItems,
-        Selector::Key("HR"),
+        Selector::Step(Step::Key("HR")),
     ];
     assert!(rt; leads_to(rt.alloc(), &rates, &[73, 135])?);
     let last = [
         Selector::AllMembers,
-        Selector::FromEnd(0),
+        Selector::Step(Step::FromEnd(0)),
         Selector::AllMembers,
         Selector::AllItems,
     ];
@@ -185,10 +185,10 @@ fn values_selected_by_paths_with_wildcards(rt: HostRuntime) -> Result<(), Fail> 
         last: Bound::FromEnd(0),
     };
     let second = [
-        Selector::Key("segments"),
+        Selector::Step(Step::Key("segments")),
         range,
-        Selector::Key("at"),
-        Selector::Index(1),
+        Selector::Step(Step::Key("at")),
+        Selector::Step(Step::Index(1)),
     ];
     assert!(rt; leads_to(rt.alloc(), &second, &[12])?);
     assert!(rt; leads_to(rt.alloc(), &[Selector::AllItems], &[])?);
@@ -342,10 +342,10 @@ fn leads_above(alloc: Global, limit: Document, rate: u64) -> Result<bool, Error>
     }))?;
     let condition = Condition { terms };
     let path = [
-        Selector::Key("segments"),
+        Selector::Step(Step::Key("segments")),
         Selector::AllItems,
         Selector::Filter(condition),
-        Selector::Key("HR"),
+        Selector::Step(Step::Key("HR")),
     ];
     leads_to(alloc, &path, &[rate])
 }
@@ -411,9 +411,13 @@ fn documents_of_paths(rt: HostRuntime) -> Result<(), Fail> {
     let path = [Step::Key("a"), Step::Index(7), Step::FromEnd(0)];
     let made = document_of_path(rt.alloc(), &path)?;
     assert!(rt; is_made_of(rt.alloc(), made, "[\"a\",7,-1]")?);
-    let far = [Step::Index(usize::MAX), Step::FromEnd(usize::MAX)];
+    let far = [
+        Step::End,
+        Step::Index(usize::MAX),
+        Step::FromEnd(usize::MAX),
+    ];
     let made = document_of_path(rt.alloc(), &far)?;
-    let text = "[18446744073709551615,-9223372036854775808]";
+    let text = "[18446744073709551615,18446744073709551615,-9223372036854775808]";
     assert!(rt; is_made_of(rt.alloc(), made, text)?);
     Ok(())
 }
