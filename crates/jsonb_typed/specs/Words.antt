@@ -1,5 +1,6 @@
 -- The names that the clauses of this crate cite, passed on from one place.
 pub use Rattle.std.specs.Int.{w128}
+pub use Rattle.std.specs.List.{after_first, before_first}
 pub use Rattle.jsonb_value.specs.ExtCode.{extension_of}
 pub use Rattle.jsonb_value.specs.Json.Numeral.{number_of}
 pub use Rattle.jsonb_value.specs.Order.{fraction_of}
@@ -19,6 +20,8 @@ pub use Rattle.jsonb_typed.specs.Types.{IsDecimal, IsInt64, IsNumber, IsText, Is
 pub use Rattle.jsonb_typed.specs.Types.{extension_tree}
 pub use Rattle.jsonb_typed.specs.LeastTypes.{IsFirstHeld, IsHeld, IsHeldAt, IsValueOf}
 pub use Rattle.jsonb_typed.specs.LeastTypes.{greatest_scale, member_scale, types_in_order}
+pub use Rattle.jsonb_typed.specs.TypeNames.{IsScale, IsType, ends_word, scale_of_digits}
+pub use Rattle.jsonb_typed.specs.TypeNames.{type_named, type_text, type_word}
 pub use Rattle.jsonb_typed.specs.TypeValues.{LeavesNull, StandsIn, ValueOf}
 pub use Rattle.jsonb_typed.specs.Surveys.{cell_at, is_tree, member_cell, no_rows, one_more}
 pub use Rattle.jsonb_typed.specs.Surveys.{survey_of, widened, with_cell, with_extension}
