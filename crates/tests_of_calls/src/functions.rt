@@ -358,6 +358,35 @@ fn values_kept_by_a_filter(rt: HostRuntime) -> Result<(), Fail> {
     Ok(())
 }
 
+// So many filters in turn, each of which keeps a value that equals another.
+fn filters_in_turn<'a>(
+    alloc: Global,
+    value: Node<'a>,
+    count: usize,
+) -> Result<Vec<Selector<'a>>, Error> {
+    let mut path = Vec::with_capacity(alloc, count)?;
+    for _ in 0..count {
+        let mut terms = Vec::with_capacity(alloc, 1)?;
+        terms.push(Term::Test(Test {
+            path: Vec::new(alloc),
+            comparison: Comparison::Equal,
+            value,
+        }))?;
+        path.push(Selector::Filter(Condition { terms }))?;
+    }
+    Ok(path)
+}
+
+#[test]
+fn a_million_filters_take_no_stack(rt: HostRuntime) -> Result<(), Fail> {
+    let two = OwnedJsonb::parse(rt.alloc(), "2")?;
+    let document = document_of(&two)?;
+    let path = filters_in_turn(rt.alloc(), document.value(), 1_000_000)?;
+    let nodes = select(rt.alloc(), document, &path)?;
+    assert!(rt; are_numbers(&nodes, &[2]));
+    Ok(())
+}
+
 // How many values a path selects in so many steps of {"a":2}, as far as these suffice.
 fn selected_within(alloc: Global, text: &str, steps: usize) -> Result<Option<usize>, Error> {
     let owned = OwnedJsonb::parse(alloc, "{\"a\":2}")?;
