@@ -1053,12 +1053,14 @@ static inline struct kohiblad_place kohiblad_get_path(const uint8_t *bytes, size
  * wildcards, ranges, lists and filters, and a key with a space in it is written between quotes. The
  * comparison is `==`, `!=` or `<>`, `<`, `<=`, `>` or `>=`, with one space before and after it, and
  * the literal `null`, `true`, `false`, a JSON number, which is read exactly, or a string without
- * quotes and escapes in it, in which a backslash is a backslash. `&&` and `||` join comparisons, in
- * groups in parentheses, and `!` turns a group. INVALID_UTF8 if the text is not UTF-8;
- * INVALID_JSONB if the bytes are not a document of at most this depth; OTHER_KIND if the text is
- * not a path; OUT_OF_MEMORY if an allocation fails; NO_ROOM if `out` is too short. If the status is
- * not OK, `out` is unchanged, and `*count` is 0, or for NO_ROOM the number of places. Each list
- * multiplies the time and the places of what follows it by the number of its indexes. */
+ * quotes and escapes in it, in which a backslash is a backslash. `exists(@.price)` in place of a
+ * comparison keeps a value if such a path leads to a value, which may be null, and
+ * `!exists(@.price)` if it leads nowhere. `&&` and `||` join these, in groups in parentheses, and
+ * `!` turns a group. INVALID_UTF8 if the text is not UTF-8; INVALID_JSONB if the bytes are not a
+ * document of at most this depth; OTHER_KIND if the text is not a path; OUT_OF_MEMORY if an
+ * allocation fails; NO_ROOM if `out` is too short. If the status is not OK, `out` is unchanged, and
+ * `*count` is 0, or for NO_ROOM the number of places. Each list multiplies the time and the places
+ * of what follows it by the number of its indexes. */
 static inline uint32_t kohiblad_select(const uint8_t *bytes, size_t size, const uint8_t *path,
     size_t path_size, size_t depth, struct kohiblad_place *out, size_t room, size_t *count)
     KOHIBLAD_INLINE("kohiblad_select");
@@ -1067,12 +1069,12 @@ static inline uint32_t kohiblad_select(const uint8_t *bytes, size_t size, const 
  * more than `steps` steps, for a path that others chose. There is a step for each value that a step
  * of the path is asked of, and one for each of its items or members, or of the bytes of a text, or
  * of binary or opaque data; a list of indexes takes as many for each of them. A filter takes one
- * for each comparison, `&&`, `||`, `!(`, `(` and `)`, and for a comparison also one for each item,
- * member or byte of each value on the way of its path: `$.*?(@ > 1)` takes 3 of {"a":2}.
- * INVALID_UTF8 if the text is not UTF-8; INVALID_JSONB if the bytes are not a document of at most
- * this depth; OTHER_KIND if the text is not a path; TOO_MANY_STEPS if the steps do not suffice;
- * OUT_OF_MEMORY if an allocation fails; NO_ROOM if `out` is too short. If the status is not OK,
- * `out` is unchanged, and `*count` is 0, or for NO_ROOM the number of places. */
+ * for each comparison, `exists`, `&&`, `||`, `!(`, `(` and `)`, and for a comparison or `exists`
+ * also one for each item, member or byte of each value on the way of its path: `$.*?(@ > 1)` takes
+ * 3 of {"a":2}. INVALID_UTF8 if the text is not UTF-8; INVALID_JSONB if the bytes are not a
+ * document of at most this depth; OTHER_KIND if the text is not a path; TOO_MANY_STEPS if the steps
+ * do not suffice; OUT_OF_MEMORY if an allocation fails; NO_ROOM if `out` is too short. If the
+ * status is not OK, `out` is unchanged, and `*count` is 0, or for NO_ROOM the number of places. */
 static inline uint32_t kohiblad_select_within(const uint8_t *bytes, size_t size,
     const uint8_t *path, size_t path_size, size_t depth, size_t steps, struct kohiblad_place *out,
     size_t room, size_t *count) KOHIBLAD_INLINE("kohiblad_select_within");

@@ -357,12 +357,15 @@ def spaced_paths():
             ('$.a[*]?(@.b == "x" || @.b == "y" && @."c d" == 1)."c d"', "1"),
             ('$.a[*]?((@.b == "x" || @.b == "y")&&@."c d" > 1)."c d"', "2"),
             ('$.a[*] ? ( ! ( @.b == "x" || @.none == 1 ) )."c d"', "2"),
-            ("$.a[*]?(!(@.none == 1))[*]", ""), ("$.total?(!(!((@ == 9001))))", "9001")):
+            ("$.a[*]?(!(@.none == 1))[*]", ""), ("$.total?(!(!((@ == 9001))))", "9001"),
+            ('$.a[*] ? (exists (@."c d") && ! exists(@.none))."c d"', "12"),
+            ("$?(exists(@.a[2]) || @.total == 1).total", "")):
         assert "".join(selected(rows, path)) == answer, path
     for path in ("$.f()", "$.a.size()", "$.g ", "$.total .x", "$?(@.f() == 1)",
                  "$ ?(@.total > 1) ", "$ ? (@.total>1)", "$.total ? @ > 1",
                  "$?(@.total > 1 &&)", "$?(@.total > 1 & @ > 1)", "$?(!@.total > 1)", "$?()",
-                 "$?((@.total > 1)", "$?(@.total > 1))", "$?(|| @.total > 1)"):
+                 "$?((@.total > 1)", "$?(@.total > 1))", "$?(|| @.total > 1)",
+                 "$?(exists(@.total)", "$?(exists(@.a[*]))", "$?(exists(@.total) == true)"):
         assert selected(rows, path) == "OtherKind", path
 
 

@@ -231,12 +231,16 @@ class PathTest(FunctionTest):
                            ("?(!(@.of == 1))", [1, 2, 3, 4]),
                            ("?(@.of == 1 || @.of == \"1\" && @.of == null)", [0]),
                            ("?((@.of == 1 || @.of == \"1\") && @.of != 1)", [1]),
-                           (" ? ( ! ( @.of == 1 )&&@.of <> null)", [1])):
+                           (" ? ( ! ( @.of == 1 )&&@.of <> null)", [1]),
+                           ("?(exists(@.of))", [0, 1, 2]), ("?(!exists(@.of))", [3, 4]),
+                           ("?( ! exists ( @.of ) && exists( @ ) )", [3, 4]),
+                           ("?(exists(@.\"a b\") || @.of == null)", [2, 3])):
             self.assertEqual(row.select("$[*]" + text), [row[number] for number in kept], text)
         for text in ("?(@.of == 1", "?(@.of ==  1)", "?(@.of = 1)", "?(@.of == a)",
                      "?(@.of[*] == 1)", "?(@ == [1])", "?(@.of == \"\"\")", "?(@.a b == 1)", ".a?",
                      "?(!@.of == 1)", "?(@.of == 1 &&)", "?(@.of == 1 & @.of == 1)",
-                     "?((@.of == 1)", "?(@.of == 1))", "?()"):
+                     "?((@.of == 1)", "?(@.of == 1))", "?()", "?(exists(@.of)", "?(exists(of))",
+                     "?(exists(@[*]))", "?(exists(@.of == 1))", "?(exists)"):
             self.assertRaises(PathError, row.select, "$[*]" + text)
 
     def test_many_values_and_texts_that_are_no_paths(self):

@@ -153,7 +153,8 @@ impl<'a> RawJsonb<'a> {
     /// The text is `$` and then its steps: `.name` or `."any name"` for a key, `[0]` for an item,
     /// `[#-1]` for the last one, `[*]` for all items, `[0 to #-2]` for those from one to another,
     /// and `.*` for all values of an object. `?(@.price < 3)` keeps a value if what is at the path
-    /// after `@` compares so with a literal; `&&` and `||` join comparisons, in groups in
+    /// after `@` compares so with a literal, `?(exists(@.price))` if there is something, and
+    /// `?(!exists(@.price))` if there is nothing; `&&` and `||` join these, in groups in
     /// parentheses, and `!` turns a group.
     ///
     /// ```
@@ -178,9 +179,9 @@ impl<'a> RawJsonb<'a> {
     /// The same, or `None` if it takes more than so many steps, for a path that others chose. There
     /// is a step for each value that a step of the path is asked of, and one for each of its items
     /// or members, or of the bytes of a text, or of binary or opaque data; a list of indexes takes
-    /// as many for each of them. A filter takes one for each comparison, `&&`, `||`, `!(`, `(` and
-    /// `)`, and for a comparison also one for each item, member or byte of each value on the way of
-    /// its path.
+    /// as many for each of them. A filter takes one for each comparison, `exists`, `&&`, `||`,
+    /// `!(`, `(` and `)`, and for a comparison or `exists` also one for each item, member or byte
+    /// of each value on the way of its path.
     ///
     /// # Errors
     ///

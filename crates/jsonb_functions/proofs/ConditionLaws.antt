@@ -8,7 +8,8 @@ use Rattle.jsonb_functions.specs.declared.filter.Term.{Term}
 use Rattle.jsonb_functions.specs.declared.filter.Term.TheVariants as terms
 use Rattle.jsonb_functions.specs.declared.filter.Verdict.{Verdict}
 use Rattle.jsonb_functions.specs.Conditions.{AllOf, AnyOf, Single, all_of, all_of_one, all_terms}
-use Rattle.jsonb_functions.specs.Conditions.{any_terms, group, meets_all, meets_any, meets_single}
+use Rattle.jsonb_functions.specs.Conditions.{any_terms, finds, finds_none, group}
+use Rattle.jsonb_functions.specs.Conditions.{meets_all, meets_any, meets_single}
 use Rattle.jsonb_functions.specs.Conditions.{one_of, single_terms, some_of, tests, turned}
 use Rattle.jsonb_functions.specs.Filter.{after_term, before_and, before_close, before_open}
 use Rattle.jsonb_functions.specs.Filter.{before_or, before_test, holds, verdict, verdict_before}
@@ -62,6 +63,8 @@ open_deeper b c (suc (suc n)) = omega arith
 pub one_deeper : (t : Tree) (term : Term) (v : Verdict)
     → (after_term t term v).passing ≤ suc v.passing
 one_deeper t (terms.Test test) v = test_deeper _ v v.passing refl
+one_deeper t (terms.Exists path) v = test_deeper _ v v.passing refl
+one_deeper t (terms.NotExists path) v = test_deeper _ v v.passing refl
 one_deeper t terms.And v = and_deeper v.holds v.passing
 one_deeper t terms.Or v = or_deeper v.holds v.passing
 one_deeper t terms.Open v = open_deeper v.holds _ v.passing
@@ -106,6 +109,8 @@ mutual
   single_passed : (t : Tree) (s : Single) (b : Bool) (n : ℕ)
       → verdict_before t (verdict b (suc n)) (single_terms s) ≡ verdict b (suc n)
   single_passed t (tests test) b n = refl
+  single_passed t (finds path) b n = refl
+  single_passed t (finds_none path) b n = refl
   single_passed t (group a) b n =
       ap (λ w. after_term t terms.Open w)
       (before_joined t (verdict b (suc n)) (any_terms a) (terms.Close ∷ [])
@@ -217,6 +222,8 @@ mutual
   single_comes : (t : Tree) (s : Single) (b : Bool)
       → verdict_before t (verdict b 0) (single_terms s) ≡ verdict (meets_single s t) 0
   single_comes t (tests test) b = refl
+  single_comes t (finds path) b = refl
+  single_comes t (finds_none path) b = refl
   single_comes t (group a) b =
       let inner = any_comes t a b in
       ap (λ w. after_term t terms.Open w)

@@ -1,5 +1,5 @@
 -- Filters in the text of a path.
-use Rattle.std.proofs.Common.{◌≡◌, ℕ, List, [], ◌∷◌, ◌++◌, map, refl, sym, Bool, true, false}
+use Rattle.std.proofs.Common.{◌≡◌, ℕ, List, [], ◌∷◌, ◌++◌, refl, sym, Bool, true, false}
 use Rattle.std.proofs.Common.{ap, ◌∙◌, subst, Bor, chars, inl, inr}
 use Rattle.std.specs.Prelude.{Option, None, Some, option_map, MatchOption, bytes_eq}
 use Rattle.std.specs.Prelude.{codes, if◌then◌else◌}
@@ -19,14 +19,12 @@ use Rattle.jsonb_functions.specs.declared.filter.Comparison.{Comparison}
 use Rattle.jsonb_functions.specs.declared.filter.Comparison.TheVariants as comparisons
 use Rattle.jsonb_functions.specs.declared.filter.Term.{Term}
 use Rattle.jsonb_functions.specs.declared.filter.Term.TheVariants as terms
-use Rattle.jsonb_functions.specs.declared.selection.Selector.{Selector}
 use Rattle.jsonb_functions.specs.declared.path.Step.{Step}
-use Rattle.jsonb_functions.specs.StoredPath.{StepView, step_view}
 use Rattle.jsonb_functions.specs.PathText.{BeginsWithLiteral, BeginsWithTest, BeginsWithWord}
-use Rattle.jsonb_functions.specs.PathText.{IsComparison, IsFilterPath, IsLiteralWord, Reads}
-use Rattle.jsonb_functions.specs.PathText.{StopsAt, TermView, all_are, comparison_in, is_in_word}
-use Rattle.jsonb_functions.specs.PathText.{is_not, path_view, scalar_tree, selector_view}
-use Rattle.jsonb_functions.specs.PathText.{single_steps, term_view, tested}
+use Rattle.jsonb_functions.specs.PathText.{IsComparison, IsExists, IsFilterPath, IsLiteralWord}
+use Rattle.jsonb_functions.specs.PathText.{Reads, StopsAt, TermView, after_spaces, all_are}
+use Rattle.jsonb_functions.specs.PathText.{comparison_in, finds, is_in_word, is_not, scalar_tree}
+use Rattle.jsonb_functions.specs.PathText.{steps_view, term_view, tested}
 use Rattle.jsonb_functions.proofs.IndexLaws.{both}
 use Rattle.jsonb_functions.proofs.PathStepLaws.{split_once}
 
@@ -194,96 +192,116 @@ scalar_refused w none t is = none t is.0 (scalar_shallow t is.1)
 
 -- A test whose parts were read.
 module _ (text : List ℕ) where
-  pub no_path : Reads {A = Vec Selector} path_view (IsFilterPath text) None
+  pub no_path : Reads {A = Vec Step} steps_view (IsFilterPath text) None
       → Reads {A = Term} term_view (BeginsWithTest text) None
   no_path read = record {
     is = tt;
-    only = λ t later f. read.only f.path f.after_path f.is_path;
+    only = λ t later f. read.only f.steps (32 ∷ f.after_path) f.is_path;
   }
 
-  module _ (path : Vec Selector) (after : Bor (List ℕ))
-      (path_read : Reads path_view (IsFilterPath text) (Some (path, after))) where
-    pub not_single : None ≡ single_steps (path_view path)
+  module _ (path : Vec Step) (end : Bor (List ℕ))
+      (path_read : Reads steps_view (IsFilterPath text) (Some (path, end))) where
+    pub no_space_there : ((rest : List ℕ) → end.now ≡ 32 ∷ rest → ⊥)
         → Reads {A = Term} term_view (BeginsWithTest text) None
-    not_single none = record {
+    no_space_there other = record {
       is = tt;
       only = λ t later f.
-          let same = path_read.only f.path f.after_path f.is_path in
-          let both : None ≡ Some f.steps = none ∙ ap single_steps same.0 ∙ f.is_single in
-          absurd (cc);
+          let same = path_read.only f.steps (32 ∷ f.after_path) f.is_path in
+          other f.after_path same.1;
     }
 
-    comparison_there : (t : TermView) (rest : List ℕ) (f : BeginsWithTest text t rest)
-        → IsComparison after.now f.comparison f.after_comparison
-    comparison_there t rest f =
-        let same = path_read.only f.path f.after_path f.is_path in
-        subst (λ b. IsComparison b f.comparison f.after_comparison) (sym same.1) f.is_comparison
+    module _ (after : Bor (List ℕ)) (ends : end.now ≡ 32 ∷ after.now) where
+      comparison_there : (t : TermView) (rest : List ℕ) (f : BeginsWithTest text t rest)
+          → IsComparison after.now f.comparison f.after_comparison
+      comparison_there t rest f =
+          let same = path_read.only f.steps (32 ∷ f.after_path) f.is_path in
+          let both : 32 ∷ after.now ≡ 32 ∷ f.after_path = sym ends ∙ same.1 in
+          let tail : after.now ≡ f.after_path = cc in
+          subst (λ b. IsComparison b f.comparison f.after_comparison) (sym tail) f.is_comparison
 
-    pub comparison_lacks : Reads {A = Comparison} (λ y. y) (IsComparison after.now) None
-        → Reads {A = Term} term_view (BeginsWithTest text) None
-    comparison_lacks read = record {
-      is = tt;
-      only = λ t later f.
-          read.only f.comparison f.after_comparison (comparison_there t later f);
-    }
-
-    module _ (comparison : Comparison) (next : Bor (List ℕ))
-        (comparison_read : Reads (λ (y : Comparison). y) (IsComparison after.now)
-        (Some (comparison, next))) where
-      literal_there : (t : TermView) (rest : List ℕ) (f : BeginsWithTest text t rest)
-          → BeginsWithLiteral next.now f.value rest
-      literal_there t rest f =
-          let same = comparison_read.only f.comparison f.after_comparison
-          (comparison_there t rest f) in
-          subst (λ b. BeginsWithLiteral b f.value rest) (sym same.1) f.is_value
-
-      pub literal_lacks : Reads {A = Node} node_tree (BeginsWithLiteral next.now) None
+      pub comparison_lacks : Reads {A = Comparison} (λ y. y) (IsComparison after.now) None
           → Reads {A = Term} term_view (BeginsWithTest text) None
-      literal_lacks read = record {
+      comparison_lacks read = record {
         is = tt;
-        only = λ t later f. read.only f.value later (literal_there t later f);
-      }
-
-      pub test_read : (steps : Vec Step) (value : Node) (rest : Bor (List ℕ))
-          → Some (map step_view steps.items) ≡ single_steps (path_view path)
-          → Reads node_tree (BeginsWithLiteral next.now) (Some (value, rest))
-          → Reads term_view (BeginsWithTest text) (Some (
-            terms.Test (record { path = steps; comparison = comparison; value = value }),
-            rest,
-          ))
-      test_read steps value rest single literal_read = record {
-        is = record {
-          path = path_view path;
-          after_path = after.now;
-          steps = map step_view steps.items;
-          comparison = comparison;
-          after_comparison = next.now;
-          value = node_tree value;
-          is_path = path_read.is;
-          is_single = sym single;
-          is_comparison = comparison_read.is;
-          is_value = literal_read.is;
-          is = refl;
-        };
         only = λ t later f.
-            let same_path = path_read.only f.path f.after_path f.is_path in
-            let same_comparison = comparison_read.only f.comparison f.after_comparison
-            (comparison_there t later f) in
-            let same_value = literal_read.only f.value later (literal_there t later f) in
-            let both : Some (map step_view steps.items) ≡ Some f.steps =
-            single ∙ ap single_steps same_path.0 ∙ f.is_single in
-            let same_steps : map step_view steps.items ≡ f.steps = cc in
-            let view : tested (map step_view steps.items) comparison (node_tree value)
-            ≡ tested f.steps f.comparison f.value =
-            ap (λ x. tested x comparison (node_tree value)) same_steps
-            ∙ ap (λ x. tested f.steps x (node_tree value)) same_comparison.0
-            ∙ ap (λ x. tested f.steps f.comparison x) same_value.0 in
-            (view ∙ sym f.is, same_value.1);
+            read.only f.comparison f.after_comparison (comparison_there t later f);
       }
 
--- The steps of a path, behind a reference.
-pub single_path : (path : Vec Selector) (now : List Selector) → now ≡ path.items
-    → (o : Option (List StepView)) → o ≡ single_steps (map selector_view now)
-    → o ≡ single_steps (path_view path)
-single_path path now same o is =
-    is ∙ ap (λ l. single_steps (map selector_view l)) same
+      module _ (comparison : Comparison) (next : Bor (List ℕ))
+          (comparison_read : Reads (λ (y : Comparison). y) (IsComparison after.now)
+          (Some (comparison, next))) where
+        literal_there : (t : TermView) (rest : List ℕ) (f : BeginsWithTest text t rest)
+            → BeginsWithLiteral next.now f.value rest
+        literal_there t rest f =
+            let same = comparison_read.only f.comparison f.after_comparison
+            (comparison_there t rest f) in
+            subst (λ b. BeginsWithLiteral b f.value rest) (sym same.1) f.is_value
+
+        pub literal_lacks : Reads {A = Node} node_tree (BeginsWithLiteral next.now) None
+            → Reads {A = Term} term_view (BeginsWithTest text) None
+        literal_lacks read = record {
+          is = tt;
+          only = λ t later f. read.only f.value later (literal_there t later f);
+        }
+
+        pub test_read : (value : Node) (rest : Bor (List ℕ))
+            → Reads node_tree (BeginsWithLiteral next.now) (Some (value, rest))
+            → Reads term_view (BeginsWithTest text) (Some (
+              terms.Test (record { path = path; comparison = comparison; value = value }),
+              rest,
+            ))
+        test_read value rest literal_read = record {
+          is = record {
+            steps = steps_view path;
+            after_path = after.now;
+            comparison = comparison;
+            after_comparison = next.now;
+            value = node_tree value;
+            is_path = subst (IsFilterPath text (steps_view path)) ends path_read.is;
+            is_comparison = comparison_read.is;
+            is_value = literal_read.is;
+            is = refl;
+          };
+          only = λ t later f.
+              let same_path = path_read.only f.steps (32 ∷ f.after_path) f.is_path in
+              let same_comparison = comparison_read.only f.comparison f.after_comparison
+              (comparison_there t later f) in
+              let same_value = literal_read.only f.value later (literal_there t later f) in
+              let view : tested (steps_view path) comparison (node_tree value)
+              ≡ tested f.steps f.comparison f.value =
+              ap (λ x. tested x comparison (node_tree value)) same_path.0
+              ∙ ap (λ x. tested f.steps x (node_tree value)) same_comparison.0
+              ∙ ap (λ x. tested f.steps f.comparison x) same_value.0 in
+              (view ∙ sym f.is, same_value.1);
+        }
+
+-- A path that is to lead to a value, or is not to.
+module _ (is_wanted : Bool) (text : List ℕ) where
+  pub no_exists_path : Reads {A = Vec Step} steps_view (IsFilterPath text) None
+      → Reads {A = Term} term_view (IsExists is_wanted text) None
+  no_exists_path read = record {
+    is = tt;
+    only = λ t later (steps, end, path, closes, is). read.only steps end path;
+  }
+
+  module _ (path : Vec Step) (end : Bor (List ℕ))
+      (path_read : Reads steps_view (IsFilterPath text) (Some (path, end))) where
+    pub not_closed : ((rest : List ℕ) → after_spaces end.now ≡ 41 ∷ rest → ⊥)
+        → Reads {A = Term} term_view (IsExists is_wanted text) None
+    not_closed other = record {
+      is = tt;
+      only = λ t later (steps, other_end, path, closes, is).
+          let same = path_read.only steps other_end path in
+          other later (ap after_spaces same.1 ∙ closes);
+    }
+
+    pub exists_read : (term : Term) (rest : Bor (List ℕ)) → after_spaces end.now ≡ 41 ∷ rest.now
+        → term_view term ≡ finds is_wanted (steps_view path)
+        → Reads term_view (IsExists is_wanted text) (Some (term, rest))
+    exists_read term rest closed made = record {
+      is = (steps_view path, end.now, path_read.is, closed, made);
+      only = λ t later (steps, other_end, path, closes, is).
+          let same = path_read.only steps other_end path in
+          let both : 41 ∷ rest.now ≡ 41 ∷ later = sym closed ∙ ap after_spaces same.1 ∙ closes in
+          (made ∙ ap (finds is_wanted) same.0 ∙ sym is, cc);
+    }

@@ -115,7 +115,7 @@ tail_by c word d ds rest true is more e =
     ap (λ x. x ∷ ds) (eqb-true d c is) ∙ ap (λ xs. c ∷ xs) (more ds e)
 tail_by c word d ds rest false is more e = absurd (cc)
 
-tail_word : (word text rest : List ℕ) → tail_after_word word text ≡ Some rest
+pub tail_word : (word text rest : List ℕ) → tail_after_word word text ≡ Some rest
     → text ≡ word ++ rest
 tail_word [] text rest e = cc
 tail_word (c ∷ word) [] rest e = absurd (cc)

@@ -4,18 +4,30 @@ use Rattle.std.proofs.Common.{ap, ◌∙◌, ◌≤◌, subst, arith, Bor, appen
 use Rattle.std.proofs.lemmas.List.{append-nil}
 use Rattle.std.specs.Prelude.{Option, None, Some, ◌↔◌, IfOk, IfSome, Result, Ok, Err}
 use Rattle.std.specs.Global.{Vec}
+use Rattle.std.specs.Prelude.{◌==◌, ◌||◌}
+use Rattle.std.proofs.lemmas.Bool.Decides.{nat_tests}
+use Rattle.jsonb_functions.specs.declared.path.Step.{Step}
 use Rattle.jsonb_functions.specs.declared.selection.Selector.{Selector}
-use Rattle.jsonb_functions.specs.PathText.{SelectorView, selector_view, AreSteps, BeginsWith}
-use Rattle.jsonb_functions.specs.PathText.{BeginsWithStep, EndsName, IsFilter, IsFilterPath}
-use Rattle.jsonb_functions.specs.PathText.{PathText, Reads, ReadsStep, StepsText, StopsAt}
-use Rattle.jsonb_functions.specs.PathText.{after_spaces, is_in_name, list_count, path_view}
+use Rattle.jsonb_functions.specs.PathText.{SelectorView, selector_view, AreFilterSteps, AreSteps}
+use Rattle.jsonb_functions.specs.PathText.{BeginsWith, BeginsWithStep, EndsName, IsFilter}
+use Rattle.jsonb_functions.specs.PathText.{IsFilterPath, PathText, Reads, ReadsStep, StepsText}
+use Rattle.jsonb_functions.specs.PathText.{StopsAt, after_spaces, ends_path, is_in_name}
+use Rattle.jsonb_functions.specs.PathText.{list_count, path_view, single_steps, steps_view}
+use Rattle.jsonb_functions.specs.StoredPath.{StepView}
 use Rattle.jsonb_functions.proofs.HashLaws.{map_joined}
 use Rattle.jsonb_functions.proofs.PathStepLaws.{written_begins}
 
 -- What may come after all steps.
 abbrev pub EndsAs : Bool → List ℕ → Type 0
-EndsAs true end = (rest : List ℕ) × (end ≡ 32 ∷ rest)
+EndsAs true end = ends_path end ≡ true
 EndsAs false end = end ≡ []
+
+no_name_byte : (c : ℕ) → ((c == 32) || (c == 41)) ≡ true → is_in_name true c ≡ false
+no_name_byte c ends = grind (arith, nat_tests)
+
+path_stops : (end : List ℕ) → ends_path end ≡ true → EndsName true end
+path_stops [] ends = tt
+path_stops (c ∷ cs) ends = no_name_byte c ends
 
 -- What follows the steps that were read leads on, and each path of the text begins with them.
 pub record IsRead (Begins : List ℕ → SelectorView → List ℕ → Type 0) (in_filter : Bool)
@@ -28,7 +40,7 @@ pub record IsRead (Begins : List ℕ → SelectorView → List ℕ → Type 0) (
 
 end_stops : (in_filter : Bool) (end : List ℕ) → EndsAs in_filter end
     → EndsName in_filter end
-end_stops true end (rest, e) = subst (EndsName true) (sym e) refl
+end_stops true end ends = path_stops end ends
 end_stops false end e = subst (EndsName false) (sym e) tt
 
 -- Steps that begin as steps do.
@@ -141,9 +153,8 @@ written_step_begins false text s rest h =
       | inr e ↦ subst (EndsName false) (sym e.1) refl
     ]
 
-other_bytes : (c d : ℕ) (text xs ys : List ℕ) → text ≡ c ∷ xs → text ≡ d ∷ ys → (c ≡ d → ⊥) → ⊥
-other_bytes c d text xs ys x y differ =
-    let both : c ∷ xs ≡ d ∷ ys = sym x ∙ y in differ (cc)
+no_end : (c : ℕ) (xs : List ℕ) → ends_path (c ∷ xs) ≡ false → ends_path (c ∷ xs) ≡ true → ⊥
+no_end c xs other ends = let both : false ≡ true = sym other ∙ ends in absurd (cc)
 
 no_bytes_begin : (c : ℕ) (text xs : List ℕ) → text ≡ c ∷ xs → text ≡ [] → ⊥
 no_bytes_begin c text xs x y = let both : c ∷ xs ≡ [] = sym x ∙ y in absurd (cc)
@@ -154,8 +165,8 @@ pub path_begins : (text : List ℕ) (s : SelectorView) (rest : List ℕ)
 path_begins text s rest h = (
   written_step_begins true text s rest h,
   λ ends. elim (written_begins true text s rest h) [
-    | inl e ↦ other_bytes 46 32 text e.0 ends.0 e.1 ends.1 (λ same. absurd (omega (arith, same)))
-    | inr e ↦ other_bytes 91 32 text e.0 ends.0 e.1 ends.1 (λ same. absurd (omega (arith, same)))
+    | inl e ↦ no_end 46 e.0 refl (subst (λ xs. ends_path xs ≡ true) e.1 ends)
+    | inr e ↦ no_end 91 e.0 refl (subst (λ xs. ends_path xs ≡ true) e.1 ends)
   ],
 )
 
@@ -303,29 +314,67 @@ with_one_list text read few steps p = (
   },
 )
 
--- The path of a filter.
-pub filter_path_read : (text left : List ℕ) (rest : Bor (List ℕ)) (read : Vec Selector)
-    → left ≡ 32 ∷ rest.now → IsRead (BeginsWith true) true text left read.items
-    → Reads path_view (IsFilterPath text) (Some (read, rest))
-filter_path_read text left rest read e h = record {
-  is = subst (λ xs. AreSteps (BeginsWith true) xs text (path_view read)) e
-      (all_steps (BeginsWith true) true path_begins text left read.items h);
+-- The steps of a filter's path.
+pub going_on : (left : List ℕ) → ends_path left ≡ false → EndsAs true left → ⊥
+going_on left other ends = let both : false ≡ true = sym other ∙ ends in absurd (cc)
+
+pub filter_steps_read : (text : List ℕ) (left : Bor (List ℕ)) (read : Vec Selector)
+    → ends_path left.now ≡ true → IsRead (BeginsWith true) true text left.now read.items
+    → Reads path_view (AreFilterSteps text) (Some (read, left))
+filter_steps_read text left read ends h = record {
+  is = (all_steps (BeginsWith true) true path_begins text left.now read.items h, ends);
   only = λ p later is.
-      let same =
-      read_only (BeginsWith true) true path_begins text left read.items (rest.now, e) h
-      (32 ∷ later) (later, refl) p is in
-      let tail : 32 ∷ rest.now ≡ 32 ∷ later = sym e ∙ same.1 in
-      (same.0, cc);
+      read_only (BeginsWith true) true path_begins text left.now read.items ends h later is.1 p
+      is.0;
 }
 
-pub filter_path_none : (text left : List ℕ) (read : List Selector)
-    → ((rest : List ℕ) → left ≡ 32 ∷ rest → ⊥)
+pub filter_steps_none : (text left : List ℕ) (read : List Selector) → ends_path left ≡ false
     → ReadsStep (BeginsWith true) true left None
     → IsRead (BeginsWith true) true text left read
-    → Reads {A = Vec Selector} path_view (IsFilterPath text) None
-filter_path_none text left read other step h = record {
+    → Reads {A = Vec Selector} path_view (AreFilterSteps text) None
+filter_steps_none text left read other step h = record {
   is = tt;
   only = λ p later is.
-      none_read (BeginsWith true) true path_begins text left read (λ ends. other ends.0 ends.1)
-      step h (32 ∷ later) (later, refl) p is;
+      none_read (BeginsWith true) true path_begins text left read
+      (going_on left other) step h later is.1 p is.0;
 }
+
+-- The path of a filter, by its steps.
+module _ (text : List ℕ) where
+  pub no_steps : Reads {A = Vec Selector} path_view (AreFilterSteps text) None
+      → Reads {A = Vec Step} steps_view (IsFilterPath text) None
+  no_steps read = record {
+    is = tt;
+    only = λ steps later (path, are, single). read.only path later are;
+  }
+
+  module _ (path : Vec Selector) (end : Bor (List ℕ))
+      (read : Reads path_view (AreFilterSteps text) (Some (path, end))) where
+    pub filter_path_read : (steps : Vec Step)
+        → Some (steps_view steps) ≡ single_steps (path_view path)
+        → Reads steps_view (IsFilterPath text) (Some (steps, end))
+    filter_path_read steps single = record {
+      is = (path_view path, read.is, sym single);
+      only = λ found later (other, are, is).
+          let same = read.only other later are in
+          let both : Some (steps_view steps) ≡ Some found =
+          single ∙ ap single_steps same.0 ∙ is in
+          (cc, same.1);
+    }
+
+    pub not_single : None ≡ single_steps (path_view path)
+        → Reads {A = Vec Step} steps_view (IsFilterPath text) None
+    not_single none = record {
+      is = tt;
+      only = λ found later (other, are, is).
+          let same = read.only other later are in
+          let both : None ≡ Some found = none ∙ ap single_steps same.0 ∙ is in
+          absurd (cc);
+    }
+
+-- The steps of a path, behind a reference.
+pub single_path : (path : Vec Selector) (now : List Selector) → now ≡ path.items
+    → (o : Option (List StepView)) → o ≡ single_steps (map selector_view now)
+    → o ≡ single_steps (path_view path)
+single_path path now same o is =
+    is ∙ ap (λ l. single_steps (map selector_view l)) same

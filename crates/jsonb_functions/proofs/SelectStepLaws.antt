@@ -154,6 +154,8 @@ extents_within (s ∷ path) t =
 -- A term takes at most as many steps as the tree weighs.
 term_within : (term : Term) (t : Tree) → term_steps term t ≤ weight t
 term_within (terms.Test test) t = extents_within test.path.items t
+term_within (terms.Exists path) t = extents_within path.items t
+term_within (terms.NotExists path) t = extents_within path.items t
 term_within terms.And t = weight_positive t
 term_within terms.Or t = weight_positive t
 term_within terms.Open t = weight_positive t

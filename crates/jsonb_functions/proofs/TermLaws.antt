@@ -4,22 +4,26 @@ use Rattle.std.proofs.Common.{sym, Bool, true, false, ap, ◌∙◌, subst, arit
 use Rattle.std.proofs.Common.{inl, inr, length-append}
 use Rattle.std.proofs.lemmas.List.{append-nil}
 use Rattle.std.specs.Prelude.{Option, None, Some, option_map, IfSome, IfOk, Result, Ok, Err}
-use Rattle.std.specs.Prelude.{if◌then◌else◌, ◌==◌}
+use Rattle.std.specs.Prelude.{if◌then◌else◌, ◌==◌, codes}
 use Rattle.std.specs.Global.{Vec}
 use Rattle.jsonb_value.specs.Tree.{Tree}
 use Rattle.jsonb_functions.specs.declared.filter.Term.{Term}
 use Rattle.jsonb_functions.specs.declared.selection.Selector.{Selector}
 use Rattle.jsonb_functions.specs.declared.selection.Selector.TheVariants as selectors
-use Rattle.jsonb_functions.specs.PathText.{AreSteps, AreTerms, BeginsWith, BeginsWithLiteral}
-use Rattle.jsonb_functions.specs.PathText.{BeginsWithStep, BeginsWithTerm, BeginsWithTest}
-use Rattle.jsonb_functions.specs.PathText.{IsFilter, Reads, Written, bracketed, plain, quoted}
+use Rattle.jsonb_functions.specs.PathText.{AreSteps, AreTerms, BeginsWith, BeginsWithExists}
+use Rattle.jsonb_functions.specs.PathText.{BeginsWithLiteral, BeginsWithStep, BeginsWithTerm}
+use Rattle.jsonb_functions.specs.PathText.{BeginsWithTest, IsExists, IsFilter, IsFilterPath}
+use Rattle.jsonb_functions.specs.PathText.{Reads, SelectorView, TermView, Written, after_spaces}
+use Rattle.jsonb_functions.specs.PathText.{also, bracketed, closes, exists_after, exists_in}
+use Rattle.jsonb_functions.specs.PathText.{filter, finds, if_after, is_space, mark_in, mark_or}
+use Rattle.jsonb_functions.specs.PathText.{opens, opens_not, or_else, plain, quoted}
+use Rattle.jsonb_functions.specs.PathText.{selector_view, state_after, tail_after}
+use Rattle.jsonb_functions.specs.PathText.{tail_after_exists, tail_after_not, tail_after_two}
+use Rattle.jsonb_functions.specs.PathText.{tail_after_word, term_view, terms_view, tested}
 use Rattle.jsonb_functions.specs.PathText.{written_bytes}
-use Rattle.jsonb_functions.specs.PathText.{SelectorView, TermView, after_spaces, also, closes}
-use Rattle.jsonb_functions.specs.PathText.{filter, if_after, is_space, mark_in, mark_or, opens}
-use Rattle.jsonb_functions.specs.PathText.{opens_not, or_else, selector_view, state_after}
-use Rattle.jsonb_functions.specs.PathText.{tail_after, tail_after_not, tail_after_two, term_view}
-use Rattle.jsonb_functions.specs.PathText.{terms_view, tested}
+use Rattle.jsonb_functions.specs.StoredPath.{StepView}
 use Rattle.jsonb_functions.proofs.HashLaws.{map_joined}
+use Rattle.jsonb_functions.proofs.IndexTextLaws.{tail_word}
 
 -- The parts of a pair.
 pair_of : {A B : Type 0} (a c : A) (b d : B)
@@ -123,7 +127,11 @@ closed_by : (text rest after : List ℕ) (t : TermView) (state : Bool × ℕ)
 closed_by text rest after t state e (inl (inner, is, means)) next =
     let both : 41 ∷ rest ≡ 64 ∷ inner = sym e ∙ is in
     let first : ◌≡◌ {A = ℕ} 41 64 = cc in absurd (omega (arith, first))
-closed_by text rest after t state e (inr is) next =
+closed_by text rest after t state e (inr (inl (is_wanted, path, is, means))) next =
+    let none : ◌≡◌ {A = Option (Bool × List ℕ)} None (Some (is_wanted, path)) =
+    ap exists_in (sym e) ∙ is in
+    absurd (cc)
+closed_by text rest after t state e (inr (inr is)) next =
     let same = pair_of closes t rest after (ap mark_in (sym e) ∙ is) in
     let none : ◌≡◌ {A = Option (Bool × ℕ)} None (Some state) =
     ap (λ x. state_after false 0 x) same.0 ∙ next in
@@ -187,7 +195,7 @@ filter_read text inner terms rest e read = record {
       (ap filter same.0 ∙ sym h.4, same.1);
 }
 
--- A test was read, or a mark.
+-- A test was read, a path that is to lead to a value or is not to, or a mark.
 test_is : (text inner : List ℕ) (r : Option (Term × Bor (List ℕ))) → after_spaces text ≡ 64 ∷ inner
     → IfSome r (λ x. BeginsWithTest inner (term_view x.0) x.1.now)
     → IfSome r (λ x. BeginsWithTerm text (term_view x.0) x.1.now)
@@ -200,7 +208,11 @@ test_there text inner t rest e (inl (other, is, h)) =
     let whole : 64 ∷ other ≡ 64 ∷ inner = sym is ∙ e in
     let same : other ≡ inner = cc in
     subst (λ xs. BeginsWithTest xs t rest) same h
-test_there text inner t rest e (inr is) =
+test_there text inner t rest e (inr (inl (is_wanted, path, is, means))) =
+    let none : ◌≡◌ {A = Option (Bool × List ℕ)} None (Some (is_wanted, path)) =
+    ap exists_in (sym e) ∙ is in
+    absurd (cc)
+test_there text inner t rest e (inr (inr is)) =
     let none : ◌≡◌ {A = Option (TermView × List ℕ)} None (Some (t, rest)) =
     ap mark_in (sym e) ∙ is in
     absurd (cc)
@@ -215,27 +227,102 @@ if_test text inner (Ok x) e h = record {
 }
 if_test text inner (Err x) e h = tt
 
+-- What a byte comes before.
+after_one : {A : Type 0} (first : Option (List ℕ)) (f : List ℕ → Option A) (x : A)
+    → if_after first f ≡ Some x → (rest : List ℕ) × (first ≡ Some rest) × (f rest ≡ Some x)
+after_one None f x e = absurd (cc)
+after_one (Some rest) f x e = (rest, refl, e)
+
+mapped_from : {A B : Type 0} (f : A → B) (o : Option A) (y : B) → option_map f o ≡ Some y
+    → (x : A) × (o ≡ Some x) × (f x ≡ y)
+mapped_from f None y e = absurd (cc)
+mapped_from f (Some x) y e = (x, refl, cc)
+
+-- `exists` begins with no mark.
+exists_first : (text path : List ℕ) → tail_after_exists text ≡ Some path
+    → (rest : List ℕ) × (text ≡ codes "exists" ++ rest)
+exists_first text path e =
+    let after = after_one (tail_after_word (codes "exists") text) _ path e in
+    (after.0, tail_word (codes "exists") text after.0 after.1)
+
+no_mark_after : (text rest path : List ℕ) → text ≡ 33 ∷ rest
+    → tail_after_exists (after_spaces rest) ≡ Some path → mark_in text ≡ None
+no_mark_after text rest path e is =
+    let word = exists_first (after_spaces rest) path is in
+    ap mark_in e
+    ∙ ap (λ (xs : List ℕ). mark_or (tail_after 40 xs) opens_not None) word.1
+
+no_mark_by : (text path : List ℕ) (is_wanted : Bool) (first : Option (List ℕ))
+    → tail_after 33 text ≡ first → exists_after first text ≡ Some (is_wanted, path)
+    → mark_in text ≡ None
+no_mark_by text path is_wanted (Some rest) first e =
+    let found = mapped_from _ (tail_after_exists (after_spaces rest)) (is_wanted, path) e in
+    no_mark_after text rest found.0
+    (tail_word (33 ∷ []) text rest (ap (λ o. if_after o (tail_after_word [])) first)) found.1
+no_mark_by text path is_wanted None first e =
+    let found = mapped_from _ (tail_after_exists text) (is_wanted, path) e in
+    let word = exists_first text found.0 found.1 in
+    ap mark_in word.1
+
+exists_is : (text path : List ℕ) (is_wanted : Bool) (r : Option (Term × Bor (List ℕ)))
+    → exists_in (after_spaces text) ≡ Some (is_wanted, path)
+    → IfSome r (λ x. IsExists is_wanted path (term_view x.0) x.1.now)
+    → IfSome r (λ x. BeginsWithTerm text (term_view x.0) x.1.now)
+exists_is text path is_wanted None e h = tt
+exists_is text path is_wanted (Some x) e h = inr (inl (is_wanted, path, e, h))
+
+exists_there : (text path : List ℕ) (is_wanted : Bool) (t : TermView) (rest : List ℕ)
+    → exists_in (after_spaces text) ≡ Some (is_wanted, path) → BeginsWithTerm text t rest
+    → IsExists is_wanted path t rest
+exists_there text path is_wanted t rest e (inl (inner, is, h)) =
+    let none : ◌≡◌ {A = Option (Bool × List ℕ)} None (Some (is_wanted, path)) =
+    ap exists_in (sym is) ∙ e in
+    absurd (cc)
+exists_there text path is_wanted t rest e (inr (inl (other, inner, is, h))) =
+    let same = pair_of other is_wanted inner path (sym is ∙ e) in
+    subst (λ b. IsExists b path t rest) same.0 (subst (λ xs. IsExists other xs t rest) same.1 h)
+exists_there text path is_wanted t rest e (inr (inr is)) =
+    let none : ◌≡◌ {A = Option (TermView × List ℕ)} None (Some (t, rest)) =
+    sym (no_mark_by (after_spaces text) path is_wanted _ refl e) ∙ is in
+    absurd (cc)
+
+pub if_exists : {E : Type 0} (text path : List ℕ) (is_wanted : Bool)
+    (r : Result (Option (Term × Bor (List ℕ))) E)
+    → exists_in (after_spaces text) ≡ Some (is_wanted, path)
+    → IfOk r (Reads term_view (IsExists is_wanted path))
+    → IfOk r (Reads term_view (BeginsWithTerm text))
+if_exists text path is_wanted (Ok x) e h = record {
+  is = exists_is text path is_wanted x e h.is;
+  only = λ t later b. h.only t later (exists_there text path is_wanted t later e b);
+}
+if_exists text path is_wanted (Err x) e h = tt
+
 mark_there : (text : List ℕ) (t : TermView) (rest : List ℕ)
-    → ((inner : List ℕ) → after_spaces text ≡ 64 ∷ inner → ⊥) → BeginsWithTerm text t rest
+    → ((inner : List ℕ) → after_spaces text ≡ 64 ∷ inner → ⊥)
+    → exists_in (after_spaces text) ≡ None → BeginsWithTerm text t rest
     → mark_in (after_spaces text) ≡ Some (t, rest)
-mark_there text t rest other (inl (inner, is, h)) = absurd (other inner is)
-mark_there text t rest other (inr is) = is
+mark_there text t rest other none (inl (inner, is, h)) = absurd (other inner is)
+mark_there text t rest other none (inr (inl (is_wanted, path, is, h))) =
+    let both : ◌≡◌ {A = Option (Bool × List ℕ)} None (Some (is_wanted, path)) = sym none ∙ is in
+    absurd (cc)
+mark_there text t rest other none (inr (inr is)) = is
 
 pub mark_read : (text : List ℕ) (r : Option (Term × Bor (List ℕ)))
     → ((inner : List ℕ) → after_spaces text ≡ 64 ∷ inner → ⊥)
+    → exists_in (after_spaces text) ≡ None
     → option_map (λ x. (term_view x.0, x.1.now)) r ≡ mark_in (after_spaces text)
     → Reads term_view (BeginsWithTerm text) r
-mark_read text None other e = record {
+mark_read text None other lacks e = record {
   is = tt;
   only = λ t later h.
       let none : ◌≡◌ {A = Option (TermView × List ℕ)} None (Some (t, later)) =
-      e ∙ mark_there text t later other h in
+      e ∙ mark_there text t later other lacks h in
       absurd (cc);
 }
-mark_read text (Some (term, rest)) other e = record {
-  is = inr (sym e);
+mark_read text (Some (term, rest)) other lacks e = record {
+  is = inr (inr (sym e));
   only = λ t later h.
-      pair_of (term_view term) t rest.now later (e ∙ mark_there text t later other h);
+      pair_of (term_view term) t rest.now later (e ∙ mark_there text t later other lacks h);
 }
 
 -- What is after a term is shorter than the text.
@@ -258,6 +345,10 @@ steps_shorter end text [] e = omega (arith, ap length e)
 steps_shorter end text (s ∷ path) (rest, (front, e, is), more) =
     omega (arith, joined_shorter text front rest e, steps_shorter end rest path more)
 
+path_shorter : (text : List ℕ) (steps : List StepView) (rest : List ℕ)
+    → IsFilterPath text steps rest → length rest ≤ length text
+path_shorter text steps rest (path, (are, ends), single) = steps_shorter rest text path are
+
 literal_shorter : (text : List ℕ) (t : Tree) (rest : List ℕ) → BeginsWithLiteral text t rest
     → length rest ≤ length text
 literal_shorter text t rest (inl (s, e, all, is)) =
@@ -270,7 +361,7 @@ test_shorter text t rest h =
     let compared = h.is_comparison in
     omega (
       arith,
-      steps_shorter (32 ∷ h.after_path) text h.path h.is_path,
+      path_shorter text h.steps (32 ∷ h.after_path) h.is_path,
       joined_shorter h.after_path compared.0 (32 ∷ h.after_comparison) compared.1,
       literal_shorter h.after_comparison h.value rest h.is_value,
     )
@@ -318,17 +409,63 @@ mark_shorter text t rest =
     (λ ys e. omega (arith, tail_shorter 40 (after_spaces ys) xs e, spaces_shorter ys)))
     (λ none. absurd (cc))))))
 
+exists_tail_shorter : (text path : List ℕ) → tail_after_exists text ≡ Some path
+    → length path ≤ length text
+exists_tail_shorter text path e =
+    let word = after_one (tail_after_word (codes "exists") text) _ path e in
+    let inner = after_one (tail_after 40 (after_spaces word.0)) _ path word.2 in
+    omega (
+      arith,
+      ap length (tail_word (codes "exists") text word.0 word.1),
+      length-append (codes "exists") word.0,
+      spaces_shorter word.0,
+      tail_shorter 40 (after_spaces word.0) inner.0 inner.1,
+      spaces_shorter inner.0,
+      tail_shorter 64 (after_spaces inner.0) path inner.2,
+    )
+
+exists_by_shorter : (text path : List ℕ) (is_wanted : Bool) (first : Option (List ℕ))
+    → tail_after 33 text ≡ first → exists_after first text ≡ Some (is_wanted, path)
+    → length path ≤ length text
+exists_by_shorter text path is_wanted (Some rest) first e =
+    let found = mapped_from _ (tail_after_exists (after_spaces rest)) (is_wanted, path) e in
+    omega (
+      arith,
+      tail_shorter 33 text rest first,
+      spaces_shorter rest,
+      exists_tail_shorter (after_spaces rest) found.0 found.1,
+      ap (λ x. length x.1) found.2,
+    )
+exists_by_shorter text path is_wanted None first e =
+    let found = mapped_from _ (tail_after_exists text) (is_wanted, path) e in
+    omega (arith, exists_tail_shorter text found.0 found.1, ap (λ x. length x.1) found.2)
+
+exists_shorter : (text : List ℕ) (t : TermView) (rest : List ℕ) → BeginsWithExists text t rest
+    → suc (length rest) ≤ length text
+exists_shorter text t rest (is_wanted, path, e, (steps, end, is_path, closed, is)) =
+    omega (
+      arith,
+      exists_by_shorter text path is_wanted _ refl e,
+      path_shorter path steps end is_path,
+      spaces_shorter end,
+      ap length closed,
+    )
+
 pub term_shorter : (text : List ℕ) (t : TermView) (rest : List ℕ) → BeginsWithTerm text t rest
     → suc (length rest) ≤ length text
 term_shorter text t rest (inl (inner, e, h)) =
     omega (arith, spaces_shorter text, ap length e, test_shorter inner t rest h)
-term_shorter text t rest (inr e) =
+term_shorter text t rest (inr (inl e)) =
+    omega (arith, spaces_shorter text, exists_shorter (after_spaces text) t rest e)
+term_shorter text t rest (inr (inr e)) =
     omega (arith, spaces_shorter text, mark_shorter (after_spaces text) t rest e)
 
 -- A term opens at most one group.
 pub state_deeper : (wants : Bool) (depth : ℕ) (t : TermView) (state : Bool × ℕ)
     → Some state ≡ state_after wants depth t → state.1 ≤ suc depth
 state_deeper true depth (tested path comparison u) state e =
+    let same : state ≡ (false, depth) = cc in rw same (omega arith)
+state_deeper true depth (finds is_wanted path) state e =
     let same : state ≡ (false, depth) = cc in rw same (omega arith)
 state_deeper true depth opens state e =
     let same : state ≡ (true, suc depth) = cc in rw same (omega arith)
@@ -338,6 +475,7 @@ state_deeper true depth also state e = absurd (cc)
 state_deeper true depth or_else state e = absurd (cc)
 state_deeper true depth closes state e = absurd (cc)
 state_deeper false depth (tested path comparison u) state e = absurd (cc)
+state_deeper false depth (finds is_wanted path) state e = absurd (cc)
 state_deeper false depth opens state e = absurd (cc)
 state_deeper false depth opens_not state e = absurd (cc)
 state_deeper false depth also state e =

@@ -6,8 +6,8 @@ use Rattle.std.specs.Prelude.{Option, Some, None}
 use Rattle.jsonb_functions.specs.declared.filter.Term.{Term}
 use Rattle.jsonb_functions.specs.declared.filter.Term.TheVariants as terms
 use Rattle.jsonb_functions.specs.Conditions.{AllOf, AnyOf, Single, all_of, all_of_one, all_terms}
-use Rattle.jsonb_functions.specs.Conditions.{any_terms, group, one_of, single_terms, some_of}
-use Rattle.jsonb_functions.specs.Conditions.{tests, turned}
+use Rattle.jsonb_functions.specs.Conditions.{any_terms, finds, finds_none, group, one_of}
+use Rattle.jsonb_functions.specs.Conditions.{single_terms, some_of, tests, turned}
 use Rattle.jsonb_functions.specs.PathText.{AreTerms, state_after, term_view}
 
 -- Terms each of which stands where it can.
@@ -91,6 +91,10 @@ mutual
   from_value [] depth h = let none : true ≡ false = h.0 in absurd (cc)
   from_value (terms.Test t ∷ xs) depth (state, is, more) =
       from_mark xs depth (moved false depth state xs is more) (tests t)
+  from_value (terms.Exists path ∷ xs) depth (state, is, more) =
+      from_mark xs depth (moved false depth state xs is more) (finds path)
+  from_value (terms.NotExists path ∷ xs) depth (state, is, more) =
+      from_mark xs depth (moved false depth state xs is more) (finds_none path)
   from_value (terms.Open ∷ xs) depth (state, is, more) =
       group_goes_on depth xs terms.Open group (λ a. refl)
       (from_value xs (suc depth) (moved true (suc depth) state xs is more))
@@ -116,6 +120,8 @@ mutual
     (xs, refl, λ other. from_mark xs depth (moved false depth state xs is more) other),
   )
   from_mark (terms.Test t ∷ xs) depth (state, is, more) s = absurd (cc)
+  from_mark (terms.Exists path ∷ xs) depth (state, is, more) s = absurd (cc)
+  from_mark (terms.NotExists path ∷ xs) depth (state, is, more) s = absurd (cc)
   from_mark (terms.Open ∷ xs) depth (state, is, more) s = absurd (cc)
   from_mark (terms.OpenNot ∷ xs) depth (state, is, more) s = absurd (cc)
 

@@ -1,13 +1,15 @@
 -- Conditions by what they are made of, as they are written as terms, and when they hold.
 use Rattle.std.specs.Prelude.{List, [], ◌∷◌, ◌++◌, Bool, not, ◌&&◌, ◌||◌}
+use Rattle.std.specs.Global.{Vec}
 use Rattle.jsonb_value.specs.Tree.{Tree}
 use Rattle.jsonb_functions.specs.declared.filter.Term.{Term}
 use Rattle.jsonb_functions.specs.declared.filter.Term.TheVariants as terms
 use Rattle.jsonb_functions.specs.declared.filter.Test.{Test}
-use Rattle.jsonb_functions.specs.Filter.{passes}
+use Rattle.jsonb_functions.specs.declared.path.Step.{Step}
+use Rattle.jsonb_functions.specs.Filter.{leads, passes}
 
 -- One or more parts of which any is to hold, each of one or more of which all are to hold: a test,
--- or a group, which may be turned.
+-- a path that is to lead to a value or is not to, or a group, which may be turned.
 mutual
   pub data AnyOf : Type 0 where
     one_of : AllOf → AnyOf
@@ -19,6 +21,8 @@ mutual
 
   pub data Single : Type 0 where
     tests : Test → Single
+    finds : Vec Step → Single
+    finds_none : Vec Step → Single
     group : AnyOf → Single
     turned : AnyOf → Single
 
@@ -34,6 +38,8 @@ abbrev mutual
 
   pub single_terms : Single → List Term
   single_terms (tests test) = terms.Test test ∷ []
+  single_terms (finds path) = terms.Exists path ∷ []
+  single_terms (finds_none path) = terms.NotExists path ∷ []
   single_terms (group a) = terms.Open ∷ (any_terms a ++ (terms.Close ∷ []))
   single_terms (turned a) = terms.OpenNot ∷ (any_terms a ++ (terms.Close ∷ []))
 
@@ -49,5 +55,7 @@ abbrev mutual
 
   pub meets_single : Single → Tree → Bool
   meets_single (tests test) t = passes test t
+  meets_single (finds path) t = leads path.items t
+  meets_single (finds_none path) t = not (leads path.items t)
   meets_single (group a) t = meets_any a t
   meets_single (turned a) t = not (meets_any a t)

@@ -1,6 +1,6 @@
 -- The conditions on values by which paths leave out values.
 use Rattle.std.specs.Prelude.{ℕ, zero, suc, List, [], ◌∷◌, Bool, true, false, not}
-use Rattle.std.specs.Prelude.{if◌then◌else◌, Option, None, Some}
+use Rattle.std.specs.Prelude.{if◌then◌else◌, Option, None, Some, is_some}
 use Rattle.std.specs.Ordering.{is_eq, is_ge, is_gt, is_le, is_lt, is_ne}
 use Rattle.std.specs.declared.cmp.Ordering.{Ordering}
 use Rattle.jsonb_value.specs.Tree.{Tree}
@@ -13,6 +13,7 @@ use Rattle.jsonb_functions.specs.declared.filter.Term.{Term}
 use Rattle.jsonb_functions.specs.declared.filter.Term.TheVariants as terms
 use Rattle.jsonb_functions.specs.declared.filter.Test.{Test}
 use Rattle.jsonb_functions.specs.declared.filter.Verdict.{Verdict}
+use Rattle.jsonb_functions.specs.declared.path.Step.{Step}
 use Rattle.jsonb_functions.specs.Found.{found_at}
 
 -- Whether trees in this order compare so.
@@ -33,6 +34,10 @@ found_compares comparison (Some t) u = compares comparison (tree_cmp t u)
 abbrev pub passes : Test → Tree → Bool
 passes test t =
     found_compares test.comparison (found_at test.path.items t) (node_tree test.value)
+
+-- Whether a path leads from a tree to one.
+abbrev pub leads : List Step → Tree → Bool
+leads path t = is_some (found_at path t)
 
 abbrev pub verdict : Bool → ℕ → Verdict
 verdict b n = record { holds = b; passing = n }
@@ -65,6 +70,8 @@ after_open v value = before_open v.holds v.passing value
 
 abbrev pub after_term : Tree → Term → Verdict → Verdict
 after_term t (terms.Test test) v = before_test (passes test t) v v.passing
+after_term t (terms.Exists path) v = before_test (leads path.items t) v v.passing
+after_term t (terms.NotExists path) v = before_test (not (leads path.items t)) v v.passing
 after_term t terms.And v = before_and v.holds v.passing
 after_term t terms.Or v = before_or v.holds v.passing
 after_term t terms.Open v = after_open v v.holds

@@ -1,6 +1,6 @@
 -- The paths that texts give.
 use Rattle.std.specs.Prelude.{◌≡◌, ◌⊎◌, ⊤, ℕ, zero, suc, ◌≤◌, ◌-◌, ◌^◌, min, List, [], ◌∷◌, ◌++◌}
-use Rattle.std.specs.Prelude.{Bool, true, false, not, ◌&&◌, ◌==◌, if◌then◌else◌, bytes_eq}
+use Rattle.std.specs.Prelude.{Bool, true, false, not, ◌&&◌, ◌||◌, ◌==◌, if◌then◌else◌, bytes_eq}
 use Rattle.std.specs.Prelude.{codes, chars, map, nat_lt}
 use Rattle.std.specs.Prelude.{Option, Some, None, option_map, IfSome, MatchOption}
 use Rattle.std.specs.Borrow.{Bor}
@@ -16,6 +16,7 @@ use Rattle.jsonb_functions.specs.declared.filter.Comparison.{Comparison}
 use Rattle.jsonb_functions.specs.declared.filter.Comparison.TheVariants as comparisons
 use Rattle.jsonb_functions.specs.declared.filter.Term.{Term}
 use Rattle.jsonb_functions.specs.declared.filter.Term.TheVariants as terms
+use Rattle.jsonb_functions.specs.declared.path.Step.{Step}
 use Rattle.jsonb_functions.specs.declared.selection.Bound.{Bound}
 use Rattle.jsonb_functions.specs.declared.selection.Bound.TheVariants as bounds
 use Rattle.jsonb_functions.specs.declared.selection.Selector.{Selector}
@@ -24,9 +25,11 @@ use Rattle.jsonb_functions.specs.Selected.{step_at}
 use Rattle.jsonb_functions.specs.StoredPath.{StepView, key, step_then, step_view}
 
 -- A term of a condition, without where its keys are stored; a test has the steps of its path, the
--- comparison and the tree to compare with.
+-- comparison and the tree to compare with, and a path that is to lead to a value, or is not to,
+-- whether it is to.
 pub data TermView : Type 0 where
   tested : List StepView → Comparison → Tree → TermView
+  finds : Bool → List StepView → TermView
   also : TermView
   or_else : TermView
   opens : TermView
@@ -35,6 +38,8 @@ pub data TermView : Type 0 where
 
 abbrev pub term_view : Term → TermView
 term_view (terms.Test t) = tested (map step_view t.path.items) t.comparison (node_tree t.value)
+term_view (terms.Exists path) = finds true (map step_view path.items)
+term_view (terms.NotExists path) = finds false (map step_view path.items)
 term_view terms.And = also
 term_view terms.Or = or_else
 term_view terms.Open = opens
@@ -309,9 +314,20 @@ abbrev pub StopsAt : (ℕ → Bool) → List ℕ → Type 0
 StopsAt test [] = ⊤
 StopsAt test (c ∷ cs) = test c ≡ false
 
--- The text begins with a filter's path and a space.
-abbrev pub IsFilterPath : List ℕ → List SelectorView → List ℕ → Type 0
-IsFilterPath text path rest = AreSteps (BeginsWith true) (32 ∷ rest) text path
+-- A filter's path ends before a space or a closing parenthesis.
+abbrev pub ends_path : List ℕ → Bool
+ends_path [] = false
+ends_path (c ∷ cs) = (c == 32) || (c == 41)
+
+-- The text begins with the steps of a filter's path, which ends there.
+abbrev pub AreFilterSteps : List ℕ → List SelectorView → List ℕ → Type 0
+AreFilterSteps text path rest =
+    AreSteps (BeginsWith true) rest text path × (ends_path rest ≡ true)
+
+-- The text begins with a filter's path. There are no wildcards, ranges, lists and filters in it.
+abbrev pub IsFilterPath : List ℕ → List StepView → List ℕ → Type 0
+IsFilterPath text steps rest = (path : List SelectorView)
+    × AreFilterSteps text path rest × (single_steps path ≡ Some steps)
 
 -- The text begins with a comparison and a space.
 abbrev pub IsComparison : List ℕ → Comparison → List ℕ → Type 0
@@ -333,16 +349,13 @@ abbrev pub BeginsWithLiteral : List ℕ → Tree → List ℕ → Type 0
 BeginsWithLiteral text t rest = BeginsWithString text t rest ⊎ BeginsWithWord text t rest
 
 -- The text begins with a test after its `@`: a path, a space, a comparison, a space and a literal.
--- There are no wildcards, ranges and filters in its path.
 pub record BeginsWithTest (text : List ℕ) (t : TermView) (rest : List ℕ) : Type 0 where
-  pub path : List SelectorView
-  pub after_path : List ℕ
   pub steps : List StepView
+  pub after_path : List ℕ
   pub comparison : Comparison
   pub after_comparison : List ℕ
   pub value : Tree
-  pub is_path : IsFilterPath text path after_path
-  pub is_single : single_steps path ≡ Some steps
+  pub is_path : IsFilterPath text steps (32 ∷ after_path)
   pub is_comparison : IsComparison after_path comparison after_comparison
   pub is_value : BeginsWithLiteral after_comparison value rest
   pub is : t ≡ tested steps comparison value
@@ -369,16 +382,45 @@ mark_in text =
     (mark_or (tail_after_two 124 text) or_else
     (mark_or (tail_after_not text) opens_not None))))
 
--- The text begins with a term, after spaces: a test after `@`, or a mark.
+-- What is after `exists`, `(` and `@`, with spaces between these or none.
+abbrev pub tail_after_exists : List ℕ → Option (List ℕ)
+tail_after_exists text =
+    if_after (tail_after_word (codes "exists") text) (λ rest.
+    if_after (tail_after 40 (after_spaces rest)) (λ inner. tail_after 64 (after_spaces inner)))
+
+-- Whether a path is to lead to a value, by `exists(@`, or is not to, by `!exists(@` with spaces
+-- after its `!` or none, and what is after that.
+abbrev pub exists_after : Option (List ℕ) → List ℕ → Option (Bool × List ℕ)
+exists_after (Some rest) text =
+    option_map (λ path. (false, path)) (tail_after_exists (after_spaces rest))
+exists_after None text = option_map (λ path. (true, path)) (tail_after_exists text)
+
+abbrev pub exists_in : List ℕ → Option (Bool × List ℕ)
+exists_in text = exists_after (tail_after 33 text) text
+
+-- The text begins with a path after its `@`, spaces or none, and `)`.
+abbrev pub IsExists : Bool → List ℕ → TermView → List ℕ → Type 0
+IsExists is_wanted text t rest = (steps : List StepView) × (end : List ℕ)
+    × IsFilterPath text steps end × (after_spaces end ≡ 41 ∷ rest) × (t ≡ finds is_wanted steps)
+
+-- The text begins with `exists` or `!exists` and a path between parentheses.
+abbrev pub BeginsWithExists : List ℕ → TermView → List ℕ → Type 0
+BeginsWithExists text t rest = (is_wanted : Bool) × (path : List ℕ)
+    × (exists_in text ≡ Some (is_wanted, path)) × IsExists is_wanted path t rest
+
+-- The text begins with a term, after spaces: a test after `@`, a path that is to lead to a value or
+-- is not to, or a mark.
 abbrev pub BeginsWithTerm : List ℕ → TermView → List ℕ → Type 0
 BeginsWithTerm text t rest =
     ((inner : List ℕ) × (after_spaces text ≡ 64 ∷ inner) × BeginsWithTest inner t rest)
+    ⊎ BeginsWithExists (after_spaces text) t rest
     ⊎ (mark_in (after_spaces text) ≡ Some (t, rest))
 
--- Whether a value is to come, and in how many groups, after a term where it can stand: a test or an
--- open group where a value is to come, and else `&&`, `||`, or `)` in a group.
+-- Whether a value is to come, and in how many groups, after a term where it can stand: a test, a
+-- path or an open group where a value is to come, and else `&&`, `||`, or `)` in a group.
 abbrev pub state_after : Bool → ℕ → TermView → Option (Bool × ℕ)
 state_after true depth (tested path comparison t) = Some (false, depth)
+state_after true depth (finds is_wanted path) = Some (false, depth)
 state_after true depth opens = Some (true, suc depth)
 state_after true depth opens_not = Some (true, suc depth)
 state_after false depth also = Some (true, depth)
@@ -448,6 +490,9 @@ pub record Reads {A B : Type 0} (view : A → B) (Begins : B → List ℕ → Ty
 -- The steps of a path, without where their keys are stored.
 abbrev pub path_view : Vec Selector → List SelectorView
 path_view path = map selector_view path.items
+
+abbrev pub steps_view : Vec Step → List StepView
+steps_view path = map step_view path.items
 
 abbrev pub terms_view : Vec Term → List TermView
 terms_view ts = map term_view ts.items

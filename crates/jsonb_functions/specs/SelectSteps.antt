@@ -29,9 +29,11 @@ abbrev pub extents : List Step → Tree → ℕ
 extents [] t = extent t
 extents (s ∷ path) t = extent t + number_there (child_at s t) (λ u. extents path u)
 
--- The steps to ask a term of a tree: one, and for a test those on the way of its path.
+-- The steps to ask a term of a tree: one, and for a term with a path those on the way of that.
 abbrev pub term_steps : Term → Tree → ℕ
 term_steps (terms.Test test) t = suc (extents test.path.items t)
+term_steps (terms.Exists path) t = suc (extents path.items t)
+term_steps (terms.NotExists path) t = suc (extents path.items t)
 term_steps term t = 1
 
 -- The steps to ask a selector of a tree: one and its extent, for a list of indexes as often as it

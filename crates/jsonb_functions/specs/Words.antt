@@ -70,6 +70,8 @@ pub use Rattle.jsonb_functions.specs.PathText.{place_in, range_in, state_after, 
 pub use Rattle.jsonb_functions.specs.PathText.{scalar_tree, selector_view, single_step}
 pub use Rattle.jsonb_functions.specs.PathText.{single_steps, tail_after_not, tail_after_two}
 pub use Rattle.jsonb_functions.specs.PathText.{tail_after_word, term_view, terms_view}
+pub use Rattle.jsonb_functions.specs.PathText.{AreFilterSteps, IsExists, ends_path, exists_in}
+pub use Rattle.jsonb_functions.specs.PathText.{finds, steps_view, tail_after_exists}
 pub use Rattle.jsonb_functions.specs.Picked.{AreSorted, is_named, keeps, picked}
 pub use Rattle.jsonb_functions.specs.Selected.{first_tree, indexes_of, items_before}
 pub use Rattle.jsonb_functions.specs.Selected.{items_through, selected, step_at}

@@ -1,7 +1,7 @@
 //! Conditions on values, by which paths leave out values.
 
 ghost use Rattle.std.specs.Prelude.{◌≡◌, ◌<◌, ◌-◌, ◌^◌};
-ghost use Rattle.jsonb_functions.specs.Filter.{before_and, before_close, before_or};
+ghost use Rattle.jsonb_functions.specs.Filter.{before_and, before_close, before_or, leads, verdict};
 ghost use Rattle.jsonb_functions.specs.Words.{after_open, after_term, compares, holds, node_tree};
 ghost use Rattle.jsonb_functions.specs.Words.{passes, verdict_of};
 
@@ -31,10 +31,13 @@ pub struct Test<'a> {
     pub value: Node<'a>,
 }
 
-/// A part of a condition as it is written: a test, `&&`, `||`, `(`, `!(` or `)`.
+/// A part of a condition as it is written: a test, `exists(..)` or `!exists(..)` with the path from
+/// the value, `&&`, `||`, `(`, `!(` or `)`.
 #[derive(Debug, Drop)]
 pub enum Term<'a> {
     Test(Test<'a>),
+    Exists(Vec<Step<'a>>),
+    NotExists(Vec<Step<'a>>),
     And,
     Or,
     Open,
@@ -44,7 +47,8 @@ pub enum Term<'a> {
 
 /// A condition on a value, by its terms from left to right, as in `[Test, And, OpenNot, Test, Or,
 /// Test, Close]`. `&&` binds more than `||`, and `!(` turns what is up to its `)`. A test passes or
-/// fails, so exactly one of a condition and its turned one holds.
+/// fails, and a path leads to a value or nowhere, so exactly one of a condition and its turned one
+/// holds.
 #[derive(Debug, Drop)]
 pub struct Condition<'a> {
     pub terms: Vec<Term<'a>>,
@@ -89,10 +93,15 @@ fn after_term(node: Node<'_>, term: &Term<'_>, verdict: Verdict) -> Verdict
 {
     match term {
         Term::Test(test) => match verdict.passing {
-            0 => Verdict {
-                holds: passes(node, test),
-                passing: 0,
-            },
+            0 => verdict_by(passes(node, test)),
+            _ => verdict,
+        },
+        Term::Exists(path) => match verdict.passing {
+            0 => verdict_by(leads(node, path)),
+            _ => verdict,
+        },
+        Term::NotExists(path) => match verdict.passing {
+            0 => verdict_by(!leads(node, path)),
             _ => verdict,
         },
         Term::And => after_and(verdict),
@@ -100,6 +109,16 @@ fn after_term(node: Node<'_>, term: &Term<'_>, verdict: Verdict) -> Verdict
         Term::Open => after_open(verdict, verdict.holds),
         Term::OpenNot => after_open(verdict, !verdict.holds),
         Term::Close => after_close(verdict),
+    }
+}
+
+// What a condition comes to by a value of its own.
+fn verdict_by(value: bool) -> Verdict
+    ensures { result ≡ verdict value 0 }
+{
+    Verdict {
+        holds: value,
+        passing: 0,
     }
 }
 
@@ -171,6 +190,13 @@ fn passes(node: Node<'_>, test: &Test<'_>) -> bool
         Some(found) => compares(test.comparison, found.cmp(&test.value)),
         None => false,
     }
+}
+
+// Whether a path leads from a value to one.
+fn leads(node: Node<'_>, path: &[Step<'_>]) -> bool
+    ensures { result ≡ leads path.now (node_tree node.entry) }
+{
+    node_at(node, path).is_some()
 }
 
 // Whether values in this order compare so.

@@ -18,6 +18,8 @@ ghost use Rattle.jsonb_functions.specs.Words.{selector_view, single_step, single
 ghost use Rattle.jsonb_functions.specs.Words.{state_after, step_view, tail_after, tail_after_not};
 ghost use Rattle.jsonb_functions.specs.Words.{tail_after_two, tail_after_word, term_view};
 ghost use Rattle.jsonb_functions.specs.Words.{terms_view, tree_of};
+ghost use Rattle.jsonb_functions.specs.Words.{AreFilterSteps, IsExists, ends_path, exists_in};
+ghost use Rattle.jsonb_functions.specs.Words.{finds, steps_view, tail_after_exists};
 
 use crate::digits::read_number;
 use crate::filter::{Comparison, Condition, Term, Test};
@@ -43,6 +45,10 @@ use std::alloc::Global;
 /// the condition, as in `$ ? ( @.price < 3 )`. The comparison is `==`, `!=` or `<>`, `<`, `<=`, `>`
 /// or `>=`, with one space before and after it. The literal is `null`, `true`, `false`, a JSON
 /// number, read exactly, with or without an exponent, or a string without quotes and escapes in it.
+///
+/// `exists(@.size)` in place of a comparison keeps a value if its path leads to a value, which may
+/// be null, and `!exists(@.size)` if it leads nowhere. There may be spaces before each `(`, `@` and
+/// `)` and after the `!`, as in `! exists ( @.size )`.
 ///
 /// `&&` and `||` join comparisons, where `&&` binds more: `?(@.price < 3 && @.size == "L")`. `(`
 /// and `)` group them, and `!(` and `)` turn what is between them: `?(!(@.price < 3 || @.old ==
@@ -488,7 +494,7 @@ fn state_after(wants_value: bool, depth: usize, term: &Term<'_>) -> Option<(bool
     ensures { result ≡ state_after wants_value depth (term_view term.now) }
 {
     match (wants_value, term) {
-        (true, Term::Test(_)) => Some((false, depth)),
+        (true, Term::Test(_) | Term::Exists(_) | Term::NotExists(_)) => Some((false, depth)),
         (true, Term::Open | Term::OpenNot) => Some((true, depth + 1)),
         (false, Term::And | Term::Or) => Some((true, depth)),
         (false, Term::Close) => match depth {
@@ -505,9 +511,79 @@ fn read_term<'a>(alloc: Global, text: &'a str) -> Result<Option<(Term<'a>, &'a s
     ensures memory { IfErr result (λ e. e ≡ Error.OutOfMemory) }
 {
     let start = after_spaces(text);
-    match after_char(start, '@') {
-        Some(test) => read_test(alloc, test),
+    if let Some(test) = after_char(start, '@') {
+        return read_test(alloc, test);
+    }
+    match after_exists(start) {
+        Some((is_wanted, path)) => read_exists(alloc, path, is_wanted),
         None => Ok(read_mark(start)),
+    }
+}
+
+// Whether a path is to lead to a value, by `exists(@`, or is not to, by `!exists(@`, and what is
+// after that.
+fn after_exists(text: &str) -> Option<(bool, &str)>
+    ensures { option_map (λ r. (r.0, r.1.now)) result ≡ exists_in text.now }
+{
+    match tail_after(text, '!') {
+        Some(rest) => {
+            let path = tail_after_exists(after_spaces(rest))?;
+            Some((false, path))
+        }
+        None => {
+            let path = tail_after_exists(text)?;
+            Some((true, path))
+        }
+    }
+}
+
+// What is after `exists`, an opening parenthesis and `@`, with spaces before these or none.
+fn tail_after_exists(text: &str) -> Option<&str>
+    ensures { option_map (λ rest. rest.now) result ≡ tail_after_exists text.now }
+{
+    let rest = tail_after_exists_word(text)?;
+    let inner = tail_after(after_spaces(rest), '(')?;
+    tail_after(after_spaces(inner), '@')
+}
+
+// What is after `exists`.
+fn tail_after_exists_word(text: &str) -> Option<&str>
+    ensures { option_map (λ rest. rest.now) result ≡ tail_after_word (codes "exists") text.now }
+{
+    let rest = tail_after(text, 'e')?;
+    let rest = tail_after(rest, 'x')?;
+    let rest = tail_after(rest, 'i')?;
+    let rest = tail_after(rest, 's')?;
+    let rest = tail_after(rest, 't')?;
+    tail_after(rest, 's')
+}
+
+// The term of a path after its `@`, and what is after the parenthesis that closes it.
+fn read_exists<'a>(
+    alloc: Global,
+    text: &'a str,
+    is_wanted: bool,
+) -> Result<Option<(Term<'a>, &'a str)>, Error>
+    ensures ok { IfOk result (Reads term_view (IsExists is_wanted text.now)) }
+    ensures memory { IfErr result (λ e. e ≡ Error.OutOfMemory) }
+{
+    let Some((path, end)) = read_filter_path(alloc, text)? else {
+        return Ok(None);
+    };
+    match after_char(after_spaces(end), ')') {
+        Some(rest) => Ok(Some((exists_term(path, is_wanted), rest))),
+        None => Ok(None),
+    }
+}
+
+// The term by which a path is to lead to a value, or is not to.
+fn exists_term<'a>(path: Vec<Step<'a>>, is_wanted: bool) -> Term<'a>
+    ensures { term_view result ≡ finds is_wanted (steps_view path.entry) }
+{
+    if is_wanted {
+        Term::Exists(path)
+    } else {
+        Term::NotExists(path)
     }
 }
 
@@ -567,10 +643,10 @@ fn read_test<'a>(alloc: Global, text: &'a str) -> Result<Option<(Term<'a>, &'a s
     ensures ok { IfOk result (Reads term_view (BeginsWithTest text.now)) }
     ensures memory { IfErr result (λ e. e ≡ Error.OutOfMemory) }
 {
-    let Some((path, rest)) = read_filter_path(alloc, text)? else {
+    let Some((path, end)) = read_filter_path(alloc, text)? else {
         return Ok(None);
     };
-    let Some(path) = steps_of_path(alloc, &path)? else {
+    let Some(rest) = after_char(end, ' ') else {
         return Ok(None);
     };
     let Some((comparison, rest)) = read_comparison(rest) else {
@@ -587,26 +663,48 @@ fn read_test<'a>(alloc: Global, text: &'a str) -> Result<Option<(Term<'a>, &'a s
     Ok(Some((Term::Test(test), rest)))
 }
 
-// The steps before a space, and what is after that.
+// A filter's path, which has single steps alone, and what is after it.
 fn read_filter_path<'a>(
     alloc: Global,
     text: &'a str,
+) -> Result<Option<(Vec<Step<'a>>, &'a str)>, Error>
+    ensures ok { IfOk result (Reads steps_view (IsFilterPath text.now)) }
+    ensures memory { IfErr result (λ e. e ≡ Error.OutOfMemory) }
+{
+    let Some((path, end)) = read_filter_steps(alloc, text)? else {
+        return Ok(None);
+    };
+    match steps_of_path(alloc, &path)? {
+        Some(steps) => Ok(Some((steps, end))),
+        None => Ok(None),
+    }
+}
+
+// The steps before a space or a closing parenthesis, and the text from that on.
+fn read_filter_steps<'a>(
+    alloc: Global,
+    text: &'a str,
 ) -> Result<Option<(Vec<Selector<'a>>, &'a str)>, Error>
-    ensures ok { IfOk result (Reads path_view (IsFilterPath text.now)) }
+    ensures ok { IfOk result (Reads path_view (AreFilterSteps text.now)) }
     ensures memory { IfErr result (λ e. e ≡ Error.OutOfMemory) }
 {
     let mut steps = Vec::new(alloc);
     let mut left = text;
-    loop {
-        if let Some(rest) = after_char(left, ' ') {
-            return Ok(Some((steps, rest)));
-        }
+    while !ends_path(left) {
         let Some((selector, rest)) = read_written(alloc, left, true)? else {
             return Ok(None);
         };
         steps.push(selector)?;
         left = rest;
     }
+    Ok(Some((steps, left)))
+}
+
+// Whether a filter's path ends before a text.
+fn ends_path(text: &str) -> bool
+    ensures { result ≡ ends_path text.now }
+{
+    matches!(text.as_bytes(), [b' ' | b')', ..])
 }
 
 // A comparison before a space, and what is after that.

@@ -116,13 +116,14 @@ fn whole_of(document: Document<'_>) -> Entry
 /// The values that `select` returns, unless that takes more than so many steps. There is a step for
 /// each value that a selector is asked of, and one for each of its items or members, or of the
 /// bytes of a text, or of binary or opaque data; a list of indexes takes as many for each of them.
-/// A filter takes one for each term of its condition, and for a test also one for each item, member
-/// or byte of each value on the way of its path. So `$.*?(@ > 1)` takes 3 of `{"a":2}`: for the
-/// object, its member, and the test of the number. `None` if the steps do not suffice, which is so
-/// only if they are fewer than the selectors times the document's weight. Of the selectors a filter
-/// counts for each of its terms, and a list of indexes for each of them, as often as there are ways
-/// to it, which it multiplies by their number. The weight is the number of values and keys, and of
-/// the bytes of texts, keys, and binary and opaque values. `OutOfMemory` is the only error.
+/// A filter takes one for each term of its condition, and for a test, `exists(..)` and
+/// `!exists(..)` also one for each item, member or byte of each value on the way of its path. So
+/// `$.*?(@ > 1)` takes 3 of `{"a":2}`: for the object, its member, and the test of the number.
+/// `None` if the steps do not suffice, which is so only if they are fewer than the selectors times
+/// the document's weight. Of the selectors a filter counts for each of its terms, and a list of
+/// indexes for each of them, as often as there are ways to it, which it multiplies by their number.
+/// The weight is the number of values and keys, and of the bytes of texts, keys, and binary and
+/// opaque values. `OutOfMemory` is the only error.
 #[tactic(auto, using(crate::proofs::SelectStepLaws::steps_within))]
 pub fn select_within<'a>(
     alloc: Global,
@@ -371,6 +372,7 @@ fn ask_term(node: Node<'_>, term: &Term<'_>, steps: &mut u128) -> Result<(), Una
     take(steps, 1)?;
     match term {
         Term::Test(test) => follow(node, &test.path, steps),
+        Term::Exists(path) | Term::NotExists(path) => follow(node, path, steps),
         _ => Ok(()),
     }
 }

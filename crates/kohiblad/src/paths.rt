@@ -132,14 +132,15 @@ fn path_place(alloc: Global, bytes: &[u8], path: Document<'_>) -> KohibladPlace
 /// no wildcards, ranges, lists and filters, and a key with a space in it is written between quotes.
 /// The comparison is `==`, `!=` or `<>`, `<`, `<=`, `>` or `>=`, with one space before and after
 /// it, and the literal `null`, `true`, `false`, a JSON number, which is read exactly, or a string
-/// without quotes and escapes in it, in which a backslash is a backslash. `&&` and `||` join
-/// comparisons, in groups in parentheses, and `!` turns a group. `InvalidUtf8` if the text is not
-/// UTF-8; `InvalidJsonb` if the bytes are not a document of at most this depth; `OTHER_KIND` if the
-/// text is not a path; `OutOfMemory` if an allocation fails; `NO_ROOM` if `out` is too short. If
-/// the status is not `OK`, `out` is unchanged, and `count` is 0, or for `NO_ROOM` the number of
-/// positions. Each list multiplies the time and the positions of what follows it by the number of
-/// its indexes. A scalar has depth 0, an array or object one more than its deepest child, and at
-/// least 1. Deeper levels are not examined.
+/// without quotes and escapes in it, in which a backslash is a backslash. `exists(@.price)` in
+/// place of a comparison keeps a value if such a path leads to a value, which may be null, and
+/// `!exists(@.price)` if it leads nowhere. `&&` and `||` join these, in groups in parentheses, and
+/// `!` turns a group. `InvalidUtf8` if the text is not UTF-8; `InvalidJsonb` if the bytes are not a
+/// document of at most this depth; `OTHER_KIND` if the text is not a path; `OutOfMemory` if an
+/// allocation fails; `NO_ROOM` if `out` is too short. If the status is not `OK`, `out` is
+/// unchanged, and `count` is 0, or for `NO_ROOM` the number of positions. Each list multiplies the
+/// time and the positions of what follows it by the number of its indexes. A scalar has depth 0, an
+/// array or object one more than its deepest child, and at least 1. Deeper levels are not examined.
 #[unsafe(no_mangle)]
 pub extern "C" fn kohiblad_select(
     alloc: Global,
@@ -214,13 +215,13 @@ fn answers_at(alloc: Global, places: &[Entry]) -> Result<Vec<KohibladPlace>, Err
 /// takes more than `steps` steps, for a path that others chose. There is a step for each value that
 /// a step of the path is asked of, and one for each of its items or members, or of the bytes of a
 /// text, or of binary or opaque data; a list of indexes takes as many for each of them. A filter
-/// takes one for each comparison, `&&`, `||`, `!(`, `(` and `)`, and for a comparison also one for
-/// each item, member or byte of each value on the way of its path: `$.*?(@ > 1)` takes 3 of
-/// {"a":2}. `InvalidUtf8` if the text is not UTF-8; `InvalidJsonb` if the bytes are not a document
-/// of at most this depth; `OTHER_KIND` if the text is not a path; `TOO_MANY_STEPS` if the steps do
-/// not suffice; `OutOfMemory` if an allocation fails; `NO_ROOM` if `out` is too short. If the
-/// status is not `OK`, `out` is unchanged, and `count` is 0, or for `NO_ROOM` the number of
-/// positions.
+/// takes one for each comparison, `exists`, `&&`, `||`, `!(`, `(` and `)`, and for a comparison or
+/// `exists` also one for each item, member or byte of each value on the way of its path: `$.*?(@ >
+/// 1)` takes 3 of {"a":2}. `InvalidUtf8` if the text is not UTF-8; `InvalidJsonb` if the bytes are
+/// not a document of at most this depth; `OTHER_KIND` if the text is not a path; `TOO_MANY_STEPS`
+/// if the steps do not suffice; `OutOfMemory` if an allocation fails; `NO_ROOM` if `out` is too
+/// short. If the status is not `OK`, `out` is unchanged, and `count` is 0, or for `NO_ROOM` the
+/// number of positions.
 #[unsafe(no_mangle)]
 pub extern "C" fn kohiblad_select_within(
     alloc: Global,

@@ -303,6 +303,32 @@ const PATH_TEXTS: &[(&str, Option<&[u64]>)] = &[
     ("$.segments[*]?(!@.HR == 73).HR", None),
     ("$.segments[*]?((@.HR == 73).HR", None),
     ("$.segments[*]?().HR", None),
+    ("$.segments[*]?(exists(@.HR)).HR", Some(&[73, 135])),
+    ("$.segments[*] ? ( exists ( @.none ) ).HR", Some(&[])),
+    ("$.segments[*]?(!exists(@.none)).HR", Some(&[73, 135])),
+    ("$.segments[*]?( ! exists ( @ ) ).HR", Some(&[])),
+    (
+        "$.segments[*]?(exists(@.\"at\"[last]) && @.HR > 73).HR",
+        Some(&[135]),
+    ),
+    (
+        "$.segments[*]?(@.HR == 73 || !(exists(@.at[0]) && !exists(@.at[9]))).HR",
+        Some(&[73]),
+    ),
+    (
+        "$.segments[*]?(exists(@.HR) && exists(@.none)).HR",
+        Some(&[]),
+    ),
+    ("$?(exists(@.exists)).segments[0].HR", Some(&[])),
+    ("$?(@.exists == 1 || exists(@)).segments[0].HR", Some(&[73])),
+    ("$.segments[*]?(exists(@.HR).HR", None),
+    ("$.segments[*]?(exists(@.HR == 73)).HR", None),
+    ("$.segments[*]?(exists(@.HR) == true).HR", None),
+    ("$.segments[*]?(exists(@.at[*])).HR", None),
+    ("$.segments[*]?(exists(HR)).HR", None),
+    ("$.segments[*]?(exists @.HR).HR", None),
+    ("$.segments[*]?(exist(@.HR)).HR", None),
+    ("$.segments[*]?(@.HR) == 73).HR", None),
 ];
 
 // Whether the path of a text selects these numbers; nothing, if it gives no path.
@@ -401,6 +427,11 @@ fn selected_within(alloc: Global, text: &str, steps: usize) -> Result<Option<usi
 fn values_selected_in_so_many_steps(rt: HostRuntime) -> Result<(), Fail> {
     assert_eq!(rt; selected_within(rt.alloc(), "$.*?(@ > 1)", 2)?, None);
     assert_eq!(rt; selected_within(rt.alloc(), "$.*?(@ > 1)", 3)?, Some(1));
+    assert_eq!(rt; selected_within(rt.alloc(), "$?(!exists(@.b))", 1)?, None);
+    assert_eq!(rt;
+        selected_within(rt.alloc(), "$?(!exists(@.b))", 2)?,
+        Some(1)
+    );
     Ok(())
 }
 

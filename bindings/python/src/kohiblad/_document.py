@@ -274,9 +274,10 @@ class Document:
         The path is a text: ``$``, and then ``.name`` or ``."any name"`` for the value of a key,
         ``[0]`` for an item, ``[#-1]`` for the last one, ``[*]`` for each item, ``[0 to #-2]`` for
         those from one to another, and ``.*`` for each value of an object. ``?(@.of == 1)`` keeps a
-        value if what is at the path after ``@`` compares so with a literal; ``&&`` and ``||`` join
-        comparisons, in groups in parentheses, and ``!`` turns a group. PathError: it is none.
-        Scalars come as Python values, and arrays and objects as documents.
+        value if what is at the path after ``@`` compares so with a literal, ``?(exists(@.of))`` if
+        there is something, and ``?(!exists(@.of))`` if there is nothing; ``&&`` and ``||`` join
+        these, in groups in parentheses, and ``!`` turns a group. PathError: it is none. Scalars
+        come as Python values, and arrays and objects as documents.
         """
         try:
             if IS_NATIVE:

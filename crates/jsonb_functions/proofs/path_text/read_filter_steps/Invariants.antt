@@ -4,11 +4,11 @@ use denote.Text.{Utf8}
 use denote.Shadow.{shadow}
 use Rattle.jsonb_functions.specs.PathText.{BeginsWith}
 use Rattle.jsonb_functions.proofs.PathLaws.{IsRead}
-use Rattle.jsonb_functions.proofs.path_text.read_filter_path.Given as goal
+use Rattle.jsonb_functions.proofs.path_text.read_filter_steps.Given as goal
 
-abbrev pub invariant-loop-rest : goal.invariant-loop-rest
-invariant-loop-rest l =
+abbrev pub invariant-loop-alloc : goal.invariant-loop-alloc
+invariant-loop-alloc l =
     shadow (Utf8 l.left) × IsRead (BeginsWith true) true l.fn.text l.left l.steps.items
 
-abbrev pub decreases-loop-rest : goal.decreases-loop-rest
-decreases-loop-rest l = length l.left
+abbrev pub decreases-loop-alloc : goal.decreases-loop-alloc
+decreases-loop-alloc l = length l.left
