@@ -1,12 +1,12 @@
 //! Printing bytes as texts, and parsing texts into documents.
 
-ghost use Rattle.std.specs.Prelude.{IfErr, IfOk, string_bytes, ◌≡◌};
+ghost use Rattle.std.specs.Prelude.{IfErr, IfOk, ◌≡◌};
 ghost use Rattle.kohiblad.specs.Words.{plain_text, lined_text, other_text, meaning_within};
 ghost use Rattle.kohiblad.specs.Words.{IsLongWrittenOut, IsWrittenOut, IsReadWithin, ReadsAs};
 ghost use Rattle.kohiblad.specs.Words.{compact, length_64, node_tree, pretty, result_bytes};
 ghost use Rattle.kohiblad.specs.Words.{rule_of};
 
-use crate::answer::{NO_ROOM, TOO_DEEP, code, hand_over, refuse};
+use crate::answer::{NO_ROOM, TOO_DEEP, code, hand_over, hand_over_items, refuse};
 use bstr::ByteSlice;
 use jsonb::layer::{extension_len, number_len, refusal_within, string_len};
 use jsonb::{Error, Node, OwnedJsonb, ParseError, SortKey};
@@ -38,21 +38,19 @@ pub extern "C" fn kohiblad_print(
 pub fn write_compact(alloc: Global, value: Node<'_>, out: &mut [u8], length: &mut usize) -> u32
     ensures { IsWrittenOut (compact (node_tree value.entry)) out.old out.new length.new result }
 {
-    match compact_text(alloc, value) {
-        Ok(text) => hand_over(text.as_bytes(), out, length),
-        Err(error) => refuse(code(error), out, length),
-    }
+    hand_over_items(compact_text(alloc, value), out, length)
 }
 
 // The compact text of a value. Memory for that of a container is asked for by its bytes.
-fn compact_text(alloc: Global, value: Node<'_>) -> Result<String, Error>
-    ensures text { IfOk result (λ text. string_bytes text ≡ compact (node_tree value.entry)) }
+fn compact_text(alloc: Global, value: Node<'_>) -> Result<Vec<u8>, Error>
+    ensures text { IfOk result (λ text. text.items ≡ compact (node_tree value.entry)) }
     ensures memory { IfErr result (λ e. e ≡ Error.OutOfMemory) }
 {
-    match value.as_document() {
-        Some(document) => document.to_string(alloc),
-        None => value.to_string(alloc),
-    }
+    let text = match value.as_document() {
+        Some(document) => document.to_string(alloc)?,
+        None => value.to_string(alloc)?,
+    };
+    Ok(text.into_bytes())
 }
 
 // Copies out the text of bytes that are not read as a document: `null` for no bytes.
@@ -99,21 +97,19 @@ pub fn write_pretty(alloc: Global, value: Node<'_>, out: &mut [u8], length: &mut
     if out.len() < *length || *length == usize::MAX {
         return NO_ROOM;
     }
-    match pretty_text(alloc, value) {
-        Ok(text) => hand_over(text.as_bytes(), out, length),
-        Err(error) => refuse(code(error), out, length),
-    }
+    hand_over_items(pretty_text(alloc, value), out, length)
 }
 
 // The pretty text of a value: that of a scalar is its compact one.
-fn pretty_text(alloc: Global, value: Node<'_>) -> Result<String, Error>
-    ensures text { IfOk result (λ text. string_bytes text ≡ pretty (node_tree value.entry)) }
+fn pretty_text(alloc: Global, value: Node<'_>) -> Result<Vec<u8>, Error>
+    ensures text { IfOk result (λ text. text.items ≡ pretty (node_tree value.entry)) }
     ensures memory { IfErr result (λ e. e ≡ Error.OutOfMemory) }
 {
-    match value.as_document() {
-        Some(document) => document.to_pretty_string(alloc),
-        None => value.to_string(alloc),
-    }
+    let text = match value.as_document() {
+        Some(document) => document.to_pretty_string(alloc)?,
+        None => value.to_string(alloc)?,
+    };
+    Ok(text.into_bytes())
 }
 
 // The length of the pretty text of a value, or `usize::MAX` if it is longer.
