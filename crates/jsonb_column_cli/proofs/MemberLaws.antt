@@ -32,6 +32,7 @@ use Rattle.jsonb_typed.specs.Cells.{IsCellAt, IsCellOf}
 use Rattle.jsonb_typed.specs.LeastTypes.{IsFirstHeld, IsHeld, greatest_scale, member_scale}
 use Rattle.jsonb_typed.specs.LeastTypes.{types_in_order}
 use Rattle.jsonb_typed.specs.Surveys.{cell_at, member_cell, survey_of}
+use Rattle.jsonb_typed.specs.TypeNames.{IsType, type_named}
 use Rattle.jsonb_typed.specs.TypeValues.{StandsIn, ValueOf}
 use Rattle.jsonb_typed.specs.declared.lattice.LeastType.{LeastType}
 use Rattle.jsonb_typed.specs.declared.numbers.Fit.TheVariants.{ByValue}
@@ -40,13 +41,12 @@ use Rattle.jsonb_typed.proofs.OneValueLaws.{one_value}
 use Rattle.jsonb_column_cli.specs.declared.answer.Refusal.{Refusal}
 use Rattle.jsonb_column_cli.specs.declared.answer.Refusal.TheVariants.{BadPath, Call}
 use Rattle.jsonb_column_cli.specs.Answers.{IsOutcome, IsRowsAnswer, IsRowsRefusal, Rows, reply_of}
-use Rattle.jsonb_column_cli.specs.Commands.{ColumnForm, is_space}
+use Rattle.jsonb_column_cli.specs.Commands.{ColumnForm}
 use Rattle.jsonb_column_cli.specs.Members.{IsColumnLine, IsColumnLineOf, IsColumnReply, IsFirstOf}
-use Rattle.jsonb_column_cli.specs.Members.{IsKept, IsLeast, IsNoPath, IsPath, IsScale}
-use Rattle.jsonb_column_cli.specs.Members.{IsSurveyReply}
-use Rattle.jsonb_column_cli.specs.Members.{IsType, IsWordBy, cell_word, cells_line, found_by}
-use Rattle.jsonb_column_cli.specs.Members.{member_at, members_at, most_scale, row_index, shown}
-use Rattle.jsonb_column_cli.specs.Members.{spoken_words, survey_line, type_named, words_line}
+use Rattle.jsonb_column_cli.specs.Members.{IsKept, IsLeast, IsNoPath, IsPath, IsSurveyReply}
+use Rattle.jsonb_column_cli.specs.Members.{IsWordBy, cell_word, cells_line, found_by}
+use Rattle.jsonb_column_cli.specs.Members.{member_at, members_at, most_scale, shown, spoken_words}
+use Rattle.jsonb_column_cli.specs.Members.{survey_line, words_line}
 
 -- ---- members by their paths
 

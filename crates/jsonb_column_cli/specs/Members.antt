@@ -1,7 +1,7 @@
 -- The replies about the members of all rows.
-use Rattle.std.specs.Prelude.{◌≡◌, ◌⊎◌, ◌<◌, ⊤, ℕ, ℤ, max, List, [], ◌∷◌, ◌++◌, map, All, Option}
-use Rattle.std.specs.Prelude.{None, Some, codes, decimal, bytes_eq, if◌then◌else◌}
-use Rattle.std.specs.List.{AllZip, after_first, before_first}
+use Rattle.std.specs.Prelude.{◌≡◌, ◌⊎◌, ⊤, ℕ, ℤ, max, List, [], ◌∷◌, ◌++◌, map, All, Option}
+use Rattle.std.specs.Prelude.{None, Some, codes, decimal}
+use Rattle.std.specs.List.{AllZip}
 use Rattle.std.specs.Str.Parse.{IsNumeral, digits_value, without_leading_plus}
 use Rattle.jsonb_value.specs.Text.{compact}
 use Rattle.jsonb_value.specs.Tree as trees
@@ -18,13 +18,13 @@ use Rattle.jsonb_functions.specs.StoredPath.{StepView}
 use Rattle.typed_vector.specs.Cells.{Cell, absent, other, value}
 use Rattle.jsonb_typed.specs.LeastTypes.{IsHeld, member_scale, types_in_order}
 use Rattle.jsonb_typed.specs.Surveys.{member_cell, survey_of}
+use Rattle.jsonb_typed.specs.TypeNames.{IsType, type_text}
 use Rattle.jsonb_typed.specs.TypeValues.{StandsIn, ValueOf}
 use Rattle.jsonb_typed.specs.declared.lattice.LeastType.{LeastType}
 use Rattle.jsonb_typed.specs.declared.lattice.LeastType.TheVariants as types
 use Rattle.jsonb_typed.specs.declared.numbers.Fit.TheVariants.{ByValue}
 use Rattle.jsonb_typed.specs.declared.survey.Scales.{Scales}
 use Rattle.jsonb_typed.specs.declared.survey.Survey.{Survey}
-use Rattle.jsonb_column_cli.specs.Commands.{is_space}
 
 -- ---- members
 
@@ -48,61 +48,15 @@ pub record IsPath (text : List ℕ) (steps : List StepView) : Type 0 where
   pub only : (other_path : List SelectorView) → PathText text other_path → other_path ≡ path
   pub single : single_steps path ≡ Some steps
 
--- ---- types
+-- ---- indices
 
--- The index or the scale that decimal digits, which may follow a plus sign, mean.
+-- The index that decimal digits, which may follow a plus sign, mean.
 abbrev pub row_index : List ℕ → ℕ
 row_index digits = digits_value 10 (without_leading_plus digits)
 
 -- The digits, which may follow a plus sign, are a numeral.
 abbrev pub IsIndexNumeral : List ℕ → Type 0
 IsIndexNumeral digits = IsNumeral 10 (without_leading_plus digits)
-
--- They are a scale, at most 255.
-abbrev pub IsScale : List ℕ → Type 0
-IsScale digits = IsIndexNumeral digits × (row_index digits < 256)
-
--- The word of a type, but for the scale of decimals.
-abbrev pub type_word : LeastType → List ℕ
-type_word types.Nothing = codes "nothing"
-type_word types.Boolean = codes "boolean"
-type_word types.Int64 = codes "int64"
-type_word types.UInt64 = codes "uint64"
-type_word (types.Decimal scale) = codes "decimal"
-type_word types.Text = codes "text"
-type_word types.Date = codes "date"
-type_word types.Timestamp = codes "timestamp"
-type_word types.ZonedTimestamp = codes "timestamp_tz"
-type_word types.Interval = codes "interval"
-type_word types.Mixed = codes "mixed"
-
--- A type as a survey names it.
-abbrev pub type_text : LeastType → List ℕ
-type_text (types.Decimal scale) = codes "decimal " ++ decimal scale
-type_text other_type = type_word other_type
-
--- The type of this name, but decimals.
-abbrev pub type_named : List ℕ → Option LeastType
-type_named name =
-    if bytes_eq name (codes "nothing") then Some types.Nothing
-    else if bytes_eq name (codes "boolean") then Some types.Boolean
-    else if bytes_eq name (codes "int64") then Some types.Int64
-    else if bytes_eq name (codes "uint64") then Some types.UInt64
-    else if bytes_eq name (codes "text") then Some types.Text
-    else if bytes_eq name (codes "date") then Some types.Date
-    else if bytes_eq name (codes "timestamp") then Some types.Timestamp
-    else if bytes_eq name (codes "timestamp_tz") then Some types.ZonedTimestamp
-    else if bytes_eq name (codes "interval") then Some types.Interval
-    else if bytes_eq name (codes "mixed") then Some types.Mixed
-    else None
-
--- The text names this type: `decimal` and a scale, or a name.
-abbrev pub IsType : List ℕ → LeastType → Type 0
-IsType given type =
-    ((before_first is_space given ≡ codes "decimal")
-    × (IsScale (after_first is_space given)
-    × (type ≡ types.Decimal (row_index (after_first is_space given)))))
-    ⊎ (type_named (before_first is_space given) ≡ Some type)
 
 -- ---- the survey
 

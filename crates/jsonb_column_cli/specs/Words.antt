@@ -24,10 +24,9 @@ pub use Rattle.jsonb_column_cli.specs.Commands.{is_space, load, name_len, name_w
 pub use Rattle.jsonb_column_cli.specs.Commands.{open_after, range, row, save, sort}
 pub use Rattle.jsonb_column_cli.specs.Grammar.{column_form, name_view}
 pub use Rattle.jsonb_column_cli.specs.Members.{IsColumnLine, IsColumnLineOf, IsKept, IsPath}
-pub use Rattle.jsonb_column_cli.specs.Members.{IsScale, IsType, cell_word, cells_line}
+pub use Rattle.jsonb_column_cli.specs.Members.{cell_word, cells_line}
 pub use Rattle.jsonb_column_cli.specs.Members.{container_counts, decimal_tree, extension_counts}
 pub use Rattle.jsonb_column_cli.specs.Members.{int64_tree, length_counts, member_at, number_counts}
-pub use Rattle.jsonb_column_cli.specs.Members.{row_counts, row_index, scale_counts, survey_line}
-pub use Rattle.jsonb_column_cli.specs.Members.{text_tree, time_counts, type_named, type_text}
-pub use Rattle.jsonb_column_cli.specs.Members.{type_word, uint64_tree}
+pub use Rattle.jsonb_column_cli.specs.Members.{row_counts, scale_counts, survey_line}
+pub use Rattle.jsonb_column_cli.specs.Members.{text_tree, time_counts, uint64_tree}
 pub use Rattle.jsonb_column_cli.specs.declared.answer.Refusal.TheVariants.{BadPath, Call}

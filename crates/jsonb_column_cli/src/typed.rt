@@ -1,29 +1,26 @@
 //! The replies about the members of all rows.
 
-ghost use Rattle.std.specs.Prelude.{◌≡◌, ◌⊎◌, ◌<◌, ◌∷◌, ◌++◌, All, IfErr, IfNone, IfOk};
-ghost use Rattle.std.specs.Prelude.{IfSome};
-ghost use Rattle.std.specs.Prelude.{List, codes, length, map, string_bytes};
+ghost use Rattle.std.specs.Prelude.{◌≡◌, ◌⊎◌, ◌∷◌, ◌++◌, All, IfErr, IfOk};
+ghost use Rattle.std.specs.Prelude.{List, codes, map, string_bytes};
 ghost use Rattle.jsonb_column_cli.specs.Words.{BadPath, Call, IsColumnLine, IsColumnLineOf};
-ghost use Rattle.jsonb_column_cli.specs.Words.{IsDocument, IsKept, IsOutcome, IsPath, IsScale};
-ghost use Rattle.jsonb_column_cli.specs.Words.{IsType, LeastType, OutOfMemory, StepView, Tree};
+ghost use Rattle.jsonb_column_cli.specs.Words.{IsDocument, IsKept, IsOutcome, IsPath};
+ghost use Rattle.jsonb_column_cli.specs.Words.{LeastType, OutOfMemory, StepView, Tree};
 ghost use Rattle.jsonb_column_cli.specs.Words.{cell_word, cells_line, compact, container_counts};
 ghost use Rattle.jsonb_column_cli.specs.Words.{content_cell, extension_counts, extract};
 ghost use Rattle.jsonb_column_cli.specs.Words.{length_counts};
 ghost use Rattle.jsonb_column_cli.specs.Words.{member_at, node_tree, number_counts, reply_of};
-ghost use Rattle.jsonb_column_cli.specs.Words.{row_counts, row_index, scale_counts, step_view};
+ghost use Rattle.jsonb_column_cli.specs.Words.{row_counts, scale_counts, step_view};
 ghost use Rattle.jsonb_column_cli.specs.Words.{survey, survey_line, text_cell, text_tree};
-ghost use Rattle.jsonb_column_cli.specs.Words.{time_counts};
-ghost use Rattle.jsonb_column_cli.specs.Words.{tree_in, type_named, type_text, type_word};
+ghost use Rattle.jsonb_column_cli.specs.Words.{time_counts, tree_in};
 
 use crate::answer::Refusal;
-use crate::command::split_space;
 use crate::shown::Shown;
 use jsonb::{Document, Node};
 use jsonb_column::Column;
 use jsonb_functions::{Step, read_path_text, steps_of_path};
 use jsonb_typed::{
     Boolean, Dates, Decimal, Fit, Int64, Intervals, LeastType, Nothing, Scales, Survey, Timestamps,
-    UInt64, ZonedTimestamps, extract, extract_texts, least_type,
+    UInt64, ZonedTimestamps, extract, extract_texts, least_type, parse_type, type_text,
 };
 use std::alloc::{AllocError, Global};
 use typed_vector::{Content, Texts, Typed};
@@ -70,56 +67,6 @@ fn parse_path<'a>(alloc: Global, text: &'a str) -> Result<Vec<Step<'a>>, Refusal
         return Err(Refusal::BadPath);
     };
     Ok(steps)
-}
-
-// The type that a text names, as a survey does.
-fn parse_type(given: &str) -> Option<LeastType>
-    ensures is { IfSome result (λ type. IsType given.now type) }
-    ensures none { IfNone result ((type : LeastType) → IsType given.now type → ⊥) }
-{
-    let (name, rest) = split_space(given);
-    if name == "decimal" {
-        let scale = parse_scale(rest)?;
-        return Some(LeastType::Decimal(scale));
-    }
-    type_named(name)
-}
-
-// The digits after the point that a text says.
-fn parse_scale(digits: &str) -> Option<u8>
-    ensures is { IfSome result (λ scale. IsScale digits.now × (scale ≡ row_index digits.now)) }
-    ensures none { IfNone result (IsScale digits.now → ⊥) }
-{
-    digits.parse::<u8>().ok()
-}
-
-// The type of this name, but decimals.
-fn type_named(name: &str) -> Option<LeastType>
-    ensures { result ≡ type_named name.now }
-{
-    if name == "nothing" {
-        Some(LeastType::Nothing)
-    } else if name == "boolean" {
-        Some(LeastType::Boolean)
-    } else if name == "int64" {
-        Some(LeastType::Int64)
-    } else if name == "uint64" {
-        Some(LeastType::UInt64)
-    } else if name == "text" {
-        Some(LeastType::Text)
-    } else if name == "date" {
-        Some(LeastType::Date)
-    } else if name == "timestamp" {
-        Some(LeastType::Timestamp)
-    } else if name == "timestamp_tz" {
-        Some(LeastType::ZonedTimestamp)
-    } else if name == "interval" {
-        Some(LeastType::Interval)
-    } else if name == "mixed" {
-        Some(LeastType::Mixed)
-    } else {
-        None
-    }
 }
 
 // The reply with the members of all rows in a column of this type.
@@ -271,35 +218,6 @@ fn survey_line(alloc: Global, least: LeastType, counts: Survey) -> Result<String
     let lengths = length_counts(alloc, counts)?;
     let scales = scale_counts(alloc, counts.scales)?;
     format!(in alloc; "ok {least}{rows}{numbers}{times}{extensions}{containers}{lengths}{scales}")
-}
-
-// A type as it is named.
-fn type_text(alloc: Global, least: LeastType) -> Result<String, AllocError>
-    ensures { IfOk result (λ text. string_bytes text ≡ type_text least) }
-{
-    match least {
-        LeastType::Decimal(scale) => format!(in alloc; "decimal {scale}"),
-        other => String::from_str(alloc, type_word(other)),
-    }
-}
-
-// The word of a type, but for the scale of decimals.
-fn type_word(least: LeastType) -> &'static str
-    ensures { result.now ≡ type_word least }
-{
-    match least {
-        LeastType::Nothing => "nothing",
-        LeastType::Boolean => "boolean",
-        LeastType::Int64 => "int64",
-        LeastType::UInt64 => "uint64",
-        LeastType::Decimal(_) => "decimal",
-        LeastType::Text => "text",
-        LeastType::Date => "date",
-        LeastType::Timestamp => "timestamp",
-        LeastType::ZonedTimestamp => "timestamp_tz",
-        LeastType::Interval => "interval",
-        LeastType::Mixed => "mixed",
-    }
 }
 
 // How many rows there are, how many have no member, and how many members are null or booleans.
