@@ -8,7 +8,7 @@ PLACES = {
     "jsonb_comparable": (4.05, 3, "green"), "jsonb_cli": (0, 4, "blue"),
     "jsonb_column": (1, 4, "green"), "jsonb_probe": (2, 4, "plain"),
     "typed_vector": (3.1, 4, "green"), "jsonb_functions": (4.4, 4, "green"),
-    "json_fault": (5.5, 4, "green"), "kohiblad_shell": (0.5, 5, "blue"),
+    "json_fault": (5.5, 4, "green"), "kohiblad_shell": (0.5, 6, "blue"),
     "jsonb_rows": (2.55, 5, "plain"), "jsonb_typed": (3.6, 5, "green"),
     "tests_of_calls": (4.7, 5, "plain"), "jsonb_column_cli": (1.5, 6, "blue"),
     "kohiblad": (5, 6, "violet"),
@@ -63,7 +63,7 @@ def draw(read):
             other_column, other_row, _ = PLACES[other]
             assert other_row < row, (name, other)
             x, y, to, end = middle(column), top(row) + HEIGHT, middle(other_column), top(other_row)
-            if row - other_row > 2:
+            if row - other_row > 2 and x != to:
                 drawing.arrow(f"M{x:g} {y}V{end + HEIGHT / 2 - 20:g}q0 20 -20 20"
                               f"H{to + WIDTH / 2 + 2:g}")
             else:
@@ -81,7 +81,8 @@ def draw(read):
         if kit:
             drawing.text(middle(column), top(row) + 36, " ".join(kit), "small dim")
     for at, (color, about) in enumerate(KINDS):
-        drawing.box(LEFT + 0.5, 24 + 22 * at, 14, 14, color, dashed=color == "amber")
-        drawing.text(LEFT + 22, 35 + 22 * at, about, "dim", "start")
-    drawing.text(LEFT, 35 + 22 * len(KINDS), "small, in a box: crates of the kit", "dim", "start")
+        drawing.box(LEFT + 0.5, top(2) + 22 * at, 14, 14, color, dashed=color == "amber")
+        drawing.text(LEFT + 22, top(2) + 11 + 22 * at, about, "dim", "start")
+    about = "small, in a box: crates of the kit"
+    drawing.text(LEFT, top(2) + 11 + 22 * len(KINDS), about, "dim", "start")
     return drawing

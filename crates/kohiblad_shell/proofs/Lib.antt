@@ -1,5 +1,6 @@
 pub mod InputLaws
 pub mod RunLaws
+pub mod SurveyLaws
 pub mod ValueLaws
 pub mod SortLaws
 pub mod KeyLaws

@@ -28,7 +28,7 @@ output-append [] ps = refl
 output-append (Ok text ∷ os) ps = rw (output-append os ps, append_assoc)
 output-append (Err fault ∷ os) ps = output-append os ps
 
-reports-append : (name : List ℕ) (n : ℕ) (os ps : List Outcome)
+pub reports-append : (name : List ℕ) (n : ℕ) (os ps : List Outcome)
     → reports_of name n (os ++ ps) ≡ reports_of name n os ++ reports_of name (n + length os) ps
 reports-append name n [] ps = let same : n + 0 ≡ n = omega arith in rw same
 reports-append name n (Ok text ∷ os) ps =
@@ -45,7 +45,8 @@ rows-append (Ok [] ∷ os) ps = rows-append os ps
 rows-append (Ok (b ∷ text) ∷ os) ps = omega (arith, rows-append os ps)
 rows-append (Err fault ∷ os) ps = rows-append os ps
 
-faults-append : (os ps : List Outcome) → fault_count (os ++ ps) ≡ fault_count os + fault_count ps
+pub faults-append : (os ps : List Outcome)
+    → fault_count (os ++ ps) ≡ fault_count os + fault_count ps
 faults-append [] ps = omega arith
 faults-append (Ok text ∷ os) ps = faults-append os ps
 faults-append (Err fault ∷ os) ps = omega (arith, faults-append os ps)
@@ -74,14 +75,14 @@ or_true true b is = refl
 
 module _ (plan : Plan) where
   -- one more outcome at which it goes on, or ends
-  goes_on_more : (os : List Outcome) (o : Outcome) → stops_in plan os ≡ false
+  pub goes_on_more : (os : List Outcome) (o : Outcome) → stops_in plan os ≡ false
       → stops_at plan o ≡ false → stops_in plan (os ++ o ∷ []) ≡ false
   goes_on_more [] o so_far is = ap (λ (t : Bool). t || false) is
   goes_on_more (x ∷ os) o so_far is =
       ap₂ (λ (a b : Bool). a || b) (or_left _ _ so_far)
       (goes_on_more os o (or_right _ _ so_far) is)
 
-  stops_more : (os : List Outcome) (o : Outcome) → stops_at plan o ≡ true
+  pub stops_more : (os : List Outcome) (o : Outcome) → stops_at plan o ≡ true
       → stops_in plan (os ++ o ∷ []) ≡ true
   stops_more [] o is = ap (λ (t : Bool). t || false) is
   stops_more (x ∷ os) o is = or_true _ _ (stops_more os o is)
@@ -93,7 +94,7 @@ module _ (plan : Plan) where
       ap₂ (λ (a b : Bool). a || b) (or_left _ _ is)
       (front_goes_on before last (or_right _ _ is))
 
-  all_go_on : (os : List Outcome) → stops_in plan os ≡ false → GoesOnToLast plan os
+  pub all_go_on : (os : List Outcome) → stops_in plan os ≡ false → GoesOnToLast plan os
   all_go_on os on before last is =
       front_goes_on before last (subst (λ ps. stops_in plan ps ≡ false) is on)
 
@@ -110,7 +111,7 @@ front_of (b ∷ before) (x ∷ os) last o same =
     let tails : os ++ o ∷ [] ≡ before ++ last ∷ [] = cc in
     let rest = front_of before os last o tails in cc
 
-one_more_goes_on : (plan : Plan) (os : List Outcome) (o : Outcome) → stops_in plan os ≡ false
+pub one_more_goes_on : (plan : Plan) (os : List Outcome) (o : Outcome) → stops_in plan os ≡ false
     → GoesOnToLast plan (os ++ o ∷ [])
 one_more_goes_on plan os o on before last is =
     let same = front_of before os last o is in rw same on

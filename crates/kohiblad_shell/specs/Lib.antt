@@ -11,6 +11,7 @@ pub mod Rows
 pub mod Removals
 pub mod Ranges
 pub mod Operations
+pub mod Surveys
 pub mod Arguments
 pub mod Commands
 pub mod Words

@@ -57,6 +57,11 @@ IsRowFault Lines row fault = IsLineFault row fault
 IsRowFault Documents row fault =
     (IsDocumentWithin MAX_ROW_DEPTH row → ⊥) × (fault ≡ bad_document)
 
+-- The same, or there is not enough memory.
+abbrev pub IsRefusedRow : Form → List ℕ → Unanswered → Type 0
+IsRefusedRow form row (Wrong fault) = IsRowFault form row fault
+IsRefusedRow form row OutOfMemory = ⊤
+
 -- The line is no row, or there is not enough memory.
 abbrev pub IsRefusedLine : List ℕ → Unanswered → Type 0
 IsRefusedLine line (Wrong fault) = IsLineFault line fault

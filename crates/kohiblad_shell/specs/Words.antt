@@ -29,11 +29,17 @@ pub use Rattle.kohiblad_shell.specs.Inputs.{AppendsHeld, ReadsLine, ReadsPart, R
 pub use Rattle.kohiblad_shell.specs.Inputs.{made_row}
 pub use Rattle.kohiblad_shell.specs.Outcomes.{AnswersNext, IsAnswer, LineRule, row_count}
 pub use Rattle.kohiblad_shell.specs.Outcomes.{stops_at}
-pub use Rattle.kohiblad_shell.specs.Rows.{IsNotJson, IsParsed, IsRefusedLine, line_reason}
-pub use Rattle.kohiblad_shell.specs.Rows.{unanswered_of}
+pub use Rattle.kohiblad_shell.specs.Rows.{IsNotJson, IsParsed, IsRefusedLine, IsRefusedRow, IsRow}
+pub use Rattle.kohiblad_shell.specs.Rows.{line_reason, unanswered_of}
 pub use Rattle.kohiblad_shell.specs.Ranges.{is_in_range, is_tree_in}
 pub use Rattle.kohiblad_shell.specs.Removals.{IsRemoved, begins_path, path_count, without}
 pub use Rattle.kohiblad_shell.specs.Runs.{BeginsRun, IsRun}
+pub use Rattle.kohiblad_shell.specs.Surveys.{BeginsSurvey, CountsNext, IsSurveyed}
+pub use Rattle.kohiblad_shell.specs.Surveys.{container_count_lines, count_line}
+pub use Rattle.kohiblad_shell.specs.Surveys.{extension_count_lines, length_lines}
+pub use Rattle.kohiblad_shell.specs.Surveys.{number_count_lines, row_count_lines}
+pub use Rattle.kohiblad_shell.specs.Surveys.{scale_lines, survey_lines, time_count_lines}
+pub use Rattle.kohiblad_shell.specs.Surveys.{with_document}
 pub use Rattle.kohiblad_shell.specs.declared.input.Form.TheVariants.{Documents}
 pub use Rattle.kohiblad_shell.specs.declared.outcome.Unanswered.TheVariants.{OutOfMemory, Wrong}
 pub use Rattle.hex.specs.Hex.{encode_lower}

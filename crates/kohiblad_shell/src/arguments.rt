@@ -78,7 +78,7 @@ const NAMES: Operand = Operand {
     help: "Names with commas between them, such as id,who",
 };
 
-const COMMANDS: [CommandRow; 18] = [
+const COMMANDS: [CommandRow; 19] = [
     CommandRow {
         name: "check",
         about: "Report the lines that are not JSON",
@@ -126,6 +126,13 @@ const COMMANDS: [CommandRow; 18] = [
         name: "count",
         about: "Count the lines in which a path leads to some value",
         operand: Some(CONDITION),
+        value: None,
+        options: &[CommandOption::Documents, CommandOption::OnError],
+    },
+    CommandRow {
+        name: "survey",
+        about: "Count what the values are to which a path leads",
+        operand: Some(PATH),
         value: None,
         options: &[CommandOption::Documents, CommandOption::OnError],
     },

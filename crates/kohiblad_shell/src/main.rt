@@ -18,6 +18,7 @@ mod row;
 mod run;
 mod sort;
 mod status;
+mod survey;
 mod write;
 
 use arguments::{
@@ -30,6 +31,7 @@ use halt::{Halt, halt_of_write};
 use input::Form;
 use jsonb::{Document, OwnedJsonb};
 use jsonb_functions::{Selector, Step, read_path_text, steps_of_path};
+use jsonb_typed::Survey;
 use merge::{InputFault, MergeEnd};
 use operation::{Job, Operation};
 use outcome::{Unanswered, fault_text};
@@ -43,6 +45,7 @@ use std::env;
 use std::fs::File;
 use std::io::{self, BufRead, BufReader, BufWriter, Read, Write};
 use std::process::ExitCode;
+use survey::{survey_rows, survey_text};
 
 // How many bytes are read, and written, at a time.
 const BUFFER_LEN: usize = 1 << 16;
@@ -111,6 +114,8 @@ fn run_command(rt: &HostRuntime, name: &str, arguments: &ArgMatches<'_>) -> u8 {
         with_removals(rt, name, arguments)
     } else if name == "range" {
         with_bounds(rt, name, arguments)
+    } else if name == "survey" {
+        with_surveyed(rt, arguments)
     } else if has_operand(name) {
         with_path(rt, name, arguments)
     } else {
@@ -298,17 +303,92 @@ fn input_fault(rt: &HostRuntime, at: InputFault, names: &[&str]) -> u8 {
 
 // Runs a command whose operand is a path.
 fn with_path(rt: &HostRuntime, name: &str, arguments: &ArgMatches<'_>) -> u8 {
-    let path = match read_path_text(rt.alloc(), operand_in(arguments)) {
-        Ok(Some(path)) => path,
-        Ok(None) => return misuse(rt, "the operand is not a path, such as '$.price'"),
-        Err(_) => return failure(rt, Halt::Memory),
+    match path_in(rt, operand_in(arguments)) {
+        Ok(path) => {
+            let operands = Operands::Path(&path, style_in(arguments));
+            run_operands(rt, name, operands, arguments)
+        }
+        Err(status) => status,
+    }
+}
+
+// An operand as a path, or the status after its fault is reported.
+fn path_in<'a>(rt: &HostRuntime, text: &'a str) -> Result<Vec<Selector<'a>>, u8> {
+    match read_path_text(rt.alloc(), text) {
+        Ok(Some(path)) => Ok(path),
+        Ok(None) => Err(misuse(rt, "the operand is not a path, such as '$.price'")),
+        Err(_) => Err(failure(rt, Halt::Memory)),
+    }
+}
+
+// Runs the command that counts what values are.
+fn with_surveyed(rt: &HostRuntime, arguments: &ArgMatches<'_>) -> u8 {
+    match path_in(rt, operand_in(arguments)) {
+        Ok(path) => write_survey(rt, &path, arguments),
+        Err(status) => status,
+    }
+}
+
+// Counts what the values are to which a path leads. After a wrong row at which the run stops
+// nothing is written.
+fn write_survey(rt: &HostRuntime, path: &[Selector<'_>], arguments: &ArgMatches<'_>) -> u8 {
+    let mut survey = Survey::new();
+    match survey_files(rt, path, arguments, &mut survey) {
+        Ok(summary) if summary.is_stopped => NOT_FOUND,
+        Ok(summary) => match survey_text(rt.alloc(), &survey) {
+            Ok(text) => match print!(rt; "{text}") {
+                Ok(()) => run_status(Aim::Rows, Ok(summary)),
+                Err(error) => failure(rt, halt_of_write(&error)),
+            },
+            Err(_) => failure(rt, Halt::Memory),
+        },
+        Err(halt) => failure(rt, halt),
+    }
+}
+
+// Counts the values of the rows of each file, or of standard input if none is named, up to a fault
+// at which the run ends.
+fn survey_files(
+    rt: &HostRuntime,
+    path: &[Selector<'_>],
+    arguments: &ArgMatches<'_>,
+    survey: &mut Survey,
+) -> Result<Summary, Halt> {
+    let mut total = Summary {
+        rows: 0,
+        faults: 0,
+        is_stopped: false,
     };
-    run_operands(
-        rt,
-        name,
-        Operands::Path(&path, style_in(arguments)),
-        arguments,
-    )
+    let mut plan = Plan {
+        name: "-",
+        form: form_in(arguments),
+        stops_at_faults: stops_in(arguments, true),
+    };
+    let names = words_in(arguments).unwrap_or(&[]);
+    if names.is_empty() {
+        return survey_reader(rt, path, plan, rt.reader(), survey);
+    }
+    for name in names {
+        plan.name = name;
+        total = total.with(survey_reader(rt, path, plan, open_file(rt, *name)?, survey)?);
+        if total.is_stopped {
+            break;
+        }
+    }
+    Ok(total)
+}
+
+// Counts the values of the rows of a reader.
+fn survey_reader<R: Read + Drop>(
+    rt: &HostRuntime,
+    path: &[Selector<'_>],
+    plan: Plan<'_>,
+    reader: R,
+    survey: &mut Survey,
+) -> Result<Summary, Halt> {
+    let mut reader = buffered(rt, reader)?;
+    let mut errors = rt.stderr();
+    survey_rows(rt.alloc(), path, &plan, &mut reader, survey, &mut errors)
 }
 
 // Runs the command whose operands are a path without wildcards, ranges and filters, and a value.
@@ -400,13 +480,8 @@ fn push_steps<'a>(
 // The steps of a path without wildcards, ranges and filters, or the status after its fault is
 // reported.
 fn steps_in<'a>(rt: &HostRuntime, text: &'a str) -> Result<Vec<Step<'a>>, u8> {
-    let alloc = rt.alloc();
-    let path = match read_path_text(alloc, text) {
-        Ok(Some(path)) => path,
-        Ok(None) => return Err(misuse(rt, "the operand is not a path, such as '$.price'")),
-        Err(_) => return Err(failure(rt, Halt::Memory)),
-    };
-    match steps_of_path(alloc, &path) {
+    let path = path_in(rt, text)?;
+    match steps_of_path(rt.alloc(), &path) {
         Ok(Some(steps)) => Ok(steps),
         Ok(None) => {
             let what = "the path may have no wildcards, ranges and filters";

@@ -166,8 +166,8 @@ pub fn answer_next<L: LineWorker, R: BufRead>(
     }
 }
 
-// Reports a fault, after the rows that the writer still holds: both may go to one place.
-fn report_fault<W: Write, E: Write>(
+/// Reports a fault, after the rows that the writer still holds: both may go to one place.
+pub fn report_fault<W: Write, E: Write>(
     alloc: Global,
     name: &str,
     number: u64,
