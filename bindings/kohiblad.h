@@ -45,22 +45,26 @@
  * handler.
  *
  * STACK: calls with a depth recurse as deep as the document nests, up to that depth.
- * KOHIBLAD_LEVEL_STACK bytes for each level, and KOHIBLAD_CALL_STACK beside them, are enough: 64
- * levels need 72 KB, and 1,000 levels 1,008 KB. Most calls need fewer bytes for each level (these
- * were measured and rounded up, so that 1,000 levels need 258 KB in kohiblad_check):
+ * KOHIBLAD_LEVEL_STACK bytes for each level, and KOHIBLAD_CALL_STACK beside them, are enough for
+ * all but the three calls below: 64 levels need 72 KB, and 1,000 levels 1,008 KB. Most calls need
+ * fewer bytes for each level (these were measured and rounded up, so that 1,000 levels need 258 KB
+ * in kohiblad_check):
  *
  *     256 bytes: check, is_canonical, build_array, build_object, exists, object_keys, top_keys,
  *                get_path, path_in
- *     320 bytes: print, print_at, pretty, pretty_at, key, key_cut, member_key, select,
- *                select_within, compare, sort, array_intersection, array_overlap
- *     448 bytes: canonical, strip_nulls, index_keys
- *     576 bytes: pick, array_distinct, array_except
+ *     320 bytes: print, print_at, pretty, pretty_at, key, key_cut, member_key, compare, sort,
+ *                array_intersection, array_overlap
+ *     448 bytes: canonical, index_keys
+ *     576 bytes: select
+ *     768 bytes: pick, array_distinct, array_except
+ *     896 bytes: strip_nulls, select_within
  *
- * kohiblad_edit takes KOHIBLAD_EDIT_LEVEL_STACK bytes for each level of its result, which may nest
- * as deep as the path is long and the value nests together, also where these are within the depth;
- * the result of kohiblad_concat may nest one level deeper than that. parse, text_fault and
- * text_expected do not recurse, but the depth given to kohiblad_parse is also how deep its document
- * nests. The calls without a depth do not recurse.
+ * kohiblad_edit and kohiblad_concat take KOHIBLAD_EDIT_LEVEL_STACK bytes for each level of their
+ * result. That of an edit may nest as deep as the path is long and the value nests together, also
+ * where these are within the depth; that of kohiblad_concat may nest one level deeper than that.
+ * kohiblad_merge_patch takes 2560 bytes for each level. parse, text_fault and text_expected do not
+ * recurse, but the depth given to kohiblad_parse is also how deep its document nests. The calls
+ * without a depth do not recurse.
  *
  * NULL is allowed for bytes, texts, offsets, out and order whose length is 0, and for `key` of
  * kohiblad_next. A `length`, a `count`, a cursor and `value` of kohiblad_next are never null.

@@ -201,7 +201,7 @@ static void *work(void *unused) {
         uint8_t *path = path_of(&path_size);
         status = kohiblad_get_path(in, in_size, path, path_size, levels).status;
         free(path);
-    } else if (!strcmp(name, "select")) {
+    } else if (!strcmp(name, "select") || !strcmp(name, "select_within")) {
         /* A path to the innermost value, with wildcards. */
         bool is_object = in[0] == 0x40;
         size_t each = is_object ? 2 : 3;
@@ -210,8 +210,11 @@ static void *work(void *unused) {
         path[0] = '$';
         for (size_t i = 0; i < levels; i++)
             memcpy(path + 1 + each * i, is_object ? ".*" : "[*]", each);
-        status = kohiblad_select(in, in_size, (const uint8_t *)path, 1 + each * levels, levels,
-                                 NULL, 0, &length);
+        const uint8_t *text = (const uint8_t *)path;
+        size_t size = 1 + each * levels;
+        status = name[6] ? kohiblad_select_within(in, in_size, text, size, levels, SIZE_MAX, NULL,
+                                                  0, &length)
+                         : kohiblad_select(in, in_size, text, size, levels, NULL, 0, &length);
         status |= (uint32_t)(length != 1) << 8;
         free(path);
     } else if (!strcmp(name, "index_keys"))

@@ -73,10 +73,12 @@ pub use words::{fault_words, fault_words_with_exponents};
 /// its deepest child, and at least 1.
 ///
 /// Documents of this depth fit a thread of 2 MiB, which is what Rust gives a thread: calls on them
-/// take at most 1,008 KB of its stack, and [`set`](RawJsonb::set), [`insert`](RawJsonb::insert) and
-/// [`remove`](RawJsonb::remove) 2,008 KB, which leaves 40 KB for the frames of the program. Where
-/// less is left, give [`RawJsonb::within`] and [`OwnedJsonb::parse`] the depth that fits: for each
-/// level calls take [`LEVEL_STACK`], or [`EDIT_LEVEL_STACK`], and beside them [`CALL_STACK`].
+/// take at most 1,008 KB of its stack, and [`set`](RawJsonb::set), [`insert`](RawJsonb::insert),
+/// [`remove`](RawJsonb::remove) and [`concat`](RawJsonb::concat) 2,008 KB, which leaves 40 KB for
+/// the frames of the program. [`merge_patch`](RawJsonb::merge_patch) takes 2,508 KB: a thread of
+/// 2 MiB has enough for 800 levels. Where less is left, give [`RawJsonb::within`] and
+/// [`OwnedJsonb::parse`] the depth that fits: for each level calls take [`LEVEL_STACK`], or
+/// [`EDIT_LEVEL_STACK`], and beside them [`CALL_STACK`].
 ///
 /// ```
 /// use kohiblad::{CALL_STACK, EDIT_LEVEL_STACK, LEVEL_STACK, MAX_DEPTH};
@@ -96,8 +98,9 @@ pub const CALL_STACK: usize = 8192;
 /// How many bytes of stack a call takes at most for each level that its documents nest.
 pub const LEVEL_STACK: usize = 1024;
 
-/// The same of [`RawJsonb::set`], [`RawJsonb::insert`] and [`RawJsonb::remove`], for each level of
-/// the document and of the result.
+/// The same of [`RawJsonb::set`], [`RawJsonb::insert`], [`RawJsonb::remove`] and
+/// [`RawJsonb::concat`], for each level of the document and of the result. Of
+/// [`RawJsonb::merge_patch`] it is 2560.
 pub const EDIT_LEVEL_STACK: usize = 2048;
 
 /// The version of the library: millions, thousands and ones. 8000 is 0.8.0.

@@ -40,6 +40,9 @@ fn the_greatest_depth_fits_the_stack_of_a_thread() {
 /// What the tests take of a stack beside the calls.
 const OWN_FRAMES: usize = 64 << 10;
 
+/// How deep a patch fits a thread of 2 MiB.
+const MERGE_DEPTH: usize = 800;
+
 /// Runs in a thread that has so much stack, and for this depth.
 fn in_thread(stack: usize, depth: usize, run: fn(usize)) {
     let thread = thread::Builder::new().stack_size(stack);
@@ -63,19 +66,30 @@ fn read(depth: usize) {
         assert_eq!(raw.to_canonical().unwrap(), document);
         assert_eq!(raw.index_keys().unwrap().len(), 1);
         assert_eq!(raw.strip_nulls().unwrap(), document);
-        assert_eq!(raw.merge_patch(other).unwrap(), document);
         assert_eq!(raw.array_overlap(other), Ok(true));
-        assert!(raw.concat(other).is_ok());
         assert_eq!(bytes::sorted_order([raw, other]), Ok(vec![0, 1]));
         assert!(bytes::compare(raw.as_bytes(), other.as_bytes()).is_eq());
     }
 }
 
-/// The calls that change a document of a depth at a path: above it, at its bottom and half-way.
+/// A document of a depth changed by a patch of that depth.
+fn merge(depth: usize) {
+    for (open, close) in [("[", "]"), ("{\"a\":", "}")] {
+        let document = OwnedJsonb::parse(text(depth, open, close), depth).unwrap();
+        assert_eq!(
+            document.as_raw().merge_patch(document.as_raw()).unwrap(),
+            document
+        );
+    }
+}
+
+/// The calls that change a document of a depth at a path: above it, at its bottom and half-way; and
+/// two documents joined.
 fn change(depth: usize) {
     for (open, close) in [("[", "]"), ("{\"a\":", "}")] {
         let document = OwnedJsonb::parse(text(depth, open, close), depth).unwrap();
         let raw = document.as_raw();
+        assert!(raw.concat(raw).is_ok());
         for steps in [1, depth / 2, depth] {
             let path = (0..steps).fold(Path::new(), |path, _| match open {
                 "[" => path.index(0),
@@ -93,6 +107,8 @@ fn change(depth: usize) {
 fn the_greatest_depth_fits_2_mib() {
     in_thread(2 << 20, MAX_DEPTH, read);
     in_thread(2 << 20, MAX_DEPTH, change);
+    in_thread(2 << 20, MERGE_DEPTH, merge);
+    in_thread(3 << 20, MAX_DEPTH, merge);
 }
 
 #[test]
