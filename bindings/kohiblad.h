@@ -62,9 +62,9 @@
  * kohiblad_edit and kohiblad_concat take KOHIBLAD_EDIT_LEVEL_STACK bytes for each level of their
  * result. That of an edit may nest as deep as the path is long and the value nests together, also
  * where these are within the depth; that of kohiblad_concat may nest one level deeper than that.
- * kohiblad_merge_patch takes 2560 bytes for each level. parse, text_fault and text_expected do not
- * recurse, but the depth given to kohiblad_parse is also how deep its document nests. The calls
- * without a depth do not recurse.
+ * kohiblad_merge_patch takes KOHIBLAD_PATCH_LEVEL_STACK bytes for each level. parse, text_fault and
+ * text_expected do not recurse, but the depth given to kohiblad_parse is also how deep its document
+ * nests. The calls without a depth do not recurse.
  *
  * NULL is allowed for bytes, texts, offsets, out and order whose length is 0, and for `key` of
  * kohiblad_next. A `length`, a `count`, a cursor and `value` of kohiblad_next are never null.
@@ -86,6 +86,7 @@
 /* The stack that is enough, in bytes: see STACK above. These were measured, on x86-64. */
 #define KOHIBLAD_LEVEL_STACK 1024
 #define KOHIBLAD_EDIT_LEVEL_STACK 2048
+#define KOHIBLAD_PATCH_LEVEL_STACK 2560
 #define KOHIBLAD_CALL_STACK 8192
 
 /* The room that is enough for the words of a fault. */

@@ -57,6 +57,14 @@ WORDS = [
     (r"With `exponents` 0 ", "With KOHIBLAD_EXPONENTS_FORBIDDEN "),
     (r"With `fit` 0 ", "With KOHIBLAD_BY_VALUE "),
 ]
+# The groups of calls whose stack for a level was measured, in the header's first comment.
+STACK_GROUP = re.compile(r"^ \* +(\d+) bytes: (.*?)(?=^ \* +\d+ bytes: |^ \*$)", re.M | re.S)
+# The calls that the other figures are for.
+STACK_CALLS = {
+    "LEVEL": ["contains"], "EDIT_LEVEL": ["edit", "concat"], "PATCH_LEVEL": ["merge_patch"],
+}
+# The rows of the table of stack in docs/C.md.
+STACK_ROWS = re.compile(r"(\| bytes for a level \|.*\n\|[-|]+\n)((?:\| \d.*\n)+)")
 # What is said to C alone, after the comment.
 ALSO = {
     "kohiblad_status_name": "A name has at most 21 bytes.",
@@ -186,11 +194,29 @@ def write(name, text, folder="bindings"):
         file.write(text)
 
 
-def with_blocks(page, written):
-    """The page of C with the header's signatures, and the recipes as the programs are."""
+def stack_rows(header):
+    """The rows of the table of stack: the bytes for a level, the calls, and what some levels take."""
+    def number_of(name):
+        return int(re.search(rf"^#define KOHIBLAD_{name}_STACK (\d+)$", header, re.M)[1])
+
+    groups = [(int(it[1]), re.findall(r"\w+", it[2])) for it in STACK_GROUP.finditer(header)]
+    groups += [(number_of(name), calls) for name, calls in STACK_CALLS.items()]
+    rows = []
+    for level, calls in groups:
+        first, *others = calls
+        named = ", ".join([f"`kohiblad_{first}`", *[f"`_{it}`" for it in others]])
+        taken = [-(-(levels * level + number_of("CALL")) // 1024) for levels in (64, 1000)]
+        rows.append(f"| {level:,} | {named} | {taken[0]:,} KB | {taken[1]:,} KB |\n")
+    return "".join(rows)
+
+
+def with_blocks(page, header, written):
+    """The page of C with the header's signatures and figures of stack, and the recipes as the
+    programs are."""
     def recipe(it):
         return it[1] + text_of(f"{TOP}/bindings/examples/{it[2]}") + it[3]
 
+    page = STACK_ROWS.sub(lambda it: it[1] + stack_rows(header), page)
     page = SIGNATURES.sub(lambda it: it[1] + "\n".join(written.values()) + "\n" + it[2], page)
     return RECIPE.sub(recipe, page)
 
@@ -219,14 +245,14 @@ def compare(is_to_write):
     if text_of(f"{TOP}/bindings/kohiblad_cffi.h") != made:
         faults.append("kohiblad_cffi.h is not that of the header: tools/pages --write")
     page = text_of(f"{TOP}/docs/C.md")
-    right_page = with_blocks(page, signatures)
+    right_page = with_blocks(page, header, signatures)
     if is_to_write and right_page != page:
         write("C.md", right_page, "docs")
         page = right_page
     if page != right_page:
-        faults.append("docs/C.md has other signatures or recipes: tools/pages --write header")
-    if not SIGNATURES.search(page) or len(RECIPE.findall(page)) < 3:
-        faults.append("docs/C.md lacks signatures or recipes")
+        faults.append("docs/C.md has other figures, signatures or recipes: tools/pages --write header")
+    if not all(it.search(page) for it in (STACK_ROWS, SIGNATURES, RECIPE)):
+        faults.append("docs/C.md lacks figures of stack, signatures or recipes")
     left = exported()
     for name in sorted(left.keys() | right.keys()):
         if left.get(name) != right.get(name):

@@ -80,12 +80,13 @@ static inline size_t depth_of_size(size_t size) {
     return Min(MAX_DEPTH, size / LEVEL_SIZE + 1);
 }
 
-/* The stack that a call takes over documents of this depth, and an edit whose result has it. */
-static inline size_t stack_of_depth(size_t depth) {
-    return depth * KOHIBLAD_LEVEL_STACK + KOHIBLAD_CALL_STACK;
+/* The stack that a call takes over documents of this depth, where each level takes so much; and
+ * that of most calls. */
+static inline size_t stack_of_levels(size_t depth, size_t level) {
+    return depth * level + KOHIBLAD_CALL_STACK;
 }
-static inline size_t edit_stack_of_depth(size_t depth) {
-    return depth * KOHIBLAD_EDIT_LEVEL_STACK + KOHIBLAD_CALL_STACK;
+static inline size_t stack_of_depth(size_t depth) {
+    return stack_of_levels(depth, KOHIBLAD_LEVEL_STACK);
 }
 
 /* The name of a status, and what it means, NULL if its name says all. */

@@ -42,7 +42,7 @@ struct varlena *edited(Bytes document, Bytes steps, int count, enum kohiblad_edi
     size_t depth = depth_of_size(Max(document.size, value.size)), length;
     size_t room =
         Min(document.size + value.size + steps.size + EDIT_SLACK, MaxAllocSize - VARHDRSZ);
-    check_stack_for(edit_stack_of_depth(Min(MAX_DEPTH, depth + count)));
+    check_stack_for(stack_of_levels(Min(MAX_DEPTH, depth + count), KOHIBLAD_EDIT_LEVEL_STACK));
     while (!result) {
         struct varlena *out = palloc(VARHDRSZ + room);
         uint32_t status =
@@ -53,11 +53,12 @@ struct varlena *edited(Bytes document, Bytes steps, int count, enum kohiblad_edi
     return result;
 }
 
-static struct varlena *made_of_two(PairCall call, Bytes left, Bytes right) {
+/* The document that a call makes of two, which takes so much stack for each level. */
+static struct varlena *made_of_two(PairCall call, size_t level_stack, Bytes left, Bytes right) {
     struct varlena *result = NULL;
     size_t depth = depth_of_size(Max(left.size, right.size)), length;
     size_t room = Min(left.size + right.size + EDIT_SLACK, MaxAllocSize - VARHDRSZ);
-    check_stack_for(stack_of_depth(depth));
+    check_stack_for(stack_of_levels(depth, level_stack));
     while (!result) {
         struct varlena *out = palloc(VARHDRSZ + room);
         uint32_t status = call(left.at, left.size, right.at, right.size, depth,
@@ -77,7 +78,7 @@ static void check_joined_depth(Bytes left, Bytes right) {
 
 struct varlena *joined(Bytes left, Bytes right) {
     check_joined_depth(left, right);
-    return made_of_two(kohiblad_concat, left, right);
+    return made_of_two(kohiblad_concat, KOHIBLAD_EDIT_LEVEL_STACK, left, right);
 }
 
 PG_FUNCTION_INFO_V1(pg_kohiblad_concat);
@@ -90,7 +91,8 @@ Datum pg_kohiblad_concat(PG_FUNCTION_ARGS) {
 PG_FUNCTION_INFO_V1(pg_kohiblad_merge_patch);
 Datum pg_kohiblad_merge_patch(PG_FUNCTION_ARGS) {
     struct varlena *target = PG_GETARG_VARLENA_PP(0), *patch = PG_GETARG_VARLENA_PP(1);
-    PG_RETURN_POINTER(made_of_two(kohiblad_merge_patch, bytes_of(target), bytes_of(patch)));
+    PG_RETURN_POINTER(made_of_two(kohiblad_merge_patch, KOHIBLAD_PATCH_LEVEL_STACK,
+                                  bytes_of(target), bytes_of(patch)));
 }
 
 static void pg_attribute_noreturn() refuse_edit(const char *reason) {
@@ -236,7 +238,8 @@ static Bytes listed_names(Names *names) {
 /* An object without the members that are named, or as it was if there are none. */
 static struct varlena *without_members(struct varlena *given, Names *names) {
     Bytes document = bytes_of(given);
-    struct varlena *result = made_of_two(pick_others, document, listed_names(names));
+    struct varlena *result =
+        made_of_two(pick_others, KOHIBLAD_LEVEL_STACK, document, listed_names(names));
     return kind_of(bytes_of(result)).count == kind_of(document).count ? given : result;
 }
 

@@ -77,8 +77,8 @@ pub use words::{fault_words, fault_words_with_exponents};
 /// [`remove`](RawJsonb::remove) and [`concat`](RawJsonb::concat) 2,008 KB, which leaves 40 KB for
 /// the frames of the program. [`merge_patch`](RawJsonb::merge_patch) takes 2,508 KB: a thread of
 /// 2 MiB has enough for 800 levels. Where less is left, give [`RawJsonb::within`] and
-/// [`OwnedJsonb::parse`] the depth that fits: for each level calls take [`LEVEL_STACK`], or
-/// [`EDIT_LEVEL_STACK`], and beside them [`CALL_STACK`].
+/// [`OwnedJsonb::parse`] the depth that fits: for each level calls take [`LEVEL_STACK`],
+/// [`EDIT_LEVEL_STACK`] or [`PATCH_LEVEL_STACK`], and beside them [`CALL_STACK`].
 ///
 /// ```
 /// use kohiblad::{CALL_STACK, EDIT_LEVEL_STACK, LEVEL_STACK, MAX_DEPTH};
@@ -99,9 +99,11 @@ pub const CALL_STACK: usize = 8192;
 pub const LEVEL_STACK: usize = 1024;
 
 /// The same of [`RawJsonb::set`], [`RawJsonb::insert`], [`RawJsonb::remove`] and
-/// [`RawJsonb::concat`], for each level of the document and of the result. Of
-/// [`RawJsonb::merge_patch`] it is 2560.
+/// [`RawJsonb::concat`], for each level of the document and of the result.
 pub const EDIT_LEVEL_STACK: usize = 2048;
+
+/// The same of [`RawJsonb::merge_patch`].
+pub const PATCH_LEVEL_STACK: usize = 2560;
 
 /// The version of the library: millions, thousands and ones. 8000 is 0.8.0.
 ///

@@ -1,7 +1,7 @@
 //! Deep nesting, in threads with the stack that `std::thread` gives, which is where tests run.
 
 use kohiblad::{bytes, Error, OwnedJsonb, Path, RawJsonb, CALL_STACK, MAX_DEPTH};
-use kohiblad::{EDIT_LEVEL_STACK, LEVEL_STACK};
+use kohiblad::{EDIT_LEVEL_STACK, LEVEL_STACK, PATCH_LEVEL_STACK};
 use std::thread;
 
 /// The text of arrays, or of objects, inside one another.
@@ -113,16 +113,18 @@ fn the_greatest_depth_fits_2_mib() {
 
 #[test]
 fn less_stack_holds_the_depths_of_the_page() {
-    for (left, depth, depth_of_changes) in [
-        (1 << 20, 1000, 508),
-        (512 << 10, 504, 252),
-        (256 << 10, 248, 124),
-        (64 << 10, 56, 28),
+    for (left, depth, depth_of_changes, depth_of_patches) in [
+        (1 << 20, 1000, 508, 406),
+        (512 << 10, 504, 252, 201),
+        (256 << 10, 248, 124, 99),
+        (64 << 10, 56, 28, 22),
     ] {
         assert_eq!(MAX_DEPTH.min((left - CALL_STACK) / LEVEL_STACK), depth);
         assert_eq!((left - CALL_STACK) / EDIT_LEVEL_STACK, depth_of_changes);
+        assert_eq!((left - CALL_STACK) / PATCH_LEVEL_STACK, depth_of_patches);
         in_thread(left + OWN_FRAMES, depth, read);
         in_thread(left + OWN_FRAMES, depth_of_changes, change);
+        in_thread(left + OWN_FRAMES, depth_of_patches, merge);
     }
 }
 
