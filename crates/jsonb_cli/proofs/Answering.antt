@@ -90,10 +90,6 @@ pub item_found : {value : Option Tree} {x : ItemView} → IsItemFound value (Som
 item_found {value = Some u} item = (u, (refl, item))
 item_found {value = None} none = absurd none
 
-pub nothing_found : {value : Option Tree} → IsItemFound value None → value ≡ None
-nothing_found {value = None} none = refl
-nothing_found {value = Some u} none = absurd none
-
 Each-append : {A B : Type 0} {R : A → B → Type 0} {xs xs' : List A} {ys ys' : List B}
     → Each R xs ys → Each R xs' ys' → Each R (xs ++ xs') (ys ++ ys')
 Each-append each.none later = later

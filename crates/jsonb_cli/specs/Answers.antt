@@ -1,6 +1,6 @@
 -- The answers to lines.
 use Rattle.std.specs.Prelude.{◌≡◌, ◌⊎◌, ◌++◌, ◌∷◌, ℕ, List, length, map, nat_eq, codes}
-use Rattle.std.specs.Prelude.{chars, Option, Some, None, Result, Ok, Err}
+use Rattle.std.specs.Prelude.{chars, Some, None, Result, Ok, Err}
 use Rattle.std.specs.Cmp.Lexicographic.{pointwise}
 use Rattle.std.specs.Fmt.{decimal}
 use Rattle.std.specs.declared.cmp.Ordering.{Ordering}

@@ -1,23 +1,22 @@
 -- The replies about the members of all rows, and that each is the only one.
-use Rattle.std.proofs.Common.{◌≡◌, ◌⊎◌, inl, inr, ℕ, ◌+◌, ◌<◌, max, length, List, [], ◌∷◌, ◌++◌}
+use Rattle.std.proofs.Common.{◌≡◌, inl, inr, ℕ, ◌+◌, ◌<◌, max, length, List, [], ◌∷◌, ◌++◌}
 use Rattle.std.proofs.Common.{map}
 use Rattle.std.proofs.Common.{take, refl, sym, ap, ap₂, subst, ◌∙◌, append_assoc, Option, None}
 use Rattle.std.proofs.Common.{Some}
 use Rattle.std.proofs.Common.{codes, Result, Ok, Err}
 use Rattle.std.specs.Prelude.{◌↔◌, All, IfErr, IfOk, slice_get}
-use Rattle.std.specs.List.{AllZip, after_first, before_first}
+use Rattle.std.specs.List.{AllZip}
 use Rattle.std.specs.String.{string_bytes}
 use Rattle.std.specs.declared.alloc.Global.{Global}
 use Rattle.std.specs.declared.string.String.{String}
 use Rattle.std.proofs.lemmas.List.{append-nil, map-append, take_more}
-use Rattle.std.proofs.lemmas.List.Elements.{All-cons, All-get_or, All-head, All-map, All-nil}
+use Rattle.std.proofs.lemmas.List.Elements.{All-cons, All-head, All-map, All-nil}
 use Rattle.std.proofs.lemmas.List.Elements.{All-tail}
 use Rattle.std.proofs.lemmas.Option.{get_or_from_slice_get, slice_get_within}
 use Rattle.jsonb_value.specs.Text.{compact}
 use Rattle.jsonb_value.specs.Tree as trees
 use Rattle.jsonb_value.specs.Tree.{Tree}
 use Rattle.jsonb_value.specs.declared.error.Error.TheVariants.{OutOfMemory}
-use Rattle.jsonb_codec.specs.Doc.{Doc, IsDocument}
 use Rattle.jsonb.specs.declared.document.Document.{Document}
 use Rattle.jsonb.specs.Document.{document_bytes, document_tree, tree_in}
 use Rattle.jsonb.proofs.DocumentLaws.{tree_in-is}
@@ -39,7 +38,7 @@ use Rattle.jsonb_typed.specs.declared.numbers.Fit.TheVariants.{ByValue}
 use Rattle.jsonb_typed.specs.declared.survey.Survey.{Survey}
 use Rattle.jsonb_typed.proofs.OneValueLaws.{one_value}
 use Rattle.jsonb_column_cli.specs.declared.answer.Refusal.{Refusal}
-use Rattle.jsonb_column_cli.specs.declared.answer.Refusal.TheVariants.{BadPath, Call}
+use Rattle.jsonb_column_cli.specs.declared.answer.Refusal.TheVariants.{Call}
 use Rattle.jsonb_column_cli.specs.Answers.{IsOutcome, IsRowsAnswer, IsRowsRefusal, Rows, reply_of}
 use Rattle.jsonb_column_cli.specs.Commands.{ColumnForm}
 use Rattle.jsonb_column_cli.specs.Members.{IsColumnLine, IsColumnLineOf, IsColumnReply, IsFirstOf}
@@ -180,12 +179,6 @@ words_line-more words word =
     ap (λ b. 111 ∷ 107 ∷ b)
     (spoken-append words (word ∷ []) ∙ ap (λ b. spoken_words words ++ 32 ∷ b) (append-nil word))
 
-pub kept_there : {V : Type 0} (cells : List (Cell V)) (i : ℕ) (c : Cell V)
-    → All IsKept cells → Some c ≡ slice_get cells i → IsKept c
-kept_there cells i c all there =
-    subst IsKept (get_or_from_slice_get cells i c c (sym there))
-    (All-get_or IsKept cells i c (slice_get_within cells i c (sym there)) all)
-
 -- One more word.
 pub cells_line-more : {V : Type 0} (tree : V → Tree) (cells : List (Cell V)) (i : ℕ) (c : Cell V)
     (before spaced after word : List ℕ) → Some c ≡ slice_get cells i
@@ -293,15 +286,6 @@ pub told : (rows : Rows) (form : ColumnForm) (r : Result (String Global) Refusal
 told rows form (Ok line) P ok memory answers = answers (string_bytes line) ok
 told rows form (Err x) P ok memory answers =
     (subst (IsRowsRefusal rows form) (sym memory) tt, refl)
-
-pub path_refused : (rows : Rows) (form : ColumnForm) (text : List ℕ) (refusal : Refusal)
-    → (refusal ≡ Call OutOfMemory) ⊎ ((refusal ≡ BadPath) × IsNoPath text)
-    → (IsNoPath text → IsRowsRefusal rows form BadPath)
-    → IsOutcome rows form (Err refusal) rows
-path_refused rows form text refusal (inl is) refuses =
-    (subst (IsRowsRefusal rows form) (sym is) tt, refl)
-path_refused rows form text refusal (inr (is, none)) refuses =
-    (subst (IsRowsRefusal rows form) (sym is) (refuses none), refl)
 
 -- ---- each is the only one
 

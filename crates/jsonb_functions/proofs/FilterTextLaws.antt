@@ -68,17 +68,6 @@ comparison_read text c rest x e all is = record {
       (cc, cc);
 }
 
-pub no_comparison : (text : List ℕ) → all_are (is_not 32) text ≡ true
-    → Reads (λ (y : Comparison). y) (IsComparison text) None
-no_comparison text all = record {
-  is = tt;
-  only = λ y later h.
-      let same = split_once (is_not 32) text [] h.0 (32 ∷ later) all (no_space h.0 y h.2) tt refl
-      (append-nil text ∙ h.1) in
-      let none : [] ≡ 32 ∷ later = same.1 in
-      absurd (cc);
-}
-
 pub other_comparison : (text c rest : List ℕ) → text ≡ c ++ (32 ∷ rest)
     → all_are (is_not 32) c ≡ true → None ≡ comparison_in c
     → Reads (λ (y : Comparison). y) (IsComparison text) None

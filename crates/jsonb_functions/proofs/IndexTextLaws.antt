@@ -43,10 +43,6 @@ comma_among [] rest = refl
 comma_among (c ∷ front) rest =
     ap (λ (b : Bool). is_not 44 c && b) (comma_among front rest) ∙ and-false (is_not 44 c)
 
-pub comma_there : (text front rest : List ℕ) → text ≡ front ++ (44 ∷ rest)
-    → all_are (is_not 44) text ≡ false
-comma_there text front rest e = ap (all_are (is_not 44)) e ∙ comma_among front rest
-
 -- ---- a list of which some indexes were read
 
 -- Indexes before others, if there are others.

@@ -1,7 +1,7 @@
 -- Whether names are among the keys at the top of a tree, in any order of the two walks.
 use Rattle.std.proofs.Common.{◌≡◌, ℕ, List, [], ◌∷◌, length, refl, sym, ap, ◌∙◌, Bor}
 use Rattle.std.proofs.Common.{arith, ⊎_elim}
-use Rattle.std.specs.Prelude.{Bool, true, false, not, ◌&&◌, ◌||◌, ◌↔◌, IsTrue, None, Some}
+use Rattle.std.specs.Prelude.{Bool, true, false, not, ◌&&◌, ◌||◌, ◌↔◌, IsTrue, Some}
 use Rattle.std.specs.Prelude.{IsPermutation, if◌then◌else◌}
 use Rattle.std.specs.BTreeSet.{BTreeSet}
 use Rattle.std.specs.Cmp.Lexicographic.{slice_cmp, nat_list_cmp_total}
@@ -33,7 +33,7 @@ use Rattle.jsonb_functions.specs.KeyTests.{has_name, names_cmp}
 use Rattle.jsonb_functions.specs.Picked.{is_named}
 use Rattle.jsonb_functions.proofs.IndexLaws.{are_equal, both, one_is}
 use Rattle.jsonb_functions.proofs.KeyOrder.{flipped, key_equal, met, passed}
-use Rattle.jsonb_functions.proofs.WalkLaws.{array_items, object_members}
+use Rattle.jsonb_comparable.proofs.WalkLaws.{array_items, object_members}
 
 abbrev Names : Type 0
 Names = List (Bor (List ℕ))
@@ -75,16 +75,6 @@ top_of_array t ts e k = rw (array_items t ts e) refl
 pub top_of_object : (t : Tree) (ps : List (List ℕ × Tree)) → Some ps ≡ members_of t
     → (k : List ℕ) → has_top_key k t ≡ is_there (value_of_key k (object_of ps))
 top_of_object t ps e k = rw (object_members t ps e) refl
-
-pub top_of_scalar : (t : Tree) → None ≡ items_of t → None ≡ members_of t → (k : List ℕ)
-    → has_top_key k t ≡ contained (text k) t
-top_of_scalar null e f k = refl
-top_of_scalar (boolean b) e f k = refl
-top_of_scalar (number x) e f k = refl
-top_of_scalar (text s) e f k = refl
-top_of_scalar (extension x) e f k = refl
-top_of_scalar (array ts) e f k = absurd (cc)
-top_of_scalar (object ps) e f k = absurd (cc)
 
 -- No text is in a value that is not one.
 other_in : (t : Tree) → type_of t ≡ CONTAINER_TAG → (k : List ℕ) → contained (text k) t ≡ false
@@ -180,10 +170,6 @@ pub removed_twice : (had first others : Bool)
 removed_twice true true others = refl
 removed_twice true false others = refl
 removed_twice false first others = refl
-
-pub removed_none : (had : Bool) → had ≡ (had && not false)
-removed_none true = refl
-removed_none false = refl
 
 pub removed_one : (had is : Bool) → (if is then false else had) ≡ (had && not is)
 removed_one true true = refl

@@ -13,7 +13,7 @@ use Rattle.jsonb_codec.specs.Doc.{Children, IsKey, Keys, One, type_of}
 use Rattle.jsonb_codec.specs.Parts.{IsObject}
 use Rattle.jsonb_codec.specs.PartSource as parts
 use Rattle.jsonb_codec.specs.Shape as shapes
-use Rattle.jsonb_codec.specs.Shape.{AllFit, Shapes, shape_count}
+use Rattle.jsonb_codec.specs.Shape.{AllFit, Shapes}
 use Rattle.jsonb_codec.proofs.TreeShapes.{count-items_shapes}
 use Rattle.jsonb_codec.proofs.Unique.{Children-unique}
 use Rattle.jsonb_value.specs.Tree as trees

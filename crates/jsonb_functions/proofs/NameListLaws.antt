@@ -75,26 +75,10 @@ no_mark_after mark (c ∷ text) low high =
     let other : (c == mark) ≡ false = ne_eqb c mark (λ e. absurd (omega (arith, low, high, e))) in
     rw other refl
 
-pub other_mark_after : (mark c : ℕ) (text rest : List ℕ) → text ≡ c ∷ rest → (c ≡ mark → ⊥)
-    → None ≡ name_after mark text
-other_mark_after mark c text rest e other =
-    let no : (c == mark) ≡ false = ne_eqb c mark other in rw (e, no) refl
-
 pub mark_after : (mark c : ℕ) (text rest : List ℕ) → text ≡ c ∷ rest → c ≡ mark
     → list_name rest ≡ name_after mark text
 mark_after mark c text rest e is =
     let yes : (c == mark) ≡ true = rw is (eq-eqb mark mark refl) in rw (e, yes) refl
-
-pub plain_listed : (text : List ℕ) → BeginsNoMark text → plain_name text ≡ list_name text
-plain_listed [] none = refl
-plain_listed (c ∷ text) high =
-    let other : (c == 34) ≡ false = ne_eqb c 34 (λ e. absurd (omega (arith, high, e))) in
-    rw other refl
-
-pub other_listed : (c : ℕ) (text rest : List ℕ) → text ≡ c ∷ rest → (c ≡ 34 → ⊥)
-    → plain_name text ≡ list_name text
-other_listed c text rest e other =
-    let no : (c == 34) ≡ false = ne_eqb c 34 other in rw (e, no) refl
 
 -- What is left after a name is shorter.
 quoted_by : (c : ℕ) (bytes : List ℕ)
@@ -214,9 +198,6 @@ first_read text name rest names some first e = record {
       let was = first_only text name rest some first all is in
       (was.0, (was.1.0 ∙ ap (λ x. x ++ was.0) (sym e), was.1.1));
 }
-
-pub nothing_after_end : name_after 44 (codes "}") ≡ None
-nothing_after_end = refl
 
 pub same_bytes : (xs ys : List ℕ) → true ≡ bytes_eq xs ys → xs ≡ ys
 same_bytes xs ys e = (bytes_eq-Decides xs ys).0 (sym e)

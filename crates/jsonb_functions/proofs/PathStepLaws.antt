@@ -1,6 +1,6 @@
 -- How the first step of a text is written.
 use Rattle.std.proofs.Common.{◌≡◌, ℕ, List, [], ◌∷◌, ◌++◌, length, refl, sym}
-use Rattle.std.proofs.Common.{ap, ◌∙◌, arith, true, false, Bool, Bor, append_assoc, subst}
+use Rattle.std.proofs.Common.{ap, ◌∙◌, arith, true, false, Bool, Bor, append_assoc}
 use Rattle.std.proofs.Common.{inl, inr, ne_eqb}
 use Rattle.std.proofs.Math.Dec.{eqb-suc-zero}
 use Rattle.std.proofs.lemmas.List.{append-nil}
@@ -259,12 +259,6 @@ module _ (in_filter : Bool) where
           | inr e ↦ bracket e.0 e.1
         ];
   }
-
-pub reads_same : (Begins : List ℕ → SelectorView → List ℕ → Type 0) (in_filter : Bool)
-    (text other : List ℕ) (r : Option (Selector × Bor (List ℕ))) → text ≡ other
-    → ReadsStep Begins in_filter other r → ReadsStep Begins in_filter text r
-reads_same Begins in_filter text other r e h =
-    subst (λ t. ReadsStep Begins in_filter t r) (sym e) h
 
 pub all_bytes : (name : List ℕ) → true ≡ (length name == 0) → name ≡ []
 all_bytes [] none = refl

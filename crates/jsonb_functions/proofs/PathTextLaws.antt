@@ -384,16 +384,7 @@ abbrev pub passed_len : (len passed more : ℕ) → ℕ
 passed_len len passed zero = len
 passed_len len passed (suc more) = passed + suc more
 
-pub none_passed : (n : ℕ) → n ≡ passed_len 0 0 n
-none_passed zero = refl
-none_passed (suc n) = omega arith
-
 pub one_passed : (c len passed more : ℕ) → is_space c ≡ false
     → passed_len len passed (longer_name c more) ≡ passed_len (passed + 1) (passed + 1) more
 one_passed c len passed zero e = ap (passed_len len passed) (one_byte c false e)
 one_passed c len passed (suc more) e = omega arith
-
-pub space_passed : (c len passed more : ℕ) → is_space c ≡ true
-    → passed_len len passed (longer_name c more) ≡ passed_len len (passed + 1) more
-space_passed c len passed zero e = ap (passed_len len passed) (one_byte c true e)
-space_passed c len passed (suc more) e = omega arith

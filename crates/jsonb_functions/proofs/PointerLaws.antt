@@ -1,7 +1,7 @@
 -- The names in a pointer, and the pointer of names.
-use Rattle.std.proofs.Common.{◌≡◌, ◌<◌, ◌≤◌, ◌+◌, ℕ, List, [], ◌∷◌, ◌++◌, length, drop, refl, sym}
+use Rattle.std.proofs.Common.{◌≡◌, ◌<◌, ◌+◌, ℕ, List, [], ◌∷◌, ◌++◌, length, refl, sym}
 use Rattle.std.proofs.Common.{ap, ◌∙◌, arith, true, false, Bool, ne_eqb, length-append, inl, inr}
-use Rattle.std.proofs.Common.{length-drop, eqb-true}
+use Rattle.std.proofs.Common.{eqb-true}
 use Rattle.std.specs.Prelude.{Option, None, Some, ◌==◌, ◌&&◌, ◌⊎◌, not}
 use Rattle.std.proofs.lemmas.Bool.Decides.{nat_tests}
 use Rattle.jsonb_functions.specs.Names.{with_byte, AreNames, BeginsNoMark}
@@ -93,26 +93,10 @@ character_low code character is =
       | inr e ↦ omega (arith, e.1)
     ]
 
--- What is left is shorter.
-pub left_shorter : (left rest after next : List ℕ) (n c code : ℕ) → rest ≡ drop n left
-    → rest ≡ c ∷ after → after ≡ code ∷ next → length next < length left
-left_shorter left rest after next n c code e f g =
-    let whole : length rest ≤ length left =
-    rw e (simp length-drop (omega arith)) in
-    let first : length rest ≡ length after + 1 = ap length f ∙ omega arith in
-    let second : length after ≡ length next + 1 = ap length g ∙ omega arith in
-    omega (arith, whole, first, second)
-
 -- A name that was read is written so.
 abbrev marked : Bool → List ℕ → List ℕ
 marked true bytes = 126 ∷ bytes
 marked false bytes = bytes
-
-escaped_tilde : (name : List ℕ) → escaped_name (126 ∷ name) ≡ 126 ∷ (48 ∷ escaped_name name)
-escaped_tilde name = refl
-
-escaped_slash : (name : List ℕ) → escaped_name (47 ∷ name) ≡ 126 ∷ (49 ∷ escaped_name name)
-escaped_slash name = refl
 
 escaped_plain : (c : ℕ) (name : List ℕ) → (c == 126) ≡ false → (c == 47) ≡ false
     → escaped_name (c ∷ name) ≡ c ∷ escaped_name name

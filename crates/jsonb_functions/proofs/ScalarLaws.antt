@@ -1,9 +1,7 @@
 -- Looking for scalars among those of an array.
-use Rattle.std.proofs.Common.{◌≡◌, ◌<◌, ◌≤◌, ◌*◌, ◌++◌, ℕ, List, [], ◌∷◌, length, refl, sym}
-use Rattle.std.proofs.Common.{ap, ◌∙◌, Bool, Bor, true, false, arith, nat_lt, get_or}
+use Rattle.std.proofs.Common.{◌≡◌, ◌≤◌, ◌*◌, ◌++◌, ℕ, List, [], ◌∷◌, length, refl, sym}
+use Rattle.std.proofs.Common.{ap, ◌∙◌, Bool, Bor, true, false, arith, nat_lt}
 use Rattle.std.specs.Prelude.{◌||◌, Result, Ok, Err, is_ok, IsPermutation}
-use Rattle.std.specs.declared.cmp.Ordering.{Ordering}
-use Rattle.std.specs.declared.cmp.Ordering.TheVariants.{Less, Greater}
 use Rattle.std.specs.List.{list_any}
 use Rattle.std.specs.List.Sorted.{IsBinarySearchResult, IsSearchInRange, IsSorted}
 use Rattle.std.specs.Ordering.{is_eq, on}
@@ -15,8 +13,6 @@ use Rattle.jsonb_value.specs.Tree.{extension, array, object}
 use Rattle.jsonb_value.specs.TreeOrder.{tree_cmp}
 use Rattle.jsonb_value.specs.Value.{trees_of}
 use Rattle.jsonb_value.proofs.TreeLaws.{tree_cmp_total}
-use Rattle.jsonb_codec.specs.declared.constants.TheConstants.{CONTAINER_TAG}
-use Rattle.jsonb_codec.specs.Doc.{type_of}
 use Rattle.jsonb.specs.declared.node.Node.{Node}
 use Rattle.jsonb.specs.declared.node.Node.TheVariants as nodes
 use Rattle.jsonb.specs.declared.extension_item.ExtensionItem.{ExtensionItem}
@@ -43,31 +39,7 @@ in_array (extension e) ts h = refl
 in_array (array us) ts h = absurd (h refl)
 in_array (object qs) ts h = absurd (h refl)
 
-in_container : (u t : Tree) → IsScalar u → type_of t ≡ CONTAINER_TAG → contained u t ≡ false
-in_container u (array ts) h e = in_array u ts h
-in_container null (object ps) h e = refl
-in_container (boolean b) (object ps) h e = refl
-in_container (number x) (object ps) h e = refl
-in_container (text s) (object ps) h e = refl
-in_container (extension x) (object ps) h e = refl
-in_container (array us) (object ps) h e = absurd (h refl)
-in_container (object qs) (object ps) h e = absurd (h refl)
-in_container u null h e = absurd (omega (arith, e))
-in_container u (boolean true) h e = absurd (omega (arith, e))
-in_container u (boolean false) h e = absurd (omega (arith, e))
-in_container u (number x) h e = absurd (omega (arith, e))
-in_container u (text s) h e = absurd (omega (arith, e))
-in_container u (extension x) h e = absurd (omega (arith, e))
-
 -- ---- collecting scalars
-
--- A container is passed over.
-pub passed_container : (ts rest : Trees) (nodes : List Node) (t : Tree) → type_of t ≡ CONTAINER_TAG
-    → AreCollected ts nodes (tree t rest) → AreCollected ts nodes rest
-passed_container ts rest nodes t container h u scalar =
-    let b = list_any (λ node. are_equal (node_tree node) u) nodes in
-    let others = some_tree (λ x. contained u x) rest in
-    ap (λ c. b || (c || others)) (sym (in_container u t scalar container)) ∙ h u scalar
 
 moved : (a b c : Bool) → ((a || (b || false)) || c) ≡ (a || (b || c))
 moved true b c = refl

@@ -83,14 +83,6 @@ exists_hash (boolean b) k h = text_there (boolean b) k h
 exists_hash (number x) k h = text_there (number x) k h
 exists_hash (extension x) k h = text_there (extension x) k h
 
--- The hashes of a walk that is under way.
-pub texts_on : (left others : List Tree) (t : Tree) (now new all : List ℕ) → left ≡ t ∷ others
-    → new ≡ now ++ text_hashes t → now ++ item_hashes (trees_of left) ≡ all
-    → new ++ item_hashes (trees_of others) ≡ all
-texts_on left others t now new all e step going =
-    rw step (append_assoc now (text_hashes t) (item_hashes (trees_of others))
-    ∙ ap (λ x. now ++ item_hashes (trees_of x)) (sym e) ∙ going)
-
 pub names_on : (left others : List (List ℕ × Tree)) (k : List ℕ) (t : Tree)
     (now new all : List ℕ) → left ≡ (k, t) ∷ others → new ≡ now ++ (hash_of_key k ∷ [])
     → now ++ member_hashes (pairs_of left) ≡ all → new ++ member_hashes (pairs_of others) ≡ all

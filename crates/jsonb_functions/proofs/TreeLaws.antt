@@ -2,10 +2,10 @@
 use Rattle.std.proofs.Common.{◌≡◌, ℕ, zero, suc, List, [], ◌∷◌, ◌++◌, map, refl, sym, ap, ◌∙◌}
 use Rattle.std.proofs.Common.{subst, Bool, true, false, append_assoc}
 use Rattle.std.proofs.lemmas.List.{append-nil}
-use Rattle.std.specs.Prelude.{Option, Some, None}
+use Rattle.std.specs.Prelude.{Option, Some}
 use Rattle.jsonb_functions.specs.declared.filter.Term.{Term}
 use Rattle.jsonb_functions.specs.declared.filter.Term.TheVariants as terms
-use Rattle.jsonb_functions.specs.Conditions.{AllOf, AnyOf, Single, all_of, all_of_one, all_terms}
+use Rattle.jsonb_functions.specs.Conditions.{AnyOf, Single, all_of, all_of_one, all_terms}
 use Rattle.jsonb_functions.specs.Conditions.{any_terms, finds, finds_none, group, one_of}
 use Rattle.jsonb_functions.specs.Conditions.{single_terms, some_of, tests, turned}
 use Rattle.jsonb_functions.specs.PathText.{AreTerms, state_after, term_view}

@@ -16,8 +16,8 @@ use Rattle.jsonb_functions.specs.Names.{names_of}
 use Rattle.jsonb_functions.specs.PathDocument.{path_tree}
 use Rattle.jsonb_functions.specs.Pointer.{pointer_of}
 use Rattle.jsonb_functions.specs.StoredPath.{StepView}
-use Rattle.kohiblad.specs.NamedPaths.{GivesNames, GivesStepsIn, IsPathMade, IsPathOf}
-use Rattle.kohiblad.specs.PathCalls.{GivesSteps, IsPathTextRead}
+use Rattle.kohiblad.specs.NamedPaths.{GivesNames, IsPathMade, IsPathOf}
+use Rattle.kohiblad.specs.PathCalls.{IsPathTextRead}
 use Rattle.kohiblad.specs.Status.{IsAnswered}
 use Rattle.kohiblad.proofs.PathCallLaws.{none_some}
 

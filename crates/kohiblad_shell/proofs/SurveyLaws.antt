@@ -66,13 +66,6 @@ counts_cut path form (Some bytes) None part s t read same = absurd read
 counts_cut path form (Some bytes) (Some rest) part s t (is, ended) same =
     (rw ended (cut part is none), same)
 
-pub counts_none : (path : List Selector) (form : Form) (old new : Known) (row : List ℕ)
-    (s t : Survey) → ReadsRow form old new row found.End → t ≡ s
-    → CountsNext path form old new s t counted.End
-counts_none path form None new row s t read same = tt
-counts_none path form (Some bytes) None row s t read same = absurd read
-counts_none path form (Some bytes) (Some rest) row s t read same = (read, same)
-
 -- ---- a survey so far
 
 -- The rows before those that are left were counted.

@@ -4,7 +4,8 @@ use Rattle.jsonb.specs.EntryTrees.{rest_trees, rest_pairs}
 use Rattle.jsonb.specs.Node.{node_tree, pairs_of, object_of}
 use Rattle.jsonb_functions.specs.Contains.{contained, items_or_none}
 use Rattle.jsonb_functions.specs.Weight.{weight, weights, pair_weights}
-use Rattle.jsonb_functions.proofs.WalkLaws.{array_items, object_members, arrays_contained}
+use Rattle.jsonb_comparable.proofs.WalkLaws.{array_items, object_members}
+use Rattle.jsonb_functions.proofs.WalkLaws.{arrays_contained}
 use Rattle.jsonb_functions.proofs.WalkLaws.{members_within, first_item, some_first}
 use Rattle.jsonb_functions.proofs.WalkLaws.{some_later, some_none, all_none, no_item}
 use Rattle.jsonb_functions.proofs.WalkLaws.{scalars_equal}

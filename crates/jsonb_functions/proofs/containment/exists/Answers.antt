@@ -1,7 +1,8 @@
 use Rattle.std.proofs.Common.{◌∙◌, sym}
 use Rattle.jsonb.specs.Document.{document_tree}
 use Rattle.jsonb.specs.EntryTrees.{rest_trees}
-use Rattle.jsonb_functions.proofs.WalkLaws.{array_items, top_key_of_items}
+use Rattle.jsonb_comparable.proofs.WalkLaws.{array_items}
+use Rattle.jsonb_functions.proofs.WalkLaws.{top_key_of_items}
 use Rattle.jsonb_functions.proofs.containment.exists.Goals as goal
 
 pub returns-in-Some : goal.returns-in-Some

@@ -4,7 +4,7 @@ use Rattle.jsonb.specs.EntryTrees.{rest_trees}
 use Rattle.jsonb_functions.specs.Scalars.{AreScalarsOf}
 use Rattle.jsonb_functions.proofs.ScalarLaws.{items_here, many_weigh}
 use Rattle.jsonb_functions.proofs.StepLaws.{ended}
-use Rattle.jsonb_functions.proofs.WalkLaws.{array_items}
+use Rattle.jsonb_comparable.proofs.WalkLaws.{array_items}
 use Rattle.jsonb_functions.proofs.WeightLaws.{items_within}
 use Rattle.jsonb_functions.proofs.containment.scalars_if_many.Goals as goal
 

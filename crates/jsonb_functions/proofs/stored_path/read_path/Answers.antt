@@ -4,7 +4,7 @@ use Rattle.jsonb.specs.Document.{document_tree}
 use Rattle.jsonb.specs.EntryTrees.{rest_trees}
 use Rattle.jsonb_functions.specs.StoredPath.{step_view, steps_in}
 use Rattle.jsonb_functions.proofs.StoredPathLaws.{first_steps, steps_on, steps_then}
-use Rattle.jsonb_functions.proofs.WalkLaws.{array_items}
+use Rattle.jsonb_comparable.proofs.WalkLaws.{array_items}
 use Rattle.jsonb_functions.proofs.stored_path.read_path.Goals as goal
 
 pub loop-item-init : goal.loop-item-init

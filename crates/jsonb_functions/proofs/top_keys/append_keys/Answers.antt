@@ -3,7 +3,7 @@ use Rattle.std.proofs.lemmas.Result.{on_ok_weaker}
 use Rattle.jsonb.specs.Document.{document_tree}
 use Rattle.jsonb.specs.EntryTrees.{rest_trees, rest_pairs}
 use Rattle.jsonb_functions.proofs.TopKeyLaws.{array_top, object_top}
-use Rattle.jsonb_functions.proofs.WalkLaws.{array_items, object_members}
+use Rattle.jsonb_comparable.proofs.WalkLaws.{array_items, object_members}
 use Rattle.jsonb_functions.proofs.top_keys.append_keys.Goals as goal
 
 pub returns-in-Some-clause-appended : goal.returns-in-Some-clause-appended

@@ -1,7 +1,5 @@
-use Rattle.std.proofs.Common.{List, Some, ap, map, subst, ◌∙◌}
+use Rattle.std.proofs.Common.{List, ap, map, subst, ◌∙◌}
 use Rattle.std.specs.Prelude.{string_bytes}
-use Rattle.jsonb.specs.Document.{document_tree}
-use Rattle.jsonb_functions.specs.NamedSteps.{steps_by}
 use Rattle.jsonb_functions.specs.StoredPath.{StepView, step_view}
 use Rattle.kohiblad.specs.NamedPaths.{IsPathMade}
 use Rattle.kohiblad.proofs.NamedPathLaws.{path_made}

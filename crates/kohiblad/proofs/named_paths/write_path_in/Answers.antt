@@ -1,4 +1,4 @@
-use Rattle.std.proofs.Common.{List, Some, ap, map, subst, sym}
+use Rattle.std.proofs.Common.{List, Some, map, subst}
 use Rattle.std.specs.Prelude.{String, string_bytes}
 use Rattle.std.specs.declared.alloc.Global.{Global}
 use Rattle.jsonb.specs.Document.{document_tree}

@@ -3,7 +3,7 @@ use Rattle.jsonb.specs.Document.{document_tree}
 use Rattle.jsonb.specs.EntryTrees.{rest_pairs}
 use Rattle.jsonb.specs.Node.{pairs_of}
 use Rattle.jsonb_functions.proofs.KeyOrder.{document_ascends}
-use Rattle.jsonb_functions.proofs.WalkLaws.{object_members}
+use Rattle.jsonb_comparable.proofs.WalkLaws.{object_members}
 use Rattle.kohiblad.proofs.MemberTableLaws.{empty_table, table_of}
 use Rattle.kohiblad.proofs.member_table.MemberTable.new.Goals as goal
 
