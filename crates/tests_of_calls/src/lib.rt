@@ -37,4 +37,6 @@ mod sets;
 #[cfg(test)]
 mod texts;
 #[cfg(test)]
+mod typed_zones;
+#[cfg(test)]
 mod zones;

@@ -1,0 +1,7 @@
+use Rattle.std.proofs.Common.{take}
+use Rattle.typed_vector.specs.ZoneMap.{IsZone, set_values}
+use Rattle.typed_vector.proofs.zone_map.zone_of.Given as goal
+
+abbrev pub invariant-loop-index : goal.invariant-loop-index
+invariant-loop-index g l =
+    IsZone g.T.Ord.cmp (set_values (take l.index l.values) (take l.index l.is_set)) l.zone
