@@ -1,17 +1,19 @@
 -- What a document is written as when it is edited.
-use Rattle.std.proofs.Common.{◌≡◌, ◌≤◌, ◌<◌, ℕ, zero, suc, List, [], length, refl}
+use Rattle.std.proofs.Common.{◌≡◌, ◌≤◌, ◌<◌, ◌+◌, ℕ, zero, suc, List, [], length, refl}
 use Rattle.std.proofs.Common.{◌∙◌, ◌∷◌, ◌^◌, arith, true, false, Bool, Bor, get_or, Some}
-use Rattle.std.proofs.Common.{None, drop, take, ◌-◌, nat_lt, min, ◌&&◌, ◌==◌}
+use Rattle.std.proofs.Common.{None, drop, take, ◌-◌, nat_lt, min, ◌==◌, ◌++◌, ap, sym, Option}
+use Rattle.std.specs.Prelude.{option_to_list, slice_get, if◌then◌else◌}
 use Rattle.std.proofs.lemmas.Bool.{ltb-true, ne_eqb}
 use Rattle.std.proofs.Math.Seq.{take-length}
 use Rattle.std.proofs.Math.Nat.{min-le_left, min-le_right}
-use Rattle.std.specs.Ordering.{nat_cmp}
+use Rattle.std.specs.Ordering.{nat_cmp, is_eq, is_lt}
 use Rattle.std.specs.Cmp.Lexicographic.{slice_cmp}
 use Rattle.std.specs.declared.cmp.Ordering.{Ordering}
 use Rattle.std.specs.declared.cmp.Ordering.TheVariants.{Less, Equal, Greater}
 use Rattle.jsonb_value.specs.Tree as trees
 use Rattle.jsonb_value.specs.Tree.{Tree, array, object, Trees, no_trees, tree, Pairs, no_pairs}
-use Rattle.jsonb_value.specs.Tree.{pair, pair_count}
+use Rattle.jsonb_value.specs.Tree.{pair, pair_count, Ascend, Ascends}
+use Rattle.jsonb_value.specs.Value.{trees_of}
 use Rattle.jsonb_codec.specs.declared.parts.Object.{Object}
 use Rattle.jsonb_codec.specs.declared.parts.Part.{Part}
 use Rattle.jsonb_codec.specs.Doc.{type_of}
@@ -19,30 +21,29 @@ use Rattle.jsonb_codec.specs.Contents.{PartMeans, AreChildren, AreMembers}
 use Rattle.jsonb_codec.specs.Parts.{IsObject}
 use Rattle.jsonb_codec.proofs.Decision.{known_object}
 use Rattle.jsonb.specs.EntryTrees.{part_tree}
+use Rattle.jsonb.specs.Node.{tree_list, value_of_key}
 use Rattle.jsonb.proofs.EntryTreeLaws.{entry_tree-is}
 use Rattle.jsonb_functions.specs.declared.path.Step.{Step}
 use Rattle.jsonb_functions.specs.declared.path.Step.TheVariants.{Key, Index, FromEnd, End}
 use Rattle.jsonb_functions.specs.Path.{is_next, item_place}
 use Rattle.jsonb_functions.specs.declared.edit.EditedItems.{EditedItems}
 use Rattle.jsonb_functions.specs.declared.edit.EditedMembers.{EditedMembers}
-use Rattle.jsonb_functions.specs.Edited.{Here, nothing, replaced, before, removed, edited}
-use Rattle.jsonb_functions.specs.Edited.{Operation, put, create, insert, remove, here_at}
-use Rattle.jsonb_functions.specs.Edited.{pairs_have_key, if_less, equal_or_later, edited_whole}
-use Rattle.jsonb_functions.specs.Edited.{before_if, can_wrap, here_last, here_missing, keys_before}
-use Rattle.jsonb_functions.specs.Edited.{edited_items, edited_pairs, first_done, first_pair_done}
-use Rattle.jsonb_functions.specs.Edited.{wrapped}
-use Rattle.jsonb_functions.specs.Edited.{done_after, pairs_done_after, IsPlaceAmong, count_done}
+use Rattle.jsonb_functions.specs.Joined.{with_key}
+use Rattle.jsonb_functions.specs.Edited.{Operation, put, create, insert, remove, edited}
+use Rattle.jsonb_functions.specs.Edited.{edited_whole, edited_items, edited_pairs, item_edited}
+use Rattle.jsonb_functions.specs.Edited.{child_edited, new_child, pairs_with, wrapped}
+use Rattle.jsonb_functions.specs.EditSource.{Here, nothing, replaced, before, removed, here_at}
 use Rattle.jsonb_functions.specs.EditSource.{here_of, EditedItemsMean, EditedMembersMean}
+use Rattle.jsonb_functions.specs.EditSource.{pairs_have_key, comes, keys_before}
+use Rattle.jsonb_functions.specs.EditSource.{done_after, first_done, first_pair_done}
+use Rattle.jsonb_functions.specs.EditSource.{pairs_done_after, count_done, taken}
+use Rattle.jsonb_functions.proofs.FoundLaws.{child_array}
+use Rattle.jsonb_functions.proofs.JoinLaws.{ascends_after, with_lesser}
+use Rattle.jsonb_functions.proofs.KeyOrder.{absent_first, ascend_later, flipped, key_equal, met}
+use Rattle.jsonb_functions.proofs.KeyOrder.{passed}
+use Rattle.jsonb_functions.proofs.PatchLaws.{without_lesser, without_met}
 
--- The place among one child fewer.
-pub within_later : (here : Here) (n c : ℕ) → IsPlaceAmong here (suc n) (suc c)
-    → IsPlaceAmong here n c
-within_later nothing n c w = tt
-within_later (before v) n c w = omega (arith, w)
-within_later (replaced f) n c w = omega (arith, w)
-within_later removed n c w = omega (arith, w)
-
-count_more : (here : Here) (n c : ℕ) → IsPlaceAmong here n c
+count_more : (here : Here) (n c : ℕ) → n + taken here ≤ c
     → count_done here (suc c) ≡ suc (count_done here c)
 count_more nothing n c w = refl
 count_more (before v) n c w = refl
@@ -51,7 +52,7 @@ count_more removed n (suc c) w = refl
 count_more removed n zero w = absurd (omega (arith, w))
 
 -- How many items there are then.
-pub count_items : (here : Here) (n : ℕ) (ts : Trees) → IsPlaceAmong here n (trees.count ts)
+pub count_items : (here : Here) (n : ℕ) (ts : Trees) → n + taken here ≤ trees.count ts
     → trees.count (done_after here n ts) ≡ count_done here (trees.count ts)
 count_items nothing zero ts w = refl
 count_items (before v) zero ts w = refl
@@ -60,15 +61,12 @@ count_items removed zero (tree t ts) w = refl
 count_items (replaced f) zero no_trees w = absurd (omega (arith, w))
 count_items removed zero no_trees w = absurd (omega (arith, w))
 count_items here (suc n) (tree t ts) w =
-    let less = within_later here n (trees.count ts) w in
+    let less : n + taken here ≤ trees.count ts = omega (arith, w) in
     rw (count_items here n ts less, count_more here n (trees.count ts) less) refl
-count_items nothing (suc n) no_trees w = refl
-count_items (before v) (suc n) no_trees w = absurd (omega (arith, w))
-count_items (replaced f) (suc n) no_trees w = absurd (omega (arith, w))
-count_items removed (suc n) no_trees w = absurd (omega (arith, w))
+count_items here (suc n) no_trees w = absurd (omega (arith, w))
 
 pub count_pairs : (key : List ℕ) (here : Here) (n : ℕ) (ps : Pairs)
-    → IsPlaceAmong here n (pair_count ps)
+    → n + taken here ≤ pair_count ps
     → pair_count (pairs_done_after key here n ps) ≡ count_done here (pair_count ps)
 count_pairs key nothing zero ps w = refl
 count_pairs key (before v) zero ps w = refl
@@ -77,12 +75,9 @@ count_pairs key removed zero (pair k t ps) w = refl
 count_pairs key (replaced f) zero no_pairs w = absurd (omega (arith, w))
 count_pairs key removed zero no_pairs w = absurd (omega (arith, w))
 count_pairs key here (suc n) (pair k t ps) w =
-    let less = within_later here n (pair_count ps) w in
+    let less : n + taken here ≤ pair_count ps = omega (arith, w) in
     rw (count_pairs key here n ps less, count_more here n (pair_count ps) less) refl
-count_pairs key nothing (suc n) no_pairs w = refl
-count_pairs key (before v) (suc n) no_pairs w = absurd (omega (arith, w))
-count_pairs key (replaced f) (suc n) no_pairs w = absurd (omega (arith, w))
-count_pairs key removed (suc n) no_pairs w = absurd (omega (arith, w))
+count_pairs key here (suc n) no_pairs w = absurd (omega (arith, w))
 
 -- ---- before the place of a change, and there
 
@@ -98,16 +93,10 @@ one_after here (suc m) us others t h e =
     let less : suc m - 1 ≡ m = omega arith in rw (e, less) refl
 
 pub one_within : (here : Here) (m : ℕ) (us others : Trees) (t : Tree) → 0 < m
-    → us ≡ tree t others → IsPlaceAmong here m (trees.count us)
-    → IsPlaceAmong here (m - 1) (trees.count others)
-one_within here zero us others t h e w = absurd (omega (arith, h))
-one_within here (suc m) us others t h e w =
-    let less : suc m - 1 ≡ m = omega arith in
-    rw less (within_later here m (trees.count others) (rw e at w))
-
-pub at_first : (here : Here) (m : ℕ) (us : Trees) → m ≡ 0
-    → done_after here m us ≡ first_done here us
-at_first here m us e = rw e refl
+    → us ≡ tree t others → m + taken here ≤ trees.count us
+    → m - 1 + taken here ≤ trees.count others
+one_within here m us others t h e w =
+    let more : m + taken here ≤ suc (trees.count others) = rw e at w in omega (arith, h, more)
 
 pub no_pair_after : (key : List ℕ) (here : Here) (m : ℕ) (qs : Pairs) → 0 < m → qs ≡ no_pairs
     → pairs_done_after key here m qs ≡ no_pairs
@@ -122,32 +111,10 @@ pair_after key here (suc m) qs others k t h e =
     let less : suc m - 1 ≡ m = omega arith in rw (e, less) refl
 
 pub pair_within : (here : Here) (m : ℕ) (qs others : Pairs) (k : List ℕ) (t : Tree) → 0 < m
-    → qs ≡ pair k t others → IsPlaceAmong here m (pair_count qs)
-    → IsPlaceAmong here (m - 1) (pair_count others)
-pair_within here zero qs others k t h e w = absurd (omega (arith, h))
-pair_within here (suc m) qs others k t h e w =
-    let less : suc m - 1 ≡ m = omega arith in
-    rw less (within_later here m (pair_count others) (rw e at w))
-
-pub at_first_pair : (key : List ℕ) (here : Here) (m : ℕ) (qs : Pairs) → m ≡ 0
-    → pairs_done_after key here m qs ≡ first_pair_done key here qs
-at_first_pair key here m qs e = rw e refl
-
-pub first_replaced : (f : Tree → Tree) (ts others : Trees) (t : Tree) → ts ≡ tree t others
-    → first_done (replaced f) ts ≡ tree (f t) others
-first_replaced f ts others t e = rw e refl
-
-pub first_removed : (ts others : Trees) (t : Tree) → ts ≡ tree t others
-    → first_done removed ts ≡ others
-first_removed ts others t e = rw e refl
-
-pub pair_replaced : (key : List ℕ) (f : Tree → Tree) (ps others : Pairs) (k : List ℕ) (t : Tree)
-    → ps ≡ pair k t others → first_pair_done key (replaced f) ps ≡ pair k (f t) others
-pair_replaced key f ps others k t e = rw e refl
-
-pub pair_removed : (key : List ℕ) (ps others : Pairs) (k : List ℕ) (t : Tree)
-    → ps ≡ pair k t others → first_pair_done key removed ps ≡ others
-pair_removed key ps others k t e = rw e refl
+    → qs ≡ pair k t others → m + taken here ≤ pair_count qs
+    → m - 1 + taken here ≤ pair_count others
+pair_within here m qs others k t h e w =
+    let more : m + taken here ≤ suc (pair_count others) = rw e at w in omega (arith, h, more)
 
 -- ---- the level of a part
 
@@ -180,81 +147,167 @@ path_split (r ∷ path) d s h e =
     let all : later_steps (r ∷ path) ≡ path = rw fewer (take-length path) in
     rw (all, ← first) refl
 
-within_before : (b : Bool) (v : Tree) (m n : ℕ) → m ≤ n → IsPlaceAmong (before_if b v) m n
-within_before true v m n all = all
-within_before false v m n all = tt
+one_taken : (here : Here) → taken here ≤ 1
+one_taken nothing = omega arith
+one_taken (before v) = omega arith
+one_taken (replaced f) = omega arith
+one_taken removed = omega arith
 
-within_last : (items : Bool) (operation : Operation) (m n : ℕ) → m < n
-    → IsPlaceAmong (here_last items operation) m n
-within_last items (put v) m n some = some
-within_last items (create v) m n some = some
-within_last true (insert v) m n some = omega (arith, some)
-within_last false (insert v) m n some = tt
-within_last items remove m n some = some
-
-within_missing : (next : Bool) (path : List Step) (operation : Operation) (m n : ℕ) → m ≤ n
-    → IsPlaceAmong (here_missing next path operation) m n
-within_missing next path (put v) m n all = within_before (length path == 0) v m n all
-within_missing next path (create v) m n all =
-    within_before (next && can_wrap path) (wrapped path v) m n all
-within_missing next path (insert v) m n all = within_before (length path == 0) v m n all
-within_missing next path remove m n all = tt
+none_taken : (child : Option Tree) → taken (comes child) ≡ 0
+none_taken None = refl
+none_taken (Some v) = refl
 
 within_at : (items there next : Bool) (path : List Step) (operation : Operation)
-    (f : Tree → Tree) (m n : ℕ) → m ≤ n
-    → (there ≡ true → m < n) → IsPlaceAmong (here_at items there next path operation f) m n
-within_at items true next [] operation f m n all some =
-    within_last items operation m n (some refl)
-within_at items true next (s ∷ path) operation f m n all some = some refl
-within_at items false next path operation f m n all some =
-    within_missing next path operation m n all
+    (f : Tree → Tree) (m n : ℕ) → (m ≤ n) × (there ≡ true → m < n)
+    → m + taken (here_at items there next path operation f) ≤ n
+within_at items true next path operation f m n h =
+    omega (arith, h.1 refl, one_taken (here_at items true next path operation f))
+within_at items false next path operation f m n h =
+    omega (arith, h.0, none_taken (new_child next path operation))
 
-within_item : (s : Step) (n : ℕ) (place : ℕ × Bool) (next : Bool) (path : List Step)
-    (operation : Operation) (f : Tree → Tree) → Some place ≡ item_place s n
-    → IsPlaceAmong (here_at true place.1 next path operation f) place.0 n
-within_item (Key k) n place next path operation f e = absurd (cc)
-within_item (Index i) n place next path operation f e =
+-- A step leads to one of the items, or before one, or after them.
+pub place_within : (s : Step) (n : ℕ) (place : ℕ × Bool) → Some place ≡ item_place s n
+    → (place.0 ≤ n) × (place.1 ≡ true → place.0 < n)
+place_within (Key k) n place e = absurd (cc)
+place_within (Index i) n place e =
     let is : place ≡ (min i n, nat_lt i n) = cc in
-    rw is (within_at true (nat_lt i n) next path operation f (min i n) n (min-le_right i n)
-    (λ h. let less : i < n = ltb-true i n h in omega (arith, less, min-le_left i n)))
-within_item (FromEnd i) n place next path operation f e =
+    rw is (
+      min-le_right i n,
+      λ h. let less : i < n = ltb-true i n h in omega (arith, less, min-le_left i n),
+    )
+place_within (FromEnd i) n place e =
     let is : place ≡ (n - suc i, nat_lt i n) = cc in
-    rw is (within_at true (nat_lt i n) next path operation f (n - suc i) n (omega arith)
-    (λ h. let less : i < n = ltb-true i n h in omega (arith, less)))
-within_item End n place next path operation f e =
-    let is : place ≡ (n, false) = cc in
-    rw is (within_at true false next path operation f n n (omega arith) (λ h. absurd (cc)))
+    rw is (omega arith, λ h. let less : i < n = ltb-true i n h in omega (arith, less))
+place_within End n place e =
+    let is : place ≡ (n, false) = cc in rw is (omega arith, λ h. absurd (cc))
 
-less_more : (o : Ordering) (m n : ℕ) → m ≤ n → if_less o m ≤ suc n
-less_more Less m n h = omega (arith, h)
-less_more Equal m n h = omega arith
-less_more Greater m n h = omega arith
+more_keys : (o : Ordering) (there : Bool) (m n : ℕ) → (m ≤ n) × (there ≡ true → m < n)
+    → ((if is_lt o then suc m else 0) ≤ suc n)
+    × ((if is_lt o then there else is_eq o) ≡ true → (if is_lt o then suc m else 0) < suc n)
+more_keys Less there m n h = (omega (arith, h.0), λ e. omega (arith, h.1 e))
+more_keys Equal there m n h = (omega arith, λ e. omega arith)
+more_keys Greater there m n h = (omega arith, λ e. omega arith)
 
-keys_within : (key : List ℕ) (ps : Pairs) → keys_before key ps ≤ pair_count ps
-keys_within key no_pairs = omega arith
-keys_within key (pair k t ps) =
-    less_more (slice_cmp nat_cmp k key) (keys_before key ps) (pair_count ps) (keys_within key ps)
+-- The place of a key is that of a pair, or before one, or after them.
+pub key_within : (key : List ℕ) (ps : Pairs) → (keys_before key ps ≤ pair_count ps)
+    × (pairs_have_key key ps ≡ true → keys_before key ps < pair_count ps)
+key_within key no_pairs = (omega arith, λ e. absurd (cc))
+key_within key (pair k t ps) =
+    more_keys (slice_cmp nat_cmp k key) (pairs_have_key key ps) (keys_before key ps)
+    (pair_count ps) (key_within key ps)
 
-there_more : (o : Ordering) (b : Bool) (m n : ℕ) → (b ≡ true → m < n)
-    → equal_or_later o b ≡ true → if_less o m < suc n
-there_more Less b m n h e = omega (arith, h e)
-there_more Equal b m n h e = omega arith
-there_more Greater b m n h e = absurd (cc)
+-- ---- what the walk does is the edit
 
-key_there : (key : List ℕ) (ps : Pairs) → pairs_have_key key ps ≡ true
-    → keys_before key ps < pair_count ps
-key_there key no_pairs e = absurd (cc)
-key_there key (pair k t ps) e =
-    there_more (slice_cmp nat_cmp k key) (pairs_have_key key ps) (keys_before key ps)
-    (pair_count ps) (key_there key ps) e
+listed : (ts : Trees) → trees_of (tree_list ts) ≡ ts
+listed no_trees = refl
+listed (tree t ts) = ap (λ us. tree t us) (listed ts)
 
-within_key : (key : List ℕ) (ps : Pairs) (path : List Step) (operation : Operation)
-    (f : Tree → Tree)
-    → IsPlaceAmong (here_at false (pairs_have_key key ps) true path operation f)
-    (keys_before key ps) (pair_count ps)
-within_key key ps path operation f =
-    within_at false (pairs_have_key key ps) true path operation f (keys_before key ps)
-    (pair_count ps) (keys_within key ps) (key_there key ps)
+first_item : (next : Bool) (path : List Step) (operation : Operation) (f : Tree → Tree) (t : Tree)
+    (ts : List Tree) → first_done (here_at true true next path operation f) (tree t (trees_of ts))
+    ≡ trees_of (item_edited next path operation f (Some t) ++ ts)
+first_item next [] (put v) f t ts = refl
+first_item next [] (create v) f t ts = refl
+first_item next [] (insert v) f t ts = refl
+first_item next [] remove f t ts = refl
+first_item next (s ∷ path) operation f t ts = refl
+
+module _ (next : Bool) (path : List Step) (operation : Operation) (f : Tree → Tree) where
+  item_at : (m : ℕ) (ts : List Tree) → m < trees.count (trees_of ts)
+      → done_after (here_at true true next path operation f) m (trees_of ts)
+      ≡ trees_of (take m ts ++ (item_edited next path operation f
+      (slice_get (tree_list (trees_of ts)) m) ++ drop (suc m) ts))
+  item_at m [] h = absurd (omega (arith, h))
+  item_at zero (t ∷ ts) h = first_item next path operation f t ts
+  item_at (suc m) (t ∷ ts) h = ap (λ us. tree t us) (item_at m ts (omega (arith, h)))
+
+new_item : (child : Option Tree) (m : ℕ) (ts : List Tree) → m ≤ trees.count (trees_of ts)
+    → done_after (comes child) m (trees_of ts)
+    ≡ trees_of (take m ts ++ (option_to_list child ++ drop m ts))
+new_item None zero ts h = refl
+new_item (Some v) zero ts h = refl
+new_item child (suc m) [] h = absurd (omega (arith, h))
+new_item child (suc m) (t ∷ ts) h = ap (λ us. tree t us) (new_item child m ts (omega (arith, h)))
+
+-- What is done at the place of a step, after the items before it, edits the items.
+pub items_walked : (s : Step) (path : List Step) (operation : Operation) (f : Tree → Tree)
+    (ts : Trees) (place : ℕ × Bool) → Some place ≡ item_place s (trees.count ts)
+    → done_after (here_at true place.1 (is_next s (trees.count ts)) path operation f) place.0 ts
+    ≡ edited_items s path operation f ts
+items_walked s path operation f ts (m, true) e =
+    let next = is_next s (trees.count ts) in
+    let some = (place_within s (trees.count ts) (m, true) e).1 refl in
+    rw (child_array s ts, ← e) (rw (listed ts) at (item_at next path operation f m (tree_list ts)
+    (rw (listed ts) some)))
+items_walked s path operation f ts (m, false) e =
+    let child = new_child (is_next s (trees.count ts)) path operation in
+    let all = (place_within s (trees.count ts) (m, false) e).0 in
+    rw (child_array s ts, ← e)
+    (rw (listed ts) at (new_item child m (tree_list ts) (rw (listed ts) all)))
+
+pub items_left : (s : Step) (path : List Step) (operation : Operation) (f : Tree → Tree)
+    (ts : Trees) → None ≡ item_place s (trees.count ts)
+    → ts ≡ edited_items s path operation f ts
+items_left s path operation f ts e = rw (← e) (sym (listed ts))
+
+new_pair : (key : List ℕ) (child : Option Tree) (ps : Pairs) → Ascends (Some key) ps
+    → first_pair_done key (comes child) ps ≡ pairs_with key child ps
+new_pair key None ps h = sym (without_lesser key ps h)
+new_pair key (Some v) ps h = sym (with_lesser key v ps h)
+
+pair_passed : (key k : List ℕ) (t : Tree) (child : Option Tree) (ps : Pairs)
+    → slice_cmp nat_cmp k key ≡ Less
+    → pairs_with key child (pair k t ps) ≡ pair k t (pairs_with key child ps)
+pair_passed key k t None ps e = rw e refl
+pair_passed key k t (Some v) ps e = rw e refl
+
+pair_put : (key k : List ℕ) (t v : Tree) (ps : Pairs) → slice_cmp nat_cmp k key ≡ Equal
+    → pair k v ps ≡ with_key key v (pair k t ps)
+pair_put key k t v ps e = rw e (ap (λ j. pair j v ps) (key_equal k key e))
+
+pair_met : (key k : List ℕ) (t : Tree) (ps : Pairs) (path : List Step) (operation : Operation)
+    (f : Tree → Tree) → slice_cmp nat_cmp k key ≡ Equal → Ascends (Some k) ps
+    → first_pair_done key (here_at false true true path operation f) (pair k t ps)
+    ≡ pairs_with key (child_edited true path operation f (Some t)) (pair k t ps)
+pair_met key k t ps [] (put v) f e h = pair_put key k t v ps e
+pair_met key k t ps [] (create v) f e h = pair_put key k t v ps e
+pair_met key k t ps [] (insert v) f e h = pair_put key k t t ps e
+pair_met key k t ps [] remove f e h =
+    sym (without_met key k t ps e ∙ without_lesser key ps (ascends_after k key ps e h))
+pair_met key k t ps (s ∷ path) operation f e h = pair_put key k t (f t) ps e
+
+module _ (key : List ℕ) (path : List Step) (operation : Operation) (f : Tree → Tree) where
+  -- What is done at the place of the key, after the pairs before it, edits the pairs.
+  abbrev AreEdited : Pairs → Type 0
+  AreEdited ps =
+      pairs_done_after key (here_at false (pairs_have_key key ps) true path operation f)
+      (keys_before key ps) ps
+      ≡ pairs_with key (child_edited true path operation f (value_of_key key (object ps))) ps
+
+  first_walked : (k : List ℕ) (t : Tree) (ps : Pairs) (o : Ordering) → slice_cmp nat_cmp k key ≡ o
+      → Ascend (pair k t ps) → AreEdited ps → AreEdited (pair k t ps)
+  first_walked k t ps Less e h later =
+      let others = passed key k t ps (λ same.
+      let both : Greater ≡ Equal = sym (flipped k key Less e) ∙ same in absurd (cc)) in
+      rw (e, others) (ap (λ qs. pair k t qs) later ∙ sym (pair_passed key k t _ ps e))
+  first_walked k t ps Equal e h later =
+      rw (e, met key k t ps e) (pair_met key k t ps path operation f e h.1)
+  first_walked k t ps Greater e h later =
+      rw (e, absent_first key k t ps e h.1)
+      (new_pair key (new_child true path operation) (pair k t ps) (flipped k key Greater e, h.1))
+
+  pub pairs_walked : (ps : Pairs) → Ascend ps → AreEdited ps
+  pairs_walked no_pairs h = new_pair key (new_child true path operation) no_pairs tt
+  pairs_walked (pair k t ps) h =
+      first_walked k t ps (slice_cmp nat_cmp k key) refl h
+      (pairs_walked ps (ascend_later k ps h.1))
+
+pub pairs_left : (s : Step) (path : List Step) (operation : Operation) (f : Tree → Tree)
+    (ps : Pairs) → ((k : Bor (List ℕ)) → s ≡ Key k → ⊥)
+    → ps ≡ edited_pairs s path operation f ps
+pairs_left (Key k) path operation f ps other = absurd (other k refl)
+pairs_left (Index i) path operation f ps other = refl
+pairs_left (FromEnd i) path operation f ps other = refl
+pairs_left End path operation f ps other = refl
 
 pub array_edited : (path rest : List Step) (s : Step) (operation : Operation) (t : Tree)
     (ts : Trees) → path ≡ s ∷ rest → t ≡ array ts → edited path operation t
@@ -274,13 +327,14 @@ pub items_edited : (x : EditedItems) (s : Step) (rest : List Step) (operation : 
     → EditedItemsMean x (edited_items s rest operation f ts)
 items_edited x s rest operation f ts place are e start what =
     let next = is_next s (trees.count ts) in
-    let within = within_item s (trees.count ts) place next rest operation f e in
-    (ts, ((are, rw (start, what) within), rw (← e, start, what) refl))
-
-pub items_left : (s : Step) (rest : List Step) (operation : Operation) (f : Tree → Tree)
-    (ts : Trees) → None ≡ item_place s (trees.count ts)
-    → ts ≡ edited_items s rest operation f ts
-items_left s rest operation f ts e = rw (← e) refl
+    let within = within_at true place.1 next rest operation f place.0 (trees.count ts)
+    (place_within s (trees.count ts) place e) in (
+      ts,
+      (
+        (are, rw (start, what) within),
+        rw (start, what) (sym (items_walked s rest operation f ts place e)),
+      ),
+    )
 
 -- What is done among members at the place of a key.
 pub key_edited : (x : EditedMembers) (key : Bor (List ℕ)) (s : Step) (rest : List Step)
@@ -291,18 +345,14 @@ pub key_edited : (x : EditedMembers) (key : Bor (List ℕ)) (s : Step) (rest : L
 key_edited x key s rest operation f ps is are same start what = (
   ps,
   (
-    (are, rw (start, what) (within_key key.now ps rest operation f)),
-    rw (is, same, start, what) refl,
+    (
+      are,
+      rw (start, what) (within_at false (pairs_have_key key.now ps) true rest operation f
+          (keys_before key.now ps) (pair_count ps) (key_within key.now ps)),
+    ),
+    rw (is, same, start, what) (sym (pairs_walked key.now rest operation f ps are.0)),
   ),
 )
-
-pub pairs_left : (s : Step) (rest : List Step) (operation : Operation) (f : Tree → Tree)
-    (ps : Pairs) → ((k : Bor (List ℕ)) → s ≡ Key k → ⊥)
-    → ps ≡ edited_pairs s rest operation f ps
-pairs_left (Key k) rest operation f ps other = absurd (other k refl)
-pairs_left (Index i) rest operation f ps other = refl
-pairs_left (FromEnd i) rest operation f ps other = refl
-pairs_left End rest operation f ps other = refl
 
 -- How many members there are then.
 pub members_count : (x : EditedMembers) (n : ℕ) (ps : Pairs) → EditedMembersMean x ps
@@ -358,26 +408,24 @@ wrapped_none [] v h = refl
 wrapped_none (s ∷ path) v h = absurd (omega (arith, h))
 
 -- With no step left a value is put without containers.
-pub before_end : (path : List Step) (v : Tree)
-    → before_if (length path == 0) (wrapped path v) ≡ before_if (length path == 0) v
-before_end [] v = refl
-before_end (s ∷ path) v =
-    let some : (length (s ∷ path) == 0) ≡ false = ne_eqb _ _ (λ e. omega (arith, e)) in
-    rw some refl
-
 pub not_put : (next : Bool) (path : List Step) (v : Tree) (here : Here)
-    → here ≡ before_if (length path == 0) (wrapped path v)
-    → here ≡ here_missing next path (put v)
-not_put next path v here e = e ∙ before_end path v
+    → here ≡ comes (if length path == 0 then Some (wrapped path v) else None)
+    → here ≡ comes (new_child next path (put v))
+not_put next [] v here e = e
+not_put next (s ∷ path) v here e =
+    let some : (length (s ∷ path) == 0) ≡ false = ne_eqb _ _ (λ h. omega (arith, h)) in
+    rw some at e
 
 pub not_inserted : (next : Bool) (path : List Step) (v : Tree) (here : Here)
-    → here ≡ before_if (length path == 0) (wrapped path v)
-    → here ≡ here_missing next path (insert v)
-not_inserted next path v here e = e ∙ before_end path v
+    → here ≡ comes (if length path == 0 then Some (wrapped path v) else None)
+    → here ≡ comes (new_child next path (insert v))
+not_inserted next [] v here e = e
+not_inserted next (s ∷ path) v here e = not_put next (s ∷ path) v here e
 
 pub last_insert : (items next : Bool) (path : List Step) (v : Tree) (f : Tree → Tree)
     → length path ≡ 0
-    → before_if items (wrapped path v) ≡ here_at items true next path (insert v) f
+    → comes (if items then Some (wrapped path v) else None)
+    ≡ here_at items true next path (insert v) f
 last_insert true next [] v f h = refl
 last_insert false next [] v f h = refl
 last_insert items next (s ∷ path) v f h = absurd (omega (arith, h))

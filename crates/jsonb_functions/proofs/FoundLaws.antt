@@ -14,7 +14,7 @@ count_listed : (ts : List Tree) → count (trees_of ts) ≡ length ts
 count_listed [] = refl
 count_listed (t ∷ ts) = ap suc (count_listed ts)
 
-child_array : (s : Step) (us : Trees)
+pub child_array : (s : Step) (us : Trees)
     → child_at s (array us) ≡ item_there (item_place s (count us)) us
 child_array (Key k) us = refl
 child_array (Index i) us = refl

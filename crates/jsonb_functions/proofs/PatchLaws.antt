@@ -41,7 +41,7 @@ puts k u ps qs n = elim (does k u ps qs) [
 ]
 
 -- No pair has a lesser key.
-without_lesser : (k : List ℕ) (ps : Pairs) → Ascends (Some k) ps → without_key k ps ≡ ps
+pub without_lesser : (k : List ℕ) (ps : Pairs) → Ascends (Some k) ps → without_key k ps ≡ ps
 without_lesser k no_pairs h = refl
 without_lesser k (pair j t ps) h =
     rw (flipped k j Less h.0) (ap (λ x. pair j t x)
@@ -69,7 +69,7 @@ with_met : (k j : List ℕ) (v t : Tree) (ps : Pairs) → slice_cmp nat_cmp j k 
     → with_key k v (pair j t ps) ≡ pair k v ps
 with_met k j v t ps h = rw h refl
 
-without_met : (k j : List ℕ) (t : Tree) (ps : Pairs) → slice_cmp nat_cmp j k ≡ Equal
+pub without_met : (k j : List ℕ) (t : Tree) (ps : Pairs) → slice_cmp nat_cmp j k ≡ Equal
     → without_key k (pair j t ps) ≡ without_key k ps
 without_met k j t ps h = rw h refl
 

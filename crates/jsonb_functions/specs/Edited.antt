@@ -1,15 +1,16 @@
 -- What a tree becomes when it is edited at the end of a path.
-use Rattle.std.specs.Prelude.{◌≤◌, ◌<◌, ℕ, zero, suc, pred, List, [], ◌∷◌, Bool, true, false, ⊤}
-use Rattle.std.specs.Prelude.{◌&&◌, ◌==◌, length, Option, None, Some}
-use Rattle.std.specs.Ordering.{nat_cmp}
-use Rattle.std.specs.Cmp.Lexicographic.{slice_cmp}
-use Rattle.std.specs.declared.cmp.Ordering.{Ordering}
-use Rattle.std.specs.declared.cmp.Ordering.TheVariants.{Less, Equal, Greater}
+use Rattle.std.specs.Prelude.{ℕ, suc, List, [], ◌∷◌, ◌++◌, Bool, true, false, ◌&&◌, if◌then◌else◌}
+use Rattle.std.specs.Prelude.{Option, None, Some, option_to_list, take, drop}
 use Rattle.jsonb_value.specs.Tree.{Tree, array, object}
 use Rattle.jsonb_value.specs.Tree.{Trees, no_trees, tree, Pairs, no_pairs, pair, count}
+use Rattle.jsonb_value.specs.Value.{trees_of}
+use Rattle.jsonb.specs.Node.{tree_list}
 use Rattle.jsonb_functions.specs.declared.path.Step.{Step}
 use Rattle.jsonb_functions.specs.declared.path.Step.TheVariants.{Key}
-use Rattle.jsonb_functions.specs.Path.{is_next, item_place, step_key}
+use Rattle.jsonb_functions.specs.Found.{child_at}
+use Rattle.jsonb_functions.specs.Joined.{with_key}
+use Rattle.jsonb_functions.specs.Patched.{without_key}
+use Rattle.jsonb_functions.specs.Path.{is_next, item_place}
 
 -- What is done at the end of a path: a value is put there, in place of what is there, if anything;
 -- or put there in containers that are made for the steps that lead nowhere; or inserted, before an
@@ -19,14 +20,6 @@ pub data Operation : Type 0 where
   create : Tree → Operation
   insert : Tree → Operation
   remove : Operation
-
--- What is done at a place among children: nothing; the child there is replaced by a function of it;
--- a value comes before it; or it is removed.
-pub data Here : Type 0 where
-  nothing : Here
-  replaced : (Tree → Tree) → Here
-  before : Tree → Here
-  removed : Here
 
 -- A value in a container for each step: an object with the member of a key, or an array of one
 -- item.
@@ -46,110 +39,55 @@ abbrev pub can_wrap : List Step → Bool
 can_wrap [] = true
 can_wrap (s ∷ path) = makes_container s && can_wrap path
 
--- What is done to the child at the end of a path. `items` says whether it is an item, which an
--- insertion moves on.
-abbrev pub here_last : Bool → Operation → Here
-here_last items (put v) = replaced (λ t. v)
-here_last items (create v) = replaced (λ t. v)
-here_last true (insert v) = before v
-here_last false (insert v) = nothing
-here_last items remove = removed
+-- The child that comes where none is and these steps are left, if one does. `next` says whether the
+-- place is that of a member, or of the item right after the last one.
+abbrev pub new_child : Bool → List Step → Operation → Option Tree
+new_child next path (create v) = if next && can_wrap path then Some (wrapped path v) else None
+new_child next path remove = None
+new_child next [] (put v) = Some v
+new_child next [] (insert v) = Some v
+new_child next (s ∷ path) operation = None
 
--- A value comes there, if one is wanted.
-abbrev pub before_if : Bool → Tree → Here
-before_if true v = before v
-before_if false v = nothing
+-- The child that is there then, if any, of the one that was there, if any. Where steps are left, a
+-- function edits it, and an insertion leaves it.
+abbrev pub child_edited : Bool → List Step → Operation → (Tree → Tree) → Option Tree → Option Tree
+child_edited next path operation below None = new_child next path operation
+child_edited next [] (put v) below (Some t) = Some v
+child_edited next [] (create v) below (Some t) = Some v
+child_edited next [] (insert v) below (Some t) = Some t
+child_edited next [] remove below (Some t) = None
+child_edited next (s ∷ path) operation below (Some t) = Some (below t)
 
--- What is done where no child is and these steps are left. `next` says whether the place is that of
--- the item after the last one, or that of a member.
-abbrev pub here_missing : Bool → List Step → Operation → Here
-here_missing next path (put v) = before_if (length path == 0) v
-here_missing next path (create v) = before_if (next && can_wrap path) (wrapped path v)
-here_missing next path (insert v) = before_if (length path == 0) v
-here_missing next path remove = nothing
+-- The items that are there then: the same, but a value is inserted before an item.
+abbrev pub item_edited : Bool → List Step → Operation → (Tree → Tree) → Option Tree → List Tree
+item_edited next path operation below None = option_to_list (new_child next path operation)
+item_edited next [] (insert v) below (Some t) = v ∷ (t ∷ [])
+item_edited next path operation below (Some t) =
+    option_to_list (child_edited next path operation below (Some t))
 
--- What is done where a step leads, to a child that is there or not, and these steps are left, which
--- edit the child by a function of it.
-abbrev pub here_at : Bool → Bool → Bool → List Step → Operation → (Tree → Tree) → Here
-here_at items true next [] operation below = here_last items operation
-here_at items true next (s ∷ path) operation below = replaced below
-here_at items false next path operation below = here_missing next path operation
+-- The items before a place, then others in place of the item there, if any, then the items after.
+abbrev pub items_with : Option (ℕ × Bool) → List Tree → List Tree → List Tree
+items_with None us ts = ts
+items_with (Some (m, true)) us ts = take m ts ++ (us ++ drop (suc m) ts)
+items_with (Some (m, false)) us ts = take m ts ++ (us ++ drop m ts)
 
--- Done to the first of these items.
-abbrev pub first_done : Here → Trees → Trees
-first_done nothing ts = ts
-first_done (before v) ts = tree v ts
-first_done (replaced f) (tree t ts) = tree (f t) ts
-first_done removed (tree t ts) = ts
-first_done (replaced f) no_trees = no_trees
-first_done removed no_trees = no_trees
-
--- Done after n of these items.
-abbrev pub done_after : Here → ℕ → Trees → Trees
-done_after here zero ts = first_done here ts
-done_after here (suc n) (tree t ts) = tree t (done_after here n ts)
-done_after here (suc n) no_trees = no_trees
-
--- Done to the first of these pairs, where a new one has the key.
-abbrev pub first_pair_done : List ℕ → Here → Pairs → Pairs
-first_pair_done key nothing ps = ps
-first_pair_done key (before v) ps = pair key v ps
-first_pair_done key (replaced f) (pair k t ps) = pair k (f t) ps
-first_pair_done key removed (pair k t ps) = ps
-first_pair_done key (replaced f) no_pairs = no_pairs
-first_pair_done key removed no_pairs = no_pairs
-
--- Done after n of these pairs.
-abbrev pub pairs_done_after : List ℕ → Here → ℕ → Pairs → Pairs
-pairs_done_after key here zero ps = first_pair_done key here ps
-pairs_done_after key here (suc n) (pair k t ps) = pair k t (pairs_done_after key here n ps)
-pairs_done_after key here (suc n) no_pairs = no_pairs
-
--- One more than a number if the order is Less, and else 0.
-abbrev pub if_less : Ordering → ℕ → ℕ
-if_less Less n = suc n
-if_less Equal n = 0
-if_less Greater n = 0
-
--- How many of ascending pairs have lesser keys than this one.
-abbrev pub keys_before : List ℕ → Pairs → ℕ
-keys_before key no_pairs = 0
-keys_before key (pair k t ps) = if_less (slice_cmp nat_cmp k key) (keys_before key ps)
-
--- Whether the order is Equal, or Less and then something holds.
-abbrev pub equal_or_later : Ordering → Bool → Bool
-equal_or_later Less later = later
-equal_or_later Equal later = true
-equal_or_later Greater later = false
-
--- Whether a pair of ascending ones has this key.
-abbrev pub pairs_have_key : List ℕ → Pairs → Bool
-pairs_have_key key no_pairs = false
-pairs_have_key key (pair k t ps) = equal_or_later (slice_cmp nat_cmp k key) (pairs_have_key key ps)
-
--- Items, with something done at a place among them, if there is one. `next` says whether that is
--- right after them.
-abbrev pub items_done : Option (ℕ × Bool) → Bool → List Step → Operation → (Tree → Tree) → Trees
-    → Trees
-items_done None next path operation below ts = ts
-items_done (Some place) next path operation below ts =
-    done_after (here_at true place.1 next path operation below) place.0 ts
-
--- Pairs, with something done at the place of a key, if there is one.
-abbrev pub pairs_done : Option (List ℕ) → List Step → Operation → (Tree → Tree) → Pairs → Pairs
-pairs_done None path operation below ps = ps
-pairs_done (Some key) path operation below ps =
-    pairs_done_after key (here_at false (pairs_have_key key ps) true path operation below)
-    (keys_before key ps) ps
-
--- Items, edited where a step leads, by a function of the child where later steps are left.
+-- Items, edited where a step leads, by a function of the item there if steps are left.
 abbrev pub edited_items : Step → List Step → Operation → (Tree → Tree) → Trees → Trees
 edited_items s path operation below ts =
-    items_done (item_place s (count ts)) (is_next s (count ts)) path operation below ts
+    let n = count ts in
+    let us = item_edited (is_next s n) path operation below (child_at s (array ts)) in
+    trees_of (items_with (item_place s n) us (tree_list ts))
 
--- The same of pairs.
+-- Ascending pairs, with this value of a key, or without the key if there is none.
+abbrev pub pairs_with : List ℕ → Option Tree → Pairs → Pairs
+pairs_with k (Some v) ps = with_key k v ps
+pairs_with k None ps = without_key k ps
+
+-- Pairs, edited where a step leads, by a function of the value there if steps are left.
 abbrev pub edited_pairs : Step → List Step → Operation → (Tree → Tree) → Pairs → Pairs
-edited_pairs s path operation below ps = pairs_done (step_key s) path operation below ps
+edited_pairs (Key k) path operation below ps =
+    pairs_with k.now (child_edited true path operation below (child_at (Key k) (object ps))) ps
+edited_pairs s path operation below ps = ps
 
 -- The tree, edited at the end of a path that has a step at least. It is unchanged if the path leads
 -- nowhere.
@@ -167,17 +105,3 @@ abbrev pub edited_whole : List Step → Operation → Tree → Tree
 edited_whole [] (put v) t = v
 edited_whole [] (create v) t = v
 edited_whole path operation t = edited path operation t
-
--- The place is one of c children, or after them if a value is inserted.
-abbrev pub IsPlaceAmong : Here → ℕ → ℕ → Type 0
-IsPlaceAmong nothing n c = ⊤
-IsPlaceAmong (before v) n c = n ≤ c
-IsPlaceAmong (replaced f) n c = n < c
-IsPlaceAmong removed n c = n < c
-
--- How many children there are then, of c before.
-abbrev pub count_done : Here → ℕ → ℕ
-count_done nothing c = c
-count_done (before v) c = suc c
-count_done (replaced f) c = c
-count_done removed c = pred c

@@ -30,13 +30,12 @@ pub use Rattle.jsonb_functions.specs.Conditions.{AnyOf, any_terms, meets_any}
 pub use Rattle.jsonb_functions.specs.Contains.{contained, contains_whole, has_top_key}
 pub use Rattle.jsonb_functions.specs.Contains.{items_contained, items_or_none, members_contained}
 pub use Rattle.jsonb_functions.specs.Contains.{is_there, some_tree}
-pub use Rattle.jsonb_functions.specs.EditSource.{edit_operation, edited_along, here_of, made_size}
-pub use Rattle.jsonb_functions.specs.EditSource.{made_tree, operation_of, plan_size, what_size}
-pub use Rattle.jsonb_functions.specs.Edited.{edited_items, edited_pairs, first_done}
-pub use Rattle.jsonb_functions.specs.Edited.{first_pair_done}
-pub use Rattle.jsonb_functions.specs.Edited.{before_if, can_wrap, count_done, edited, edited_whole}
-pub use Rattle.jsonb_functions.specs.Edited.{here_at, here_missing, keys_before, makes_container}
-pub use Rattle.jsonb_functions.specs.Edited.{pairs_have_key, wrapped}
+pub use Rattle.jsonb_functions.specs.EditSource.{comes, count_done, edit_operation}
+pub use Rattle.jsonb_functions.specs.EditSource.{edited_along, first_done, first_pair_done, here_at}
+pub use Rattle.jsonb_functions.specs.EditSource.{here_of, keys_before, made_size, made_tree}
+pub use Rattle.jsonb_functions.specs.EditSource.{operation_of, pairs_have_key, plan_size, what_size}
+pub use Rattle.jsonb_functions.specs.Edited.{can_wrap, edited, edited_items, edited_pairs}
+pub use Rattle.jsonb_functions.specs.Edited.{edited_whole, makes_container, new_child, wrapped}
 pub use Rattle.jsonb_functions.specs.Filter.{after_open, after_term, compares, holds}
 pub use Rattle.jsonb_functions.specs.Filter.{passes, verdict_of}
 pub use Rattle.jsonb_functions.specs.Found.{child_at, found_at}

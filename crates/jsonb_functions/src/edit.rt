@@ -1,23 +1,23 @@
 //! Edited copies of documents, written in one pass in canonical form.
 
 ghost use Rattle.std.specs.Prelude.{◌≡◌, ◌≤◌, ◌<◌, ◌+◌, ◌^◌, length, IfOk, IfSome, MatchOption};
-ghost use Rattle.std.specs.Prelude.{true, false};
+ghost use Rattle.std.specs.Prelude.{true, false, Some, None, if◌then◌else◌};
 ghost use Rattle.jsonb_functions.specs.declared.overlay.Laid.TheVariants.{Kept};
 ghost use Rattle.jsonb_functions.specs.EditSource.{edit_laws, edit_meaning};
 ghost use Rattle.jsonb_functions.specs.Overlay.{ItemsMean, NextItemIs, NextMemberIs, ObjectMeans};
 ghost use Rattle.jsonb_functions.specs.Overlay.{laid_items_size, laid_object_size, laid_size};
 ghost use Rattle.jsonb_functions.specs.Overlay.{written};
 ghost use Rattle.jsonb_functions.specs.Words.{AreChildren, AreMembers, Fits, IsObject, LevelIs};
-ghost use Rattle.jsonb_functions.specs.Words.{MadeIfFit, PartMeans, Pairs, Tree, Trees, before_if};
-ghost use Rattle.jsonb_functions.specs.Words.{can_wrap, canon, code_of, count_done, document_tree};
+ghost use Rattle.jsonb_functions.specs.Words.{MadeIfFit, Pairs, PartMeans, Tree, Trees, can_wrap};
+ghost use Rattle.jsonb_functions.specs.Words.{canon, code_of, comes, count_done, document_tree};
 ghost use Rattle.jsonb_functions.specs.Words.{edit_operation, edited, edited_along, edited_items};
 ghost use Rattle.jsonb_functions.specs.Words.{edited_pairs, edited_whole, first_done};
-ghost use Rattle.jsonb_functions.specs.Words.{first_pair_done, here_at, here_missing, here_of};
-ghost use Rattle.jsonb_functions.specs.Words.{items_size, keys_before, level_size, made_size};
-ghost use Rattle.jsonb_functions.specs.Words.{made_tree, makes_container, no_pairs, no_trees};
-ghost use Rattle.jsonb_functions.specs.Words.{operation_of, owned_bytes, pairs_have_key};
-ghost use Rattle.jsonb_functions.specs.Words.{part_tree, plan_size, position_view, shape_of};
-ghost use Rattle.jsonb_functions.specs.Words.{what_size, wrapped};
+ghost use Rattle.jsonb_functions.specs.Words.{first_pair_done, here_at, here_of, items_size};
+ghost use Rattle.jsonb_functions.specs.Words.{keys_before, level_size, made_size, made_tree};
+ghost use Rattle.jsonb_functions.specs.Words.{makes_container, new_child, no_pairs, no_trees};
+ghost use Rattle.jsonb_functions.specs.Words.{operation_of, owned_bytes, pairs_have_key, part_tree};
+ghost use Rattle.jsonb_functions.specs.Words.{plan_size, position_view, shape_of, what_size};
+ghost use Rattle.jsonb_functions.specs.Words.{wrapped};
 
 use crate::overlay::{
     Counted, Laid, LaidLevel, LaidMember, Meant, Overlay, item_count, kept_level,
@@ -261,8 +261,8 @@ fn what_at<'a>(is_item: bool, is_there: bool, is_next: bool, plan: Plan<'a>) -> 
 // What is done where no child is, with the steps that are left.
 #[tactic(auto, using(crate::proofs::EditLaws::not_put, crate::proofs::EditLaws::not_inserted))]
 fn what_missing<'a>(is_next: bool, plan: Plan<'a>) -> What<'a>
-    ensures what { here_of result ≡ here_missing is_next plan.entry.path.now
-        (operation_of plan.entry.change.now) }
+    ensures what { here_of result ≡ comes
+        (new_child is_next plan.entry.path.now (operation_of plan.entry.change.now)) }
     ensures size { what_size result ≤ 1 + plan_size plan.entry }
 {
     let path = plan.path;
@@ -276,8 +276,8 @@ fn what_missing<'a>(is_next: bool, plan: Plan<'a>) -> What<'a>
 
 // A value in containers comes there, if it is wanted.
 fn insert_if<'a>(is_wanted: bool, path: &'a [Step<'a>], value: &'a Part<'a>) -> What<'a>
-    ensures what { here_of result
-        ≡ before_if is_wanted (wrapped path.entry.now (part_tree value.entry.now)) }
+    ensures what { here_of result ≡ comes (if is_wanted
+        then Some (wrapped path.entry.now (part_tree value.entry.now)) else None) }
     ensures size { what_size result
         ≤ 1 + (length path.entry.now + length value.entry.now.payload.now) }
 {

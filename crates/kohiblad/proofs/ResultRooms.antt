@@ -6,6 +6,7 @@ use Rattle.jsonb_value.specs.declared.error.Error.{Error}
 use Rattle.jsonb_value.specs.declared.error.Error.TheVariants.{InvalidJsonb}
 use Rattle.jsonb_value.specs.Meaning.{Meaning, document, other_bytes}
 use Rattle.jsonb_value.specs.Tree.{Tree}
+use Rattle.jsonb_value.specs.WellFormed.{IsTree}
 use Rattle.jsonb_value.proofs.BigEndian.{AreBytes}
 use Rattle.jsonb_value.proofs.PayloadDecision.{Decided}
 use Rattle.jsonb_codec.specs.Canon.{canon}
@@ -13,6 +14,7 @@ use Rattle.jsonb_codec.specs.Depth.{depth}
 use Rattle.jsonb_codec.specs.Doc.{Doc, IsDocument}
 use Rattle.jsonb_codec.proofs.Decision.{decide}
 use Rattle.jsonb_codec.proofs.Unique.{Doc-unique}
+use Rattle.jsonb_codec.proofs.WellFormed.{IsTree-Doc}
 use Rattle.jsonb.specs.Within.{meaning_within}
 use Rattle.jsonb.proofs.WithinLaws.{bytes_within}
 use Rattle.jsonb_functions.specs.Edited.{Operation, put, create, insert, remove, edited_whole}
@@ -86,26 +88,26 @@ operation_len (suc (suc (suc (suc e)))) o op n asked value = absurd cc
 
 -- the edited tree
 tree_len : (t : Tree) (path : Option (List StepView)) (asked : Result Operation ℕ) (m n k : ℕ)
-    (before after : List ℕ) (size status : ℕ) → 4 * room t ≤ 5 * (4 + m)
+    (before after : List ℕ) (size status : ℕ) → IsTree t → 4 * room t ≤ 5 * (4 + m)
     → ((vs : List StepView) (steps : List Step) → path ≡ Some vs → map step_view steps ≡ vs
     → path_room steps + 12 ≤ 3 * k)
     → ((op : Operation) → asked ≡ Ok op → 4 * operation_room op ≤ 5 * (4 + n))
     → IsTreeEdited t path asked before after size status
     → 4 * size ≤ 5 * (m + n) + 12 * k + 8
-tree_len t (Some vs) (Ok op) m n k before after size status tree path value
+tree_len t (Some vs) (Ok op) m n k before after size status is tree path value
     (steps, (viewed, written)) =
     let most = answered (edited_whole steps op t)
     (room t + (operation_room op + path_room steps) + 4) before after size status
-    (omega (arith, canon_room (edited_whole steps op t), whole_room steps op t)) written in
+    (omega (arith, canon_room (edited_whole steps op t), whole_room steps op t is)) written in
     omega (arith, most, tree, path vs steps refl viewed, value op refl)
-tree_len t None (Ok op) m n k before after size status tree path value (reason, (none, same)) =
+tree_len t None (Ok op) m n k before after size status is tree path value (reason, (none, same)) =
     omega (arith, none)
-tree_len t path (Err e) m n k before after size status tree steps value (reason, (none, same)) =
-    omega (arith, none)
+tree_len t path (Err e) m n k before after size status is tree steps value
+    (reason, (none, same)) = omega (arith, none)
 
 document_len : (m o q : Meaning) (e : ℕ) (b p v : List ℕ)
     (before after : List ℕ) (size status : ℕ)
-    → ((t : Tree) → m ≡ document t → 4 * room t ≤ 5 * (4 + length b))
+    → ((t : Tree) → m ≡ document t → IsTree t × (4 * room t ≤ 5 * (4 + length b)))
     → ((t : Tree) → q ≡ document t → Doc p t)
     → ((t : Tree) → o ≡ document t → 4 * room t ≤ 5 * (4 + length v))
     → IsEdited m q (operation_asked e o) before after size status
@@ -113,7 +115,7 @@ document_len : (m o q : Meaning) (e : ℕ) (b p v : List ℕ)
 document_len (document t) o (document u) e b p v before after size status tree path value
     (inl edited) =
     tree_len t (path_in u) (operation_asked e o) (length b) (length v) (length p) before after size
-    status (tree t refl)
+    status (tree t refl).0 (tree t refl).1
     (λ vs steps is viewed. given_path_room p u steps vs (path u refl) is viewed)
     (λ op asked. operation_len e o op (length v) asked value) edited
 document_len (document t) o (document u) e b p v before after size status tree path value
@@ -130,8 +132,8 @@ pub edit_len : (d : ℕ) (b p v : List ℕ) (e : ℕ) (before after : List ℕ) 
     → IsEditLength b p v size
 edit_len d b p v e before after size status bytes values edited =
     document_len (meaning_within d b) (meaning_within d v) (meaning_within d p) e b p v before after
-    size status (λ t is. meant_room d b t bytes is) (λ t is. meant d p t is)
-    (λ t is. meant_room d v t values is) edited
+    size status (λ t is. (IsTree-Doc b t bytes (meant d b t is), meant_room d b t bytes is))
+    (λ t is. meant d p t is) (λ t is. meant_room d v t values is) edited
 
 joined_len : (m o : Meaning) (b v : List ℕ) (before after : List ℕ) (size status : ℕ)
     → ((t : Tree) → m ≡ document t → 4 * room t ≤ 5 * (4 + length b))

@@ -1,5 +1,5 @@
 -- What is left of a document after a removal is a document.
-use Rattle.std.proofs.Common.{◌≡◌, ℕ, zero, suc, List, [], ◌∷◌, sym, subst, inl}
+use Rattle.std.proofs.Common.{◌≡◌, ℕ, zero, suc, List, [], ◌∷◌, refl, sym, subst, inl}
 use Rattle.std.specs.Prelude.{Bool, true, false, Option, None, Some, Result, Ok, Err, IfOk, ⊤}
 use Rattle.std.specs.declared.alloc.Global.{Global}
 use Rattle.std.specs.declared.vec.Vec.{Vec}
@@ -20,12 +20,14 @@ use Rattle.jsonb.specs.Document.{tree_in}
 use Rattle.jsonb.specs.Owned.{owned_bytes}
 use Rattle.jsonb.proofs.DocumentLaws.{tree_in-is}
 use Rattle.jsonb_functions.specs.declared.path.Step.{Step}
-use Rattle.jsonb_functions.specs.Path.{is_next, item_place, step_key}
-use Rattle.jsonb_functions.specs.Edited.{Here, nothing, replaced, before, removed, remove, here_at}
-use Rattle.jsonb_functions.specs.Edited.{first_done, done_after, first_pair_done, pairs_done_after}
-use Rattle.jsonb_functions.specs.Edited.{keys_before, pairs_have_key, items_done, pairs_done}
-use Rattle.jsonb_functions.specs.Edited.{edited, edited_whole}
+use Rattle.jsonb_functions.specs.declared.path.Step.TheVariants.{Key, Index, FromEnd, End}
+use Rattle.jsonb_functions.specs.Path.{is_next, item_place}
+use Rattle.jsonb_functions.specs.Edited.{remove, edited, edited_whole, edited_items, edited_pairs}
+use Rattle.jsonb_functions.specs.EditSource.{Here, nothing, replaced, before, removed, here_at}
+use Rattle.jsonb_functions.specs.EditSource.{first_done, done_after, first_pair_done}
+use Rattle.jsonb_functions.specs.EditSource.{pairs_done_after, keys_before, pairs_have_key}
 use Rattle.jsonb_functions.specs.MadeWithMemory.{MadeWithMemory}
+use Rattle.jsonb_functions.proofs.EditLaws as edits
 use Rattle.jsonb_functions.proofs.JoinLaws.{ascends_from}
 use Rattle.jsonb_functions.proofs.KeyOrder.{ascend_later}
 use Rattle.kohiblad_shell.specs.declared.input.Form.{Form}
@@ -99,30 +101,35 @@ later_ascends key here keeps (suc n) b (pair k t ps) up =
 later_ascends key here keeps (suc n) b no_pairs up = up
 
 module _ (path : List Step) (f : Tree → Tree) (kept : (t : Tree) → IsTree t → IsTree (f t)) where
-  items_left : (place : Option (ℕ × Bool)) (next : Bool) (ts : Trees) → AreTrees ts
-      → AreTrees (items_done place next path remove f ts)
-  items_left None next ts are = are
-  items_left (Some place) next ts are =
-      later_trees (here_at true place.1 next path remove f)
-      (removal_keeps true place.1 next path f kept) place.0 ts are
+  items_left : (s : Step) (place : Option (ℕ × Bool)) (ts : Trees) → AreTrees ts
+      → place ≡ item_place s (count ts) → AreTrees (edited_items s path remove f ts)
+  items_left s None ts are e = rw (sym (edits.items_left s path remove f ts e)) are
+  items_left s (Some place) ts are e =
+      let next = is_next s (count ts) in
+      rw (sym (edits.items_walked s path remove f ts place e))
+      (later_trees (here_at true place.1 next path remove f)
+      (removal_keeps true place.1 next path f kept) place.0 ts are)
 
-  pairs_left : (key : Option (List ℕ)) (ps : Pairs) → IsTree (object ps)
-      → IsTree (object (pairs_done key path remove f ps))
-  pairs_left None ps is = is
-  pairs_left (Some key) ps is =
-      let here = here_at false (pairs_have_key key ps) true path remove f in
-      let keeps = removal_keeps false (pairs_have_key key ps) true path f kept in (
-        later_ascends key here keeps (keys_before key ps) None ps is.0,
-        later_pairs key here keeps (keys_before key ps) ps is.1,
+  pairs_left : (s : Step) (ps : Pairs) → IsTree (object ps)
+      → IsTree (object (edited_pairs s path remove f ps))
+  pairs_left (Key k) ps is =
+      let here = here_at false (pairs_have_key k.now ps) true path remove f in
+      let keeps = removal_keeps false (pairs_have_key k.now ps) true path f kept in
+      rw (sym (edits.pairs_walked k.now path remove f ps is.0)) (
+        later_ascends k.now here keeps (keys_before k.now ps) None ps is.0,
+        later_pairs k.now here keeps (keys_before k.now ps) ps is.1,
       )
+  pairs_left (Index i) ps is = is
+  pairs_left (FromEnd i) ps is = is
+  pairs_left End ps is = is
 
 edited_tree : (path : List Step) (t : Tree) → IsTree t → IsTree (edited path remove t)
 edited_tree [] t is = is
 edited_tree (s ∷ path) (array ts) is =
-    items_left path (λ t. edited path remove t) (λ t. edited_tree path t)
-    (item_place s (count ts)) (is_next s (count ts)) ts is
+    items_left path (λ t. edited path remove t) (λ t. edited_tree path t) s
+    (item_place s (count ts)) ts is refl
 edited_tree (s ∷ path) (object ps) is =
-    pairs_left path (λ t. edited path remove t) (λ t. edited_tree path t) (step_key s) ps is
+    pairs_left path (λ t. edited path remove t) (λ t. edited_tree path t) s ps is
 edited_tree (s ∷ path) t is = is
 
 left_tree : (path : List Step) (t : Tree) → IsTree t → IsTree (edited_whole path remove t)

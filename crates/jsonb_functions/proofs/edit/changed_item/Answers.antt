@@ -1,7 +1,7 @@
-use Rattle.std.proofs.Common.{refl, ◌∙◌}
+use Rattle.std.proofs.Common.{ap, refl, ◌∙◌}
 use Rattle.jsonb.specs.EntryTrees.{part_tree}
-use Rattle.jsonb_functions.specs.EditSource.{edited_along, made_tree}
-use Rattle.jsonb_functions.proofs.EditLaws.{first_removed, first_replaced}
+use Rattle.jsonb_functions.specs.EditSource.{edited_along, first_done, made_tree, removed}
+use Rattle.jsonb_functions.specs.EditSource.{replaced}
 use Rattle.jsonb_functions.proofs.OverlayLaws.{part_tree_means}
 use Rattle.jsonb_functions.proofs.edit.changed_item.Goals as goal
 
@@ -21,7 +21,7 @@ returns-in_ok-later-in-Put-clause-first c ts are =
       first = part_tree c.in-Put.value.now;
       others = f.others;
       are = rw c.in-Put.is
-          (first_replaced (λ t. part_tree c.in-Put.value.now) ts f.others f.first f.are);
+          (ap (λ us. first_done (replaced (λ t. part_tree c.in-Put.value.now)) us) f.are);
       is = part_tree_means c.in-Put.value.now;
       left = f.later;
     }
@@ -33,7 +33,7 @@ returns-in_ok-part-in-Below-clause-first c ts are =
       first = edited_along c.in-Below.plan f.first;
       others = f.others;
       are = rw c.in-Below.is
-          (first_replaced (λ t. edited_along c.in-Below.plan t) ts f.others f.first f.are);
+          (ap (λ us. first_done (replaced (λ t. edited_along c.in-Below.plan t)) us) f.are);
       is = (f.first, (f.is, refl));
       left = f.later;
     }
@@ -45,7 +45,7 @@ returns-in_ok-part-in-Remove-clause-first c ts are =
     record {
       first = f.first;
       others = f.others;
-      are = rw c.in-Remove.is (first_removed ts gone.others gone.first gone.are ∙ f.are);
+      are = rw c.in-Remove.is (ap (λ us. first_done removed us) gone.are ∙ f.are);
       is = f.is;
       left = f.later;
     }

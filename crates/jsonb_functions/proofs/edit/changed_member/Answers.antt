@@ -1,7 +1,7 @@
-use Rattle.std.proofs.Common.{refl, ◌∙◌}
+use Rattle.std.proofs.Common.{ap, refl, ◌∙◌}
 use Rattle.jsonb.specs.EntryTrees.{part_tree}
-use Rattle.jsonb_functions.specs.EditSource.{edited_along, made_tree}
-use Rattle.jsonb_functions.proofs.EditLaws.{pair_removed, pair_replaced}
+use Rattle.jsonb_functions.specs.EditSource.{edited_along, first_pair_done, made_tree, removed}
+use Rattle.jsonb_functions.specs.EditSource.{replaced}
 use Rattle.jsonb_functions.proofs.OverlayLaws.{part_tree_means}
 use Rattle.jsonb_functions.proofs.edit.changed_member.Goals as goal
 
@@ -20,8 +20,8 @@ returns-in_ok-key-in-Put-clause-first c ps are =
     record {
       first = part_tree c.in-Put.value.now;
       others = f.others;
-      are = rw c.in-Put.is (pair_replaced c.args.new_key.now
-          (λ t. part_tree c.in-Put.value.now) ps f.others _ f.value f.are);
+      are = rw c.in-Put.is (ap (λ qs. first_pair_done c.args.new_key.now
+          (replaced (λ t. part_tree c.in-Put.value.now)) qs) f.are);
       is = part_tree_means c.in-Put.value.now;
       left = f.left;
     }
@@ -32,8 +32,8 @@ returns-in_ok-key-in-Below-clause-first c ps are =
     record {
       first = edited_along c.in-Below.plan f.value;
       others = f.others;
-      are = rw c.in-Below.is (pair_replaced c.args.new_key.now
-          (λ t. edited_along c.in-Below.plan t) ps f.others _ f.value f.are);
+      are = rw c.in-Below.is (ap (λ qs. first_pair_done c.args.new_key.now
+          (replaced (λ t. edited_along c.in-Below.plan t)) qs) f.are);
       is = (f.value, (f.is, refl));
       left = f.left;
     }
@@ -46,7 +46,7 @@ returns-in_ok-key-in-Remove-clause-first c ps are =
       first = f.value;
       others = f.others;
       are = rw c.in-Remove.is
-          (pair_removed c.args.new_key.now ps gone.others _ gone.value gone.are ∙ f.are);
+          (ap (λ qs. first_pair_done c.args.new_key.now removed qs) gone.are ∙ f.are);
       is = f.is;
       left = f.left;
     }

@@ -1,7 +1,6 @@
 use Rattle.std.proofs.Common.{◌≡◌, refl, subst, true}
 use Rattle.jsonb_codec.specs.Contents.{AreChildren}
-use Rattle.jsonb_functions.specs.Edited.{here_at}
-use Rattle.jsonb_functions.specs.EditSource.{here_of, edited_along, operation_of}
+use Rattle.jsonb_functions.specs.EditSource.{edited_along, here_at, here_of, operation_of}
 use Rattle.jsonb_functions.proofs.EditLaws.{items_edited, items_left}
 use Rattle.jsonb_functions.proofs.edit.edited_items.Goals as goal
 

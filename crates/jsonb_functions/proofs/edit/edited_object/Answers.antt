@@ -3,8 +3,7 @@ use Rattle.jsonb_value.specs.Tree.{pair_count}
 use Rattle.jsonb_codec.specs.Parts.{IsObject}
 use Rattle.jsonb_codec.proofs.Unique.{pairs_unique}
 use Rattle.jsonb_functions.specs.declared.edit.EditedMembers.{EditedMembers}
-use Rattle.jsonb_functions.specs.Edited.{here_at}
-use Rattle.jsonb_functions.specs.EditSource.{here_of, edited_along, operation_of}
+use Rattle.jsonb_functions.specs.EditSource.{edited_along, here_at, here_of, operation_of}
 use Rattle.jsonb_functions.proofs.EditLaws.{few_pairs, key_edited, members_count, pairs_left}
 use Rattle.jsonb_functions.proofs.edit.edited_object.Goals as goal
 

@@ -1,7 +1,6 @@
-use Rattle.std.proofs.Common.{◌-◌, arith, refl, ◌∙◌}
-use Rattle.jsonb_functions.specs.Edited.{done_after}
-use Rattle.jsonb_functions.specs.EditSource.{here_of}
-use Rattle.jsonb_functions.proofs.EditLaws.{at_first, none_after, one_after, one_within}
+use Rattle.std.proofs.Common.{◌≡◌, ◌-◌, ap, arith, refl, ◌∙◌}
+use Rattle.jsonb_functions.specs.EditSource.{done_after, here_of}
+use Rattle.jsonb_functions.proofs.EditLaws.{none_after, one_after, one_within}
 use Rattle.jsonb_functions.proofs.edit.EditedOverlay.next_item.Goals as goal
 
 pub returns-in_err-part-clause-first : goal.returns-in_err-part-clause-first
@@ -31,18 +30,19 @@ returns-then-items-gt0-clause-first c ts (us, ((are, within), e)) =
 pub returns-in_err-child-clause-first : goal.returns-in_err-child-clause-first
 returns-in_err-child-clause-first c ts (us, ((are, within), e)) =
     let x = c.args.items in
+    let here : x.before ≡ 0 = omega (arith, c.if-items-gt0.false) in
     rw c.from_residual-in_err-child.ensures (e
-    ∙ at_first (here_of x.what) x.before us (omega (arith, c.if-items-gt0.false))
-    ∙ c.in_err-child.ensures.first us are)
+    ∙ ap (λ n. done_after (here_of x.what) n us) here ∙ c.in_err-child.ensures.first us are)
 
 pub returns-clause-first : goal.returns-clause-first
 returns-clause-first c ts (us, ((are, within), e)) =
     let x = c.args.items in
     let f = c.in_ok-child.ensures.first us are in
+    let here : x.before ≡ 0 = omega (arith, c.if-items-gt0.false) in
     record {
       first = f.first;
       others = f.others;
-      are = e ∙ at_first (here_of x.what) x.before us (omega (arith, c.if-items-gt0.false)) ∙ f.are;
+      are = e ∙ ap (λ n. done_after (here_of x.what) n us) here ∙ f.are;
       is = f.is;
       left = f.left;
     }

@@ -1,7 +1,6 @@
-use Rattle.std.proofs.Common.{◌-◌, arith, refl, ◌∙◌}
-use Rattle.jsonb_functions.specs.Edited.{pairs_done_after}
-use Rattle.jsonb_functions.specs.EditSource.{here_of}
-use Rattle.jsonb_functions.proofs.EditLaws.{at_first_pair, no_pair_after, pair_after, pair_within}
+use Rattle.std.proofs.Common.{◌≡◌, ◌-◌, ap, arith, refl, ◌∙◌}
+use Rattle.jsonb_functions.specs.EditSource.{here_of, pairs_done_after}
+use Rattle.jsonb_functions.proofs.EditLaws.{no_pair_after, pair_after, pair_within}
 use Rattle.jsonb_functions.proofs.edit.EditedOverlay.next_member.Goals as goal
 
 pub returns-in_err-key-clause-first : goal.returns-in_err-key-clause-first
@@ -34,20 +33,20 @@ pub returns-in_err-key-2-clause-first :
     goal.returns-in_err-key-2-clause-first
 returns-in_err-key-2-clause-first c ps (qs, ((are, within), e)) =
     let x = c.args.members in
+    let here : x.before ≡ 0 = omega (arith, c.if-members-gt0.false) in
     rw c.from_residual-in_err-key-2.ensures (e
-    ∙ at_first_pair x.key.now (here_of x.what) x.before qs (omega (arith, c.if-members-gt0.false))
+    ∙ ap (λ n. pairs_done_after x.key.now (here_of x.what) n qs) here
     ∙ c.in_err-key-2.ensures.first qs are)
 
 pub returns-clause-first : goal.returns-clause-first
 returns-clause-first c ps (qs, ((are, within), e)) =
     let x = c.args.members in
     let f = c.in_ok-key-2.ensures.first qs are in
+    let here : x.before ≡ 0 = omega (arith, c.if-members-gt0.false) in
     record {
       first = f.first;
       others = f.others;
-      are = e
-          ∙ at_first_pair x.key.now (here_of x.what) x.before qs
-          (omega (arith, c.if-members-gt0.false)) ∙ f.are;
+      are = e ∙ ap (λ n. pairs_done_after x.key.now (here_of x.what) n qs) here ∙ f.are;
       is = f.is;
       left = f.left;
     }
