@@ -5,6 +5,7 @@ pub mod ValueLaws
 pub mod SortLaws
 pub mod KeyLaws
 pub mod RemovalLaws
+pub mod ExtractLaws
 pub mod ArgumentLaws
 pub mod MergeLaws
 pub mod MergeSteps

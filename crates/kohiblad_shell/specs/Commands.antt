@@ -62,3 +62,5 @@ operation_of name (given.Removed paths) =
     if bytes_eq name (codes "remove") then Some (operations.Remove paths) else None
 operation_of name (given.Range range) =
     if bytes_eq name (codes "range") then Some (operations.Range range) else None
+operation_of name (given.Columns columns) =
+    if bytes_eq name (codes "extract") then Some (operations.Extract columns) else None

@@ -6,6 +6,7 @@ use Rattle.kohiblad_shell.specs.declared.outcome.Reason.{Reason}
 use Rattle.kohiblad_shell.specs.declared.outcome.Reason.TheVariants.{BadUtf8, BadSyntax, BadNumber}
 use Rattle.kohiblad_shell.specs.declared.outcome.Reason.TheVariants.{TooDeep, TooLarge}
 use Rattle.kohiblad_shell.specs.declared.outcome.Reason.TheVariants.{BadDocument, Cut, NotSorted}
+use Rattle.kohiblad_shell.specs.declared.outcome.Reason.TheVariants.{NotOfType}
 
 -- The word for a reason.
 abbrev pub reason_name : Reason → List ℕ
@@ -17,6 +18,7 @@ reason_name TooLarge = codes "TooLarge"
 reason_name BadDocument = codes "InvalidJsonb"
 reason_name Cut = codes "InvalidEOF"
 reason_name NotSorted = codes "NotSorted"
+reason_name NotOfType = codes "NotOfType"
 
 -- Whether the row is cut off.
 abbrev pub is_cut : Reason → Bool

@@ -10,6 +10,7 @@ pub mod Merges
 pub mod Rows
 pub mod Removals
 pub mod Ranges
+pub mod Extracts
 pub mod Operations
 pub mod Surveys
 pub mod Arguments

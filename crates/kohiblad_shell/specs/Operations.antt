@@ -26,6 +26,7 @@ use Rattle.kohiblad_shell.specs.declared.operation.Operation.TheVariants.{Check,
 use Rattle.kohiblad_shell.specs.declared.operation.Operation.TheVariants.{Select, Filter, Contains}
 use Rattle.kohiblad_shell.specs.declared.operation.Operation.TheVariants.{Encode, Decode, Key}
 use Rattle.kohiblad_shell.specs.declared.operation.Operation.TheVariants.{Sort, Remove, Range}
+use Rattle.kohiblad_shell.specs.declared.operation.Operation.TheVariants.{Extract}
 use Rattle.kohiblad_shell.specs.declared.operation.Operation.TheVariants as operations
 use Rattle.kohiblad_shell.specs.declared.operation.Change.{Change}
 use Rattle.kohiblad_shell.specs.declared.operation.Change.TheVariants.{Set, Merge, Pick}
@@ -35,13 +36,13 @@ use Rattle.kohiblad_shell.specs.declared.operation.TextLayout.TheVariants.{Compa
 use Rattle.kohiblad_shell.specs.declared.operation.Style.{Style}
 use Rattle.kohiblad_shell.specs.declared.operation.Style.TheVariants.{Json, Raw}
 use Rattle.kohiblad_shell.specs.declared.outcome.Reason.TheVariants.{TooLarge}
-use Rattle.kohiblad_shell.specs.declared.outcome.Unanswered.{Unanswered}
+use Rattle.kohiblad_shell.specs.Extracts.{IsExtracted}
 use Rattle.kohiblad_shell.specs.Outcomes.{Outcome}
 use Rattle.kohiblad_shell.specs.Keys.{row_key}
 use Rattle.kohiblad_shell.specs.Inputs.{framed, made_row}
 use Rattle.kohiblad_shell.specs.Ranges.{is_in_range}
 use Rattle.kohiblad_shell.specs.Removals.{IsRemoved}
-use Rattle.kohiblad_shell.specs.Rows.{IsRow, IsRowFault, unanswered_of}
+use Rattle.kohiblad_shell.specs.Rows.{IsRow, IsRowFault}
 use Rattle.kohiblad_shell.specs.Sorts.{key_and_line}
 
 -- The text of a string; none of every other value.
@@ -103,6 +104,7 @@ row_lines (Key paths) form row bytes =
     encode_lower (row_key paths.now (tree_in bytes)) ++ 10 ∷ []
 row_lines (Sort paths) form row bytes =
     key_and_line (row_key paths.now (tree_in bytes)) (framed form row)
+row_lines (Extract columns) form row bytes = []
 
 -- The changed value.
 abbrev pub changed : Change → Tree → Tree
@@ -127,6 +129,8 @@ abbrev pub IsRowAnswer : Operation → Form → List ℕ → List ℕ → Outcom
 IsRowAnswer (operations.Change change) form row bytes outcome =
     IsMade form (changed change (tree_in bytes)) outcome
 IsRowAnswer (Remove paths) form row bytes outcome = IsRemoved form paths.now bytes outcome
+IsRowAnswer (Extract columns) form row bytes outcome =
+    IsExtracted columns.now (tree_in bytes) outcome
 IsRowAnswer Canonical form row bytes outcome = IsCanonicalRow form (tree_in bytes) outcome
 IsRowAnswer operation form row bytes (Ok lines) = lines ≡ row_lines operation form row bytes
 IsRowAnswer operation form row bytes (Err fault) = ⊥
@@ -145,8 +149,3 @@ IsResultOf IsOutcome (Err InvalidJsonb) =
     IsOutcome (Err (record { offset = 0; reason = TooLarge }))
 IsResultOf IsOutcome (Err OutOfMemory) = ⊤
 IsResultOf IsOutcome (Err error) = ⊥
-
--- The same lines, or the library's error as a reason why there are none.
-abbrev pub IsAnswered : Result (Vec ℕ Global) Error → Result (Vec ℕ Global) Unanswered → Type 0
-IsAnswered (Ok lines) result = result ≡ Ok lines
-IsAnswered (Err error) result = result ≡ Err (unanswered_of error)

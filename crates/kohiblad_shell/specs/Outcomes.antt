@@ -21,11 +21,15 @@ Outcome = Result (List ℕ) LineFault
 abbrev pub LineRule : Type 1
 LineRule = List ℕ → Outcome → Type 0
 
+-- The result is such an outcome, or there is not enough memory.
+abbrev pub IsOutcome : (Outcome → Type 0) → Result (Vec ℕ Global) Unanswered → Type 0
+IsOutcome Is (Ok rows) = Is (Ok rows.items)
+IsOutcome Is (Err (Wrong fault)) = Is (Err fault)
+IsOutcome Is (Err OutOfMemory) = ⊤
+
 -- An answer follows the rule, or there is not enough memory.
 abbrev pub IsAnswer : LineRule → List ℕ → Result (Vec ℕ Global) Unanswered → Type 0
-IsAnswer rule line (Ok rows) = rule line (Ok rows.items)
-IsAnswer rule line (Err (Wrong fault)) = rule line (Err fault)
-IsAnswer rule line (Err OutOfMemory) = ⊤
+IsAnswer rule line result = IsOutcome (rule line) result
 
 -- What the rows at the beginning of the bytes give, in order, up to the rest: by the rule, or the
 -- fault of a row that is cut off, after which nothing is left.

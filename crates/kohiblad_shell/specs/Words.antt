@@ -27,10 +27,13 @@ pub use Rattle.kohiblad_shell.specs.Arguments.{stops_of, value_of, values_of}
 pub use Rattle.kohiblad_shell.specs.Faults.{bad_document, fault_line, is_cut, reason_name}
 pub use Rattle.kohiblad_shell.specs.Inputs.{AppendsHeld, ReadsLine, ReadsPart, ReadsRow, framed}
 pub use Rattle.kohiblad_shell.specs.Inputs.{made_row}
-pub use Rattle.kohiblad_shell.specs.Outcomes.{AnswersNext, IsAnswer, LineRule, row_count}
-pub use Rattle.kohiblad_shell.specs.Outcomes.{stops_at}
+pub use Rattle.kohiblad_shell.specs.Outcomes.{AnswersNext, IsAnswer, IsOutcome, LineRule}
+pub use Rattle.kohiblad_shell.specs.Outcomes.{row_count, stops_at}
 pub use Rattle.kohiblad_shell.specs.Rows.{IsNotJson, IsParsed, IsRefusedLine, IsRefusedRow, IsRow}
 pub use Rattle.kohiblad_shell.specs.Rows.{line_reason, unanswered_of}
+pub use Rattle.kohiblad_shell.specs.Extracts.{IsCsvLine, IsField, IsFieldAt, IsFieldBy}
+pub use Rattle.kohiblad_shell.specs.Extracts.{IsFieldOf, IsTypedLine, column_words, csv_text}
+pub use Rattle.kohiblad_shell.specs.Extracts.{doubled, ends_field, is_quoted, value_text}
 pub use Rattle.kohiblad_shell.specs.Ranges.{is_in_range, is_tree_in}
 pub use Rattle.kohiblad_shell.specs.Removals.{IsRemoved, begins_path, path_count, without}
 pub use Rattle.kohiblad_shell.specs.Runs.{BeginsRun, IsRun}
@@ -43,9 +46,13 @@ pub use Rattle.kohiblad_shell.specs.Surveys.{with_document}
 pub use Rattle.kohiblad_shell.specs.declared.input.Form.TheVariants.{Documents}
 pub use Rattle.kohiblad_shell.specs.declared.outcome.Unanswered.TheVariants.{OutOfMemory, Wrong}
 pub use Rattle.hex.specs.Hex.{encode_lower}
+pub use Rattle.jsonb_value.specs.ExtCode.{extension_of}
+pub use Rattle.jsonb_value.specs.Text.{compact, extension_text, number_text}
+pub use Rattle.jsonb_typed.specs.Types.{IsText}
+pub use Rattle.jsonb_typed.specs.declared.lattice.LeastType.{LeastType}
 pub use Rattle.jsonb.specs.Document.{document_bytes, document_tree}
 pub use Rattle.jsonb.specs.Node.{HoldsNoScalar, node_tree}
-pub use Rattle.kohiblad_shell.specs.Operations.{IsAnswered, IsCanonicalRow, IsResultOf}
+pub use Rattle.kohiblad_shell.specs.Operations.{IsCanonicalRow, IsResultOf}
 pub use Rattle.kohiblad_shell.specs.Operations.{IsRowAnswer, changed, document_line, kept_row}
 pub use Rattle.kohiblad_shell.specs.Operations.{raw_text, row_rule, text_of}
 pub use Rattle.kohiblad_shell.specs.Operations.{value_line, value_lines}

@@ -73,12 +73,23 @@ const REMOVED: Operand = Operand {
     help: "A path without wildcards; words after it that begin with '$' are paths too",
 };
 
+const COLUMN: Operand = Operand {
+    name: "PATH",
+    help: "A path, such as '$.price'; after TYPE more paths may come, each with its type",
+};
+
+const TYPE: Operand = Operand {
+    name: "TYPE",
+    help: "boolean, int64, uint64, 'decimal 2', text, date, timestamp, timestamp_tz, interval, \
+        nothing or mixed",
+};
+
 const NAMES: Operand = Operand {
     name: "NAMES",
     help: "Names with commas between them, such as id,who",
 };
 
-const COMMANDS: [CommandRow; 19] = [
+const COMMANDS: [CommandRow; 20] = [
     CommandRow {
         name: "check",
         about: "Report the lines that are not JSON",
@@ -134,6 +145,13 @@ const COMMANDS: [CommandRow; 19] = [
         about: "Count what the values are to which a path leads",
         operand: Some(PATH),
         value: None,
+        options: &[CommandOption::Documents, CommandOption::OnError],
+    },
+    CommandRow {
+        name: "extract",
+        about: "Write the values at paths as CSV, each as one of a type",
+        operand: Some(COLUMN),
+        value: Some(TYPE),
         options: &[CommandOption::Documents, CommandOption::OnError],
     },
     CommandRow {

@@ -4,6 +4,7 @@ ghost use Rattle.std.specs.Prelude.{◌≡◌};
 ghost use Rattle.kohiblad_shell.specs.Commands.{keys_operation, operation_of, path_operation};
 ghost use Rattle.kohiblad_shell.specs.Commands.{plain_operation, value_operation};
 
+use crate::extract::TypedPath;
 use crate::operation::{Change, Operation, Style, TextLayout};
 use crate::range::ValueRange;
 use jsonb::Document;
@@ -30,6 +31,8 @@ pub enum Operands<'a> {
     Removed(&'a [Vec<Step<'a>>]),
     /// A range of values.
     Range(ValueRange<'a>),
+    /// Paths, each with a type.
+    Columns(&'a [TypedPath<'a>]),
 }
 
 /// The operation of the command of this name. `None` if no command of this name is given such
@@ -49,6 +52,7 @@ pub fn operation_of<'a>(name: &str, operands: Operands<'a>) -> Option<Operation<
         }
         Operands::Removed(paths) if name == "remove" => Some(Operation::Remove(paths)),
         Operands::Range(range) if name == "range" => Some(Operation::Range(range)),
+        Operands::Columns(columns) if name == "extract" => Some(Operation::Extract(columns)),
         _ => None,
     }
 }

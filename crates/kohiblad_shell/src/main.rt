@@ -6,6 +6,7 @@ ghost use Rattle.kohiblad_shell.specs.Words.{IsDocument, halt_status, owned_byte
 
 mod arguments;
 mod command;
+mod extract;
 mod halt;
 mod input;
 mod key;
@@ -27,11 +28,12 @@ use arguments::{
 };
 use clap::ArgMatches;
 use command::{Operands, operation_of};
+use extract::{TypedPath, column_words};
 use halt::{Halt, halt_of_write};
 use input::Form;
 use jsonb::{Document, OwnedJsonb};
 use jsonb_functions::{Selector, Step, read_path_text, steps_of_path};
-use jsonb_typed::Survey;
+use jsonb_typed::{LeastType, Survey, parse_type};
 use merge::{InputFault, MergeEnd};
 use operation::{Job, Operation};
 use outcome::{Unanswered, fault_text};
@@ -116,6 +118,8 @@ fn run_command(rt: &HostRuntime, name: &str, arguments: &ArgMatches<'_>) -> u8 {
         with_bounds(rt, name, arguments)
     } else if name == "survey" {
         with_surveyed(rt, arguments)
+    } else if name == "extract" {
+        with_columns(rt, name, arguments)
     } else if has_operand(name) {
         with_path(rt, name, arguments)
     } else {
@@ -421,6 +425,50 @@ fn with_removals(rt: &HostRuntime, name: &str, arguments: &ArgMatches<'_>) -> u8
     run_operands(rt, name, Operands::Removed(&paths), arguments)
 }
 
+// Runs the command whose operands are paths, each with a type, which come before the files.
+fn with_columns(rt: &HostRuntime, name: &str, arguments: &ArgMatches<'_>) -> u8 {
+    let mut columns = Vec::new(rt.alloc());
+    if let Err(status) = push_column(rt, &mut columns, operand_in(arguments), value_in(arguments)) {
+        return status;
+    }
+    let words = words_in(arguments).unwrap_or(&[]);
+    let (typed, files) = words.split_at(column_words(words));
+    let mut left = typed;
+    while let [path, type_name, rest @ ..] = left {
+        if let Err(status) = push_column(rt, &mut columns, *path, *type_name) {
+            return status;
+        }
+        left = rest;
+    }
+    if path_count(files) > 0 {
+        return misuse(rt, "the last path has no type after it");
+    }
+    run_operands(rt, name, Operands::Columns(&columns), arguments)
+}
+
+// Adds a path with its type, or returns the status after the fault of either is reported.
+fn push_column<'a>(
+    rt: &HostRuntime,
+    columns: &mut Vec<TypedPath<'a>>,
+    path: &'a str,
+    type_name: &str,
+) -> Result<(), u8> {
+    let path = path_in(rt, path)?;
+    let value_type = type_in(rt, type_name)?;
+    match columns.push(TypedPath { path, value_type }) {
+        Ok(()) => Ok(()),
+        Err(_) => Err(failure(rt, Halt::Memory)),
+    }
+}
+
+// The type of this name, or the status after its fault is reported.
+fn type_in(rt: &HostRuntime, type_name: &str) -> Result<LeastType, u8> {
+    match parse_type(type_name) {
+        Some(value_type) => Ok(value_type),
+        None => Err(misuse(rt, "the type is none, such as int64, text or 'decimal 2'")),
+    }
+}
+
 // Runs the command whose operands are the bounds of a range.
 fn with_bounds(rt: &HostRuntime, name: &str, arguments: &ArgMatches<'_>) -> u8 {
     let path = match deciding_path_in(rt, arguments) {
@@ -569,6 +617,7 @@ fn run_files<W: Write>(
 fn files_of<'m, 'a>(operation: Operation<'_>, words: &'m [&'a str]) -> &'m [&'a str] {
     match operation {
         Operation::Remove(_) => &words[path_count(words)..],
+        Operation::Extract(_) => &words[column_words(words)..],
         _ => words,
     }
 }

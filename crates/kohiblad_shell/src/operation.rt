@@ -2,17 +2,19 @@
 
 ghost use Rattle.std.specs.Prelude.{◌≡◌, ◌++◌, ◌∷◌, [], IfOk, IfErr, map, string_bytes};
 ghost use Rattle.std.specs.Prelude.{option_map, option_to_list};
-ghost use Rattle.kohiblad_shell.specs.Words.{Fits, HoldsNoScalar, IsAnswered, IsCanonicalRow};
-ghost use Rattle.kohiblad_shell.specs.Words.{IsResultOf, IsRowAnswer, MadeWithMemory, canon};
+ghost use Rattle.kohiblad_shell.specs.Words.{Fits, HoldsNoScalar, IsCanonicalRow, IsOutcome};
+ghost use Rattle.kohiblad_shell.specs.Words.{IsResultOf, IsRowAnswer, IsTypedLine};
+ghost use Rattle.kohiblad_shell.specs.Words.{MadeWithMemory, canon};
 ghost use Rattle.kohiblad_shell.specs.Words.{changed, document_bytes, document_line};
 ghost use Rattle.kohiblad_shell.specs.Words.{document_tree, encode_lower, framed, kept_row};
 ghost use Rattle.kohiblad_shell.specs.Words.{key_and_line, made_row, node_tree, owned_bytes};
 ghost use Rattle.kohiblad_shell.specs.Words.{raw_text, row_key, row_rule, text_of, value_line};
 ghost use Rattle.kohiblad_shell.specs.Words.{value_lines};
 
+use crate::extract::{TypedPath, csv_line};
 use crate::input::Form;
 use crate::key::row_key;
-use crate::outcome::{LineWorker, Unanswered};
+use crate::outcome::{LineFault, LineWorker, Reason, Unanswered};
 use crate::range::{ValueRange, is_in_range};
 use crate::removal::removed_row;
 use crate::row::{check_document, parse_line};
@@ -79,6 +81,8 @@ pub enum Operation<'a> {
     Key(&'a [Vec<Selector<'a>>]),
     /// Keeps the key of the row by these paths and the row as it stands, each after its length.
     Sort(&'a [Vec<Selector<'a>>]),
+    /// Writes the values at paths as a line of CSV. A row of which one is not of its type is wrong.
+    Extract(&'a [TypedPath<'a>]),
 }
 
 /// How a value is changed.
@@ -102,54 +106,64 @@ impl LineWorker for Job<'_> {
             Form::Lines => {
                 let owned = parse_line(alloc, row)?;
                 let document = Document::new_unchecked(owned.as_bytes());
-                answered(row_lines(alloc, *self, row, document))
+                row_lines(alloc, *self, row, document)
             }
             Form::Documents => {
                 let document = check_document(row)?;
-                answered(row_lines(alloc, *self, row, document))
+                row_lines(alloc, *self, row, document)
             }
         }
     }
 }
 
-// The lines, or why there are none.
-fn answered(lines: Result<Vec<u8>, Error>) -> Result<Vec<u8>, Unanswered>
-    ensures { IsAnswered lines result }
-{
-    match lines {
-        Ok(lines) => Ok(lines),
-        Err(error) => Err(Unanswered::from(error)),
-    }
-}
-
-// The lines that a job writes for a row and its document. `InvalidJsonb` if the changed value is
-// too large.
+// The lines that a job writes for a row and its document, or why there are none.
 fn row_lines(
     alloc: Global,
     job: Job<'_>,
     row: &[u8],
     document: Document<'_>,
-) -> Result<Vec<u8>, Error>
-    ensures { IsResultOf (IsRowAnswer job.entry.operation job.entry.form row.now
+) -> Result<Vec<u8>, Unanswered>
+    ensures { IsOutcome (IsRowAnswer job.entry.operation job.entry.form row.now
         (document_bytes document.entry)) result }
 {
     let form = job.form;
     match job.operation {
         Operation::Check => Ok(Vec::new(alloc)),
-        Operation::Canonical => canonical_row(alloc, form, document),
-        Operation::Get(path, style) => first_line(alloc, select_first(document, path), style),
-        Operation::Select(path, style) => all_lines(alloc, &select(alloc, document, path)?, style),
-        Operation::Filter(path) => kept_row(alloc, form, row, exists_path(document, path)),
-        Operation::Contains(part) => kept_row(alloc, form, row, contains(alloc, document, part)?),
-        Operation::Change(change) => {
-            made_row(alloc, form, changed(alloc, change, document)?.as_bytes())
+        Operation::Canonical => Ok(canonical_row(alloc, form, document)?),
+        Operation::Get(path, style) => Ok(first_line(alloc, select_first(document, path), style)?),
+        Operation::Select(path, style) => {
+            let nodes = select(alloc, document, path)?;
+            Ok(all_lines(alloc, &nodes, style)?)
         }
-        Operation::Remove(paths) => removed_row(alloc, form, document.as_bytes(), paths),
-        Operation::Range(range) => kept_row(alloc, form, row, is_in_range(document, range)),
-        Operation::Encode => framed_row(alloc, Form::Documents, document.as_bytes()),
-        Operation::Decode(layout) => document_line(alloc, document, layout),
-        Operation::Key(paths) => key_line(alloc, document, paths),
-        Operation::Sort(paths) => keyed_row(alloc, form, document, paths, row),
+        Operation::Filter(path) => Ok(kept_row(alloc, form, row, exists_path(document, path))?),
+        Operation::Contains(part) => {
+            let is_kept = contains(alloc, document, part)?;
+            Ok(kept_row(alloc, form, row, is_kept)?)
+        }
+        Operation::Change(change) => {
+            let made = changed(alloc, change, document)?;
+            Ok(made_row(alloc, form, made.as_bytes())?)
+        }
+        Operation::Remove(paths) => Ok(removed_row(alloc, form, document.as_bytes(), paths)?),
+        Operation::Range(range) => Ok(kept_row(alloc, form, row, is_in_range(document, range))?),
+        Operation::Encode => Ok(framed_row(alloc, Form::Documents, document.as_bytes())?),
+        Operation::Decode(layout) => Ok(document_line(alloc, document, layout)?),
+        Operation::Key(paths) => Ok(key_line(alloc, document, paths)?),
+        Operation::Sort(paths) => Ok(keyed_row(alloc, form, document, paths, row)?),
+        Operation::Extract(columns) => typed_line(csv_line(alloc, document, columns)?),
+    }
+}
+
+// A line of values that are of their types; `NotOfType` if one is not.
+fn typed_line(line: Option<Vec<u8>>) -> Result<Vec<u8>, Unanswered>
+    ensures { IsTypedLine line result }
+{
+    match line {
+        Some(line) => Ok(line),
+        None => Err(Unanswered::Wrong(LineFault {
+            offset: 0,
+            reason: Reason::NotOfType,
+        })),
     }
 }
 

@@ -26,6 +26,8 @@ pub enum Reason {
     Cut,
     /// Its key is below that of the row before it.
     NotSorted,
+    /// A value of it is not of the type that was asked for.
+    NotOfType,
 }
 
 impl Reason {
@@ -42,6 +44,7 @@ impl Reason {
             Reason::BadDocument => "InvalidJsonb",
             Reason::Cut => "InvalidEOF",
             Reason::NotSorted => "NotSorted",
+            Reason::NotOfType => "NotOfType",
         }
     }
 

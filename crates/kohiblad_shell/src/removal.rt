@@ -60,8 +60,8 @@ pub fn path_count(words: &[&str]) -> usize
     count
 }
 
-// Whether a word begins as a path does.
-fn begins_path(word: &str) -> bool
+/// Whether a word begins as a path does.
+pub fn begins_path(word: &str) -> bool
     ensures { result ≡ begins_path word.now }
 {
     matches!(word.as_bytes(), [b'$', ..])

@@ -1,0 +1,105 @@
+-- Lines of CSV with the values at paths, each as a value of a type.
+use Rattle.std.specs.Prelude.{◌≡◌, ◌==◌, ◌||◌, ◌+◌, ℕ, Bool, List, [], ◌∷◌, ◌++◌, Any, Option}
+use Rattle.std.specs.Prelude.{None, Some, Result, Ok, Err, cond, decimal, flat_map, length}
+use Rattle.std.specs.Borrow.{Bor}
+use Rattle.std.specs.Fmt.{signed_decimal}
+use Rattle.std.specs.List.{AllZip, join_with_byte, list_any}
+use Rattle.std.specs.declared.alloc.Global.{Global}
+use Rattle.std.specs.declared.vec.Vec.{Vec}
+use Rattle.jsonb_value.specs.Text.{compact, decimal_text, extension_text}
+use Rattle.jsonb_value.specs.Tree as trees
+use Rattle.jsonb_value.specs.Tree.{Tree}
+use Rattle.jsonb_functions.specs.Selected.{selected, first_tree}
+use Rattle.jsonb_typed.specs.TypeValues.{StandsIn, ValueOf}
+use Rattle.jsonb_typed.specs.declared.lattice.LeastType.{LeastType}
+use Rattle.jsonb_typed.specs.declared.lattice.LeastType.TheVariants as types
+use Rattle.jsonb_typed.specs.declared.numbers.Fit.TheVariants.{ByValue}
+use Rattle.kohiblad_shell.specs.declared.extract.TypedPath.{TypedPath}
+use Rattle.kohiblad_shell.specs.declared.outcome.Reason.TheVariants.{NotOfType}
+use Rattle.kohiblad_shell.specs.declared.outcome.LineFault.{LineFault}
+use Rattle.kohiblad_shell.specs.declared.outcome.Unanswered.{Unanswered}
+use Rattle.kohiblad_shell.specs.declared.outcome.Unanswered.TheVariants.{Wrong}
+use Rattle.kohiblad_shell.specs.Outcomes.{Outcome}
+use Rattle.kohiblad_shell.specs.Removals.{begins_path}
+
+-- Whether a byte of a text is a comma, a quote or part of the end of a line.
+abbrev pub ends_field : ℕ → Bool
+ends_field byte = byte == 44 || byte == 34 || byte == 10 || byte == 13
+
+-- Whether a text is written between quotes: if it is empty, or has such a byte.
+abbrev pub is_quoted : List ℕ → Bool
+is_quoted text = length text == 0 || list_any ends_field text
+
+-- A text with its quotes doubled.
+abbrev pub doubled : List ℕ → List ℕ
+doubled text = flat_map (λ byte. cond (byte == 34) (34 ∷ (34 ∷ [])) (byte ∷ [])) text
+
+-- A text as a field of CSV.
+abbrev pub csv_text : List ℕ → List ℕ
+csv_text text = cond (is_quoted text) (34 ∷ (doubled text ++ 34 ∷ [])) text
+
+-- The field of a value in a column of a type. Of two types nothing is a value.
+abbrev pub value_text : (type : LeastType) → ValueOf type → List ℕ
+value_text types.Nothing v = []
+value_text types.Boolean v = compact (trees.boolean v)
+value_text types.Int64 v = signed_decimal v
+value_text types.UInt64 n = decimal n
+value_text (types.Decimal scale) v = decimal_text scale v
+value_text types.Text s = csv_text s
+value_text types.Date d = extension_text (trees.date d)
+value_text types.Timestamp t = extension_text (trees.timestamp t)
+value_text types.ZonedTimestamp t = extension_text (trees.timestamp_tz t)
+value_text types.Interval i = extension_text (trees.interval i)
+value_text types.Mixed v = []
+
+-- The field is the text of a value that stands for the tree; there is none if no value does.
+abbrev pub IsFieldBy : {V : Type 0} → (V → Tree → Type 0) → (V → List ℕ) → Tree
+    → Option (List ℕ) → Type 0
+IsFieldBy {V = V} Stands text t None = (v : V) → Stands v t → ⊥
+IsFieldBy {V = V} Stands text t (Some field) = (v : V) × (Stands v t × (field ≡ text v))
+
+-- The same for a type, in whose columns numbers stand by their values. Each tree is of mixed type,
+-- and its field is its compact text.
+abbrev pub IsFieldOf : LeastType → Tree → Option (List ℕ) → Type 0
+IsFieldOf types.Mixed t field = field ≡ Some (csv_text (compact t))
+IsFieldOf type t field =
+    IsFieldBy {V = ValueOf type} (StandsIn ByValue type) (value_text type) t field
+
+-- The same of what a path leads to: the field is empty if that is nothing, or null.
+abbrev pub IsField : LeastType → Option Tree → Option (List ℕ) → Type 0
+IsField type None field = field ≡ Some []
+IsField type (Some trees.null) field = field ≡ Some []
+IsField type (Some t) field = IsFieldOf type t field
+
+-- The same of the first value to which the path leads in a row.
+abbrev pub IsFieldAt : Tree → TypedPath → Option (List ℕ) → Type 0
+IsFieldAt t column field =
+    IsField column.value_type (first_tree (selected column.path.items t)) field
+
+-- The line of a row has a field for each column, with commas between them and a line feed at the
+-- end. There is none if a value is not of the type of its column.
+abbrev pub IsCsvLine : List TypedPath → Tree → Option (List ℕ) → Type 0
+IsCsvLine columns t None = Any (λ column. IsFieldAt t column None) columns
+IsCsvLine columns t (Some line) = (fields : List (List ℕ))
+    × (AllZip (λ column field. IsFieldAt t column (Some field)) columns fields
+    × (line ≡ join_with_byte 44 fields ++ 10 ∷ []))
+
+-- The fault of a row that has no line.
+abbrev pub not_of_type : LineFault
+not_of_type = record { offset = 0; reason = NotOfType }
+
+-- What a row gives: its line, or the fault that it has none.
+abbrev pub IsExtracted : List TypedPath → Tree → Outcome → Type 0
+IsExtracted columns t (Ok line) = IsCsvLine columns t (Some line)
+IsExtracted columns t (Err fault) = IsCsvLine columns t None × (fault ≡ not_of_type)
+
+-- The same line, or the fault that there is none.
+abbrev pub IsTypedLine : Option (Vec ℕ Global) → Result (Vec ℕ Global) Unanswered → Type 0
+IsTypedLine (Some line) result = result ≡ Ok line
+IsTypedLine None result = result ≡ Err (Wrong not_of_type)
+
+-- How many words, from the first on, are paths, each with the name of a type after it.
+abbrev pub column_words : List (Bor (List ℕ)) → ℕ
+column_words [] = 0
+column_words (path ∷ []) = 0
+column_words (path ∷ (type ∷ words)) = cond (begins_path path.now) (2 + column_words words) 0

@@ -1,0 +1,332 @@
+//! Lines of CSV with the values at paths.
+
+ghost use Rattle.std.specs.Prelude.{◌≡◌, ◌≤◌, ◌∷◌, ◌++◌, ℕ, List, IfErr, IfOk, OnOk, cond, length};
+ghost use Rattle.std.specs.Prelude.{option_map};
+ghost use Rattle.std.specs.List.{list_any};
+ghost use Rattle.kohiblad_shell.specs.Words.{HoldsNoScalar, IsCsvLine, IsField, IsFieldAt};
+ghost use Rattle.kohiblad_shell.specs.Words.{IsFieldBy, IsFieldOf, IsText, LeastType};
+ghost use Rattle.kohiblad_shell.specs.Words.{column_words, compact, csv_text, document_tree};
+ghost use Rattle.kohiblad_shell.specs.Words.{doubled, ends_field, extension_of, extension_text};
+ghost use Rattle.kohiblad_shell.specs.Words.{is_quoted, node_tree, number_text, value_text};
+
+use crate::removal::begins_path;
+use jsonb::{
+    Date, Decimal128, Document, Error, ExtensionValue, Interval, Node, Number, NumberItem,
+    Timestamp, TimestampTz,
+};
+use jsonb_functions::{Selector, select_first};
+use jsonb_typed::{
+    Boolean, ColumnType, Dates, Decimal, Fit, Int64, Intervals, LeastType, Timestamps, UInt64,
+    ZonedTimestamps, opened,
+};
+use std::alloc::Global;
+
+/// A path, and the type of the values to which it leads.
+#[derive(Drop)]
+pub struct TypedPath<'a> {
+    pub path: Vec<Selector<'a>>,
+    pub value_type: LeastType,
+}
+
+/// The line of CSV, as RFC 4180 lays it out but with a line feed alone at its end, of the first
+/// value to which each path leads, as a value of its type. Where a path leads nowhere, or to null,
+/// the field is empty. A text is between quotes if it is empty, or has a comma, a quote, a line
+/// feed or a carriage return. `None` if a value is not of its type. `OutOfMemory` is the only
+/// error.
+pub fn csv_line(
+    alloc: Global,
+    document: Document<'_>,
+    columns: &[TypedPath<'_>],
+) -> Result<Option<Vec<u8>>, Error>
+    ensures ok { IfOk result (λ line. IsCsvLine columns.now (document_tree document.entry)
+        (option_map (λ line. line.items) line)) }
+    ensures memory { IfErr result (λ e. e ≡ Error.OutOfMemory) }
+{
+    let mut line = Vec::new(alloc);
+    for (index, column) in columns.iter().enumerate() {
+        match field_in(alloc, document, column)? {
+            Some(field) => push_field(&mut line, index == 0, &field)?,
+            None => return Ok(None),
+        }
+    }
+    line.push(b'\n')?;
+    Ok(Some(line))
+}
+
+// Appends a field, after a comma if it is not the first.
+fn push_field(line: &mut Vec<u8>, is_first: bool, field: &[u8]) -> Result<(), Error>
+    ensures ok { OnOk result (line.new.items
+        ≡ line.old.items ++ cond is_first field.now (44 ∷ field.now)) }
+    ensures memory { IfErr result (λ e. e ≡ Error.OutOfMemory) }
+{
+    if !is_first {
+        line.push(b',')?;
+    }
+    line.extend_from_slice(field)?;
+    Ok(())
+}
+
+// The field of the first value to which the path of a column leads. `None` if it is not of the
+// type.
+fn field_in(
+    alloc: Global,
+    document: Document<'_>,
+    column: &TypedPath<'_>,
+) -> Result<Option<Vec<u8>>, Error>
+    ensures ok { IfOk result (λ field. IsFieldAt (document_tree document.entry) column.now
+        (option_map (λ field. field.items) field)) }
+    ensures memory { IfErr result (λ e. e ≡ Error.OutOfMemory) }
+{
+    field_of(
+        alloc,
+        select_first(document, &column.path),
+        column.value_type,
+    )
+}
+
+// The field of a value in a column of a type; empty if there is none, or it is null. `None` if it
+// is not of the type.
+fn field_of(
+    alloc: Global,
+    value: Option<Node<'_>>,
+    value_type: LeastType,
+) -> Result<Option<Vec<u8>>, Error>
+    ensures ok { IfOk result (λ field. IsField value_type (option_map node_tree value.entry)
+        (option_map (λ field. field.items) field)) }
+    ensures memory { IfErr result (λ e. e ≡ Error.OutOfMemory) }
+{
+    let Some(value) = value else {
+        return Ok(Some(Vec::new(alloc)));
+    };
+    match opened(value) {
+        Node::Null => Ok(Some(Vec::new(alloc))),
+        other => field_of_known(alloc, other, value_type),
+    }
+}
+
+// The same of a value that is there and not null.
+fn field_of_known(
+    alloc: Global,
+    value: Node<'_>,
+    value_type: LeastType,
+) -> Result<Option<Vec<u8>>, Error>
+    requires { HoldsNoScalar value }
+    ensures ok { IfOk result (λ field. IsFieldOf value_type (node_tree value.entry)
+        (option_map (λ field. field.items) field)) }
+    ensures memory { IfErr result (λ e. e ≡ Error.OutOfMemory) }
+{
+    let fit = Fit::ByValue;
+    match value_type {
+        LeastType::Nothing => Ok(None),
+        LeastType::Boolean => field_by(alloc, value, &Boolean),
+        LeastType::Int64 => field_by(alloc, value, &Int64 { fit }),
+        LeastType::UInt64 => field_by(alloc, value, &UInt64 { fit }),
+        LeastType::Decimal(scale) => field_by(alloc, value, &Decimal { scale, fit }),
+        LeastType::Text => field_of_text(alloc, value),
+        LeastType::Date => field_by(alloc, value, &Dates),
+        LeastType::Timestamp => field_by(alloc, value, &Timestamps),
+        LeastType::ZonedTimestamp => field_by(alloc, value, &ZonedTimestamps),
+        LeastType::Interval => field_by(alloc, value, &Intervals),
+        LeastType::Mixed => Ok(Some(csv_text(alloc, &value.to_string(alloc)?)?)),
+    }
+}
+
+/// A type whose values are written as fields.
+trait Written: ColumnType {
+    ghost text: { Self → Self.Value → List ℕ };
+
+    /// The field of a value.
+    fn field(&self, alloc: Global, value: Self::Value) -> Result<Vec<u8>, Error>
+        ensures ok { IfOk result (λ field. field.items ≡ text self.now value) }
+        ensures memory { IfErr result (λ e. e ≡ Error.OutOfMemory) };
+}
+
+impl Written for Boolean {
+    ghost text = { λ s v. value_text LeastType.Boolean v };
+
+    fn field(&self, alloc: Global, value: bool) -> Result<Vec<u8>, Error> {
+        text_of(alloc, Node::Boolean(value))
+    }
+}
+
+impl Written for Int64 {
+    ghost text = { λ s v. value_text LeastType.Int64 v };
+
+    fn field(&self, alloc: Global, value: i64) -> Result<Vec<u8>, Error> {
+        text_of_number(alloc, Number::Int64(value))
+    }
+}
+
+impl Written for UInt64 {
+    ghost text = { λ s v. value_text LeastType.UInt64 v };
+
+    fn field(&self, alloc: Global, value: u64) -> Result<Vec<u8>, Error> {
+        text_of_number(alloc, Number::UInt64(value))
+    }
+}
+
+impl Written for Decimal {
+    ghost text = { λ s v. value_text (LeastType.Decimal s.scale) v };
+
+    fn field(&self, alloc: Global, value: i128) -> Result<Vec<u8>, Error> {
+        let scale = self.scale;
+        text_of_number(alloc, Number::Decimal128(Decimal128 { scale, value }))
+    }
+}
+
+impl Written for Dates {
+    ghost text = { λ s v. value_text LeastType.Date v };
+
+    fn field(&self, alloc: Global, value: Date) -> Result<Vec<u8>, Error> {
+        text_of_extension(alloc, ExtensionValue::Date(value))
+    }
+}
+
+impl Written for Timestamps {
+    ghost text = { λ s v. value_text LeastType.Timestamp v };
+
+    fn field(&self, alloc: Global, value: Timestamp) -> Result<Vec<u8>, Error> {
+        text_of_extension(alloc, ExtensionValue::Timestamp(value))
+    }
+}
+
+impl Written for ZonedTimestamps {
+    ghost text = { λ s v. value_text LeastType.ZonedTimestamp v };
+
+    fn field(&self, alloc: Global, value: TimestampTz) -> Result<Vec<u8>, Error> {
+        text_of_extension(alloc, ExtensionValue::TimestampTz(value))
+    }
+}
+
+impl Written for Intervals {
+    ghost text = { λ s v. value_text LeastType.Interval v };
+
+    fn field(&self, alloc: Global, value: Interval) -> Result<Vec<u8>, Error> {
+        text_of_extension(alloc, ExtensionValue::Interval(value))
+    }
+}
+
+// The field of a value of this type. `None` if it is none.
+fn field_by<T: Written>(
+    alloc: Global,
+    value: Node<'_>,
+    value_type: &T,
+) -> Result<Option<Vec<u8>>, Error>
+    requires { HoldsNoScalar value }
+    ensures ok { IfOk result (λ field. IsFieldBy (T.ColumnType.stands value_type.now)
+        (T.text value_type.now) (node_tree value.entry)
+        (option_map (λ field. field.items) field)) }
+    ensures memory { IfErr result (λ e. e ≡ Error.OutOfMemory) }
+{
+    match value_type.value_of(value) {
+        Some(value) => Ok(Some(value_type.field(alloc, value)?)),
+        None => Ok(None),
+    }
+}
+
+// The field of a text. `None` if the value is no text.
+fn field_of_text(alloc: Global, value: Node<'_>) -> Result<Option<Vec<u8>>, Error>
+    requires { HoldsNoScalar value }
+    ensures ok { IfOk result (λ field. IsFieldBy IsText csv_text (node_tree value.entry)
+        (option_map (λ field. field.items) field)) }
+    ensures memory { IfErr result (λ e. e ≡ Error.OutOfMemory) }
+{
+    match value {
+        Node::String(text) => Ok(Some(csv_text(alloc, text)?)),
+        _ => Ok(None),
+    }
+}
+
+// The compact text of a value.
+fn text_of(alloc: Global, value: Node<'_>) -> Result<Vec<u8>, Error>
+    ensures ok { IfOk result (λ text. text.items ≡ compact (node_tree value.entry)) }
+    ensures memory { IfErr result (λ e. e ≡ Error.OutOfMemory) }
+{
+    Ok(value.to_string(alloc)?.into_bytes())
+}
+
+// The text of a number.
+fn text_of_number(alloc: Global, number: Number) -> Result<Vec<u8>, Error>
+    ensures ok { IfOk result (λ text. text.items ≡ number_text number) }
+    ensures memory { IfErr result (λ e. e ≡ Error.OutOfMemory) }
+{
+    text_of(alloc, Node::Number(NumberItem::from_number(number)))
+}
+
+// The text of an extension value, without the quotes that it has in JSON.
+fn text_of_extension(alloc: Global, value: ExtensionValue<'_>) -> Result<Vec<u8>, Error>
+    ensures ok { IfOk result (λ text. text.items ≡ extension_text (extension_of value.entry)) }
+    ensures memory { IfErr result (λ e. e ≡ Error.OutOfMemory) }
+{
+    Ok(format!(in alloc; "{value}")?.into_bytes())
+}
+
+// A text as a field: between quotes, its own doubled, where it must be.
+fn csv_text(alloc: Global, text: &str) -> Result<Vec<u8>, Error>
+    ensures ok { IfOk result (λ field. field.items ≡ csv_text text.now) }
+    ensures memory { IfErr result (λ e. e ≡ Error.OutOfMemory) }
+{
+    let mut field = Vec::new(alloc);
+    if is_quoted(text) {
+        field.push(b'"')?;
+        push_doubled(&mut field, text)?;
+        field.push(b'"')?;
+    } else {
+        field.extend_from_slice(text.as_bytes())?;
+    }
+    Ok(field)
+}
+
+// Whether a text is written between quotes: if it is empty, so that it is not taken for none, or
+// has a byte that its field may not have otherwise.
+fn is_quoted(text: &str) -> bool
+    ensures { result ≡ is_quoted text.now }
+{
+    text.is_empty() || has_end(text.as_bytes())
+}
+
+// Whether a byte of a text would end its field.
+fn has_end(text: &[u8]) -> bool
+    ensures { result ≡ list_any ends_field text.now }
+{
+    text.iter().any(|byte| ends_field(*byte))
+}
+
+// Whether a byte is a comma, a quote or part of the end of a line.
+fn ends_field(byte: u8) -> bool
+    ensures { result ≡ ends_field byte }
+{
+    matches!(byte, b',' | b'"' | b'\n' | b'\r')
+}
+
+// Appends a text with its quotes doubled.
+fn push_doubled(field: &mut Vec<u8>, text: &str) -> Result<(), Error>
+    ensures ok { OnOk result (field.new.items ≡ field.old.items ++ doubled text.now) }
+    ensures memory { IfErr result (λ e. e ≡ Error.OutOfMemory) }
+{
+    for byte in text.as_bytes() {
+        if *byte == b'"' {
+            field.push(b'"')?;
+        }
+        field.push(*byte)?;
+    }
+    Ok(())
+}
+
+/// How many of these words, from the first on, are paths, which begin by `$`, and after each the
+/// name of a type.
+pub fn column_words(words: &[&str]) -> usize
+    ensures count { result ≡ column_words words.now }
+    ensures within { result ≤ length words.now }
+{
+    let mut count = 0;
+    let mut left = words;
+    while let [path, _, rest @ ..] = left {
+        if !begins_path(path) {
+            return count;
+        }
+        count += 2;
+        left = rest;
+    }
+    count
+}
