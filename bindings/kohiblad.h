@@ -86,7 +86,7 @@
 /* The stack that is enough, in bytes: see STACK above. These were measured, on x86-64. */
 #define KOHIBLAD_LEVEL_STACK 1024
 #define KOHIBLAD_EDIT_LEVEL_STACK 2048
-#define KOHIBLAD_PATCH_LEVEL_STACK 2560
+#define KOHIBLAD_PATCH_LEVEL_STACK 2432
 #define KOHIBLAD_CALL_STACK 8192
 
 /* The room that is enough for the words of a fault. */

@@ -75,7 +75,7 @@ pub use words::{fault_words, fault_words_with_exponents};
 /// Documents of this depth fit a thread of 2 MiB, which is what Rust gives a thread: calls on them
 /// take at most 1,008 KB of its stack, and [`set`](RawJsonb::set), [`insert`](RawJsonb::insert),
 /// [`remove`](RawJsonb::remove) and [`concat`](RawJsonb::concat) 2,008 KB, which leaves 40 KB for
-/// the frames of the program. [`merge_patch`](RawJsonb::merge_patch) takes 2,508 KB: a thread of
+/// the frames of the program. [`merge_patch`](RawJsonb::merge_patch) takes 2,383 KB: a thread of
 /// 2 MiB has enough for 800 levels. Where less is left, give [`RawJsonb::within`] and
 /// [`OwnedJsonb::parse`] the depth that fits: for each level calls take [`LEVEL_STACK`],
 /// [`EDIT_LEVEL_STACK`] or [`PATCH_LEVEL_STACK`], and beside them [`CALL_STACK`].
@@ -103,7 +103,7 @@ pub const LEVEL_STACK: usize = 1024;
 pub const EDIT_LEVEL_STACK: usize = 2048;
 
 /// The same of [`RawJsonb::merge_patch`].
-pub const PATCH_LEVEL_STACK: usize = 2560;
+pub const PATCH_LEVEL_STACK: usize = 2432;
 
 /// The version of the library: millions, thousands and ones. 8000 is 0.8.0.
 ///

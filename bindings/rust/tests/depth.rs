@@ -114,10 +114,10 @@ fn the_greatest_depth_fits_2_mib() {
 #[test]
 fn less_stack_holds_the_depths_of_the_page() {
     for (left, depth, depth_of_changes, depth_of_patches) in [
-        (1 << 20, 1000, 508, 406),
-        (512 << 10, 504, 252, 201),
-        (256 << 10, 248, 124, 99),
-        (64 << 10, 56, 28, 22),
+        (1 << 20, 1000, 508, 427),
+        (512 << 10, 504, 252, 212),
+        (256 << 10, 248, 124, 104),
+        (64 << 10, 56, 28, 23),
     ] {
         assert_eq!(MAX_DEPTH.min((left - CALL_STACK) / LEVEL_STACK), depth);
         assert_eq!((left - CALL_STACK) / EDIT_LEVEL_STACK, depth_of_changes);

@@ -5,6 +5,7 @@ mod model;
 
 use kohiblad::{Error, ExtensionValue, Node, OwnedJsonb, Path, RawJsonb, MAX_DEPTH};
 use model::{Generator, Tree};
+use std::thread;
 
 fn parsed(text: &str) -> OwnedJsonb {
     OwnedJsonb::parse(text, MAX_DEPTH).unwrap()
@@ -360,13 +361,19 @@ fn results_nest_no_deeper_than_documents() {
     assert_eq!(objects.as_raw().contains(objects.as_raw()), Ok(true));
     assert_eq!(objects.as_raw().index_keys().unwrap().len(), 1);
     assert!(objects.as_raw().remove(&bottom).is_ok());
-    for deepest in [&arrays, &objects] {
-        assert_eq!(deepest.as_raw().strip_nulls().unwrap(), *deepest);
-        for target in [deepest, &empty] {
-            let merged = target.as_raw().merge_patch(deepest.as_raw()).unwrap();
-            assert_eq!(merged, *deepest);
+    assert_eq!(arrays.as_raw().strip_nulls().unwrap(), arrays);
+    assert_eq!(objects.as_raw().strip_nulls().unwrap(), objects);
+    // Patches of this depth take more stack than the thread of a test has.
+    let patched = move || {
+        for deepest in [&arrays, &objects] {
+            for target in [deepest, &empty] {
+                let merged = target.as_raw().merge_patch(deepest.as_raw()).unwrap();
+                assert_eq!(merged, *deepest);
+            }
         }
-    }
+    };
+    let thread = thread::Builder::new().stack_size(3 << 20);
+    thread.spawn(patched).unwrap().join().unwrap();
 }
 
 #[test]

@@ -7,7 +7,7 @@
 
 /* How deep texts and documents may nest. The stack that this needs is KOHIBLAD_CALL_STACK and
  * KOHIBLAD_LEVEL_STACK for each level, 1,008 KB; for changes KOHIBLAD_EDIT_LEVEL_STACK, which is
- * 2,008 KB, and for jb_patch KOHIBLAD_PATCH_LEVEL_STACK, 2,508 KB. */
+ * 2,008 KB, and for jb_patch KOHIBLAD_PATCH_LEVEL_STACK, 2,383 KB. */
 #ifndef KOHIBLAD_SQLITE_DEPTH
 #define KOHIBLAD_SQLITE_DEPTH 1000
 #endif
