@@ -646,7 +646,7 @@ class StackTest(unittest.TestCase):
             "    print('done')\n"))
 
     def test_readme_s_1000_levels(self):
-        self.run_in_thread(2_200 << 10, (
+        self.run_in_thread(2_600 << 10, (
             "    deepest = Document.parse('[' * DEPTH + ']' * DEPTH)\n"
             "    for call in (deepest.set, deepest.insert):\n"
             "        try:\n"
