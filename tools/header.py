@@ -195,7 +195,7 @@ def write(name, text, folder="bindings"):
 
 
 def stack_rows(header):
-    """The rows of the table of stack: the bytes for a level, the calls, and what some levels take."""
+    """The rows of the table of stack: bytes for a level, the calls, and what some levels take."""
     def number_of(name):
         return int(re.search(rf"^#define KOHIBLAD_{name}_STACK (\d+)$", header, re.M)[1])
 
@@ -250,8 +250,9 @@ def compare(is_to_write):
         write("C.md", right_page, "docs")
         page = right_page
     if page != right_page:
-        faults.append("docs/C.md has other figures, signatures or recipes: tools/pages --write header")
-    if not all(it.search(page) for it in (STACK_ROWS, SIGNATURES, RECIPE)):
+        faults.append("docs/C.md has other figures, signatures or recipes: tools/pages --write")
+    has_blocks = STACK_ROWS.search(page) and SIGNATURES.search(page)
+    if not has_blocks or len(RECIPE.findall(page)) < 3:
         faults.append("docs/C.md lacks figures of stack, signatures or recipes")
     left = exported()
     for name in sorted(left.keys() | right.keys()):
