@@ -42,11 +42,6 @@ is_gt-Greater Less e = absurd (cc)
 is_gt-Greater Equal e = absurd (cc)
 is_gt-Greater Greater e = refl
 
-not_gt : (r : Ordering) → is_gt r ≡ false → r ≢ Greater
-not_gt Less e g = cc
-not_gt Equal e g = cc
-not_gt Greater e g = cc
-
 tied : (key : List ℕ) → key_cmp key key ≢ Greater
 tied key g = let e = tied_itself nat_list_cmp_total key in cc
 

@@ -147,6 +147,9 @@ decimal_tree scale v = trees.number (Decimal128 (record { scale = scale; value =
 abbrev pub text_tree : List ℕ → Tree
 text_tree s = trees.text s
 
+abbrev pub binary_tree : List ℕ → Tree
+binary_tree s = trees.extension (trees.binary s)
+
 -- The member as which a value is printed.
 abbrev pub shown : (type : LeastType) → ValueOf type → Tree
 shown types.Nothing v = trees.null
@@ -159,6 +162,7 @@ shown types.Date v = trees.extension (trees.date v)
 shown types.Timestamp v = trees.extension (trees.timestamp v)
 shown types.ZonedTimestamp v = trees.extension (trees.timestamp_tz v)
 shown types.Interval v = trees.extension (trees.interval v)
+shown types.Binary v = binary_tree v
 shown types.Mixed v = trees.null
 
 -- The word for a row's member: `-` for none, the text of the value that stands for it, or `!` and

@@ -11,7 +11,7 @@ pub use Rattle.jsonb.specs.Document.{document_bytes, tree_in}
 pub use Rattle.jsonb.specs.Node.{node_tree}
 pub use Rattle.jsonb.specs.Owned.{owned_bytes}
 pub use Rattle.jsonb_functions.specs.StoredPath.{StepView, step_view}
-pub use Rattle.typed_vector.specs.Contents.{content_cell, text_cell}
+pub use Rattle.typed_vector.specs.Contents.{bytes_cell, content_cell}
 pub use Rattle.jsonb_typed.specs.declared.lattice.LeastType.{LeastType}
 pub use Rattle.answer_lines.specs.Session.{AppendsBeginning, AppendsReplies, AppendsWhole}
 pub use Rattle.answer_lines.specs.Session.{AreAnswers}
@@ -24,7 +24,7 @@ pub use Rattle.jsonb_column_cli.specs.Commands.{is_space, load, name_len, name_w
 pub use Rattle.jsonb_column_cli.specs.Commands.{open_after, range, row, save, sort}
 pub use Rattle.jsonb_column_cli.specs.Grammar.{column_form, name_view}
 pub use Rattle.jsonb_column_cli.specs.Members.{IsColumnLine, IsColumnLineOf, IsKept, IsPath}
-pub use Rattle.jsonb_column_cli.specs.Members.{cell_word, cells_line}
+pub use Rattle.jsonb_column_cli.specs.Members.{binary_tree, cell_word, cells_line}
 pub use Rattle.jsonb_column_cli.specs.Members.{container_counts, decimal_tree, extension_counts}
 pub use Rattle.jsonb_column_cli.specs.Members.{int64_tree, length_counts, member_at, number_counts}
 pub use Rattle.jsonb_column_cli.specs.Members.{row_counts, scale_counts, survey_line}

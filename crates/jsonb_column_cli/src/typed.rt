@@ -5,25 +5,27 @@ ghost use Rattle.std.specs.Prelude.{List, codes, map, string_bytes};
 ghost use Rattle.jsonb_column_cli.specs.Words.{BadPath, Call, IsColumnLine, IsColumnLineOf};
 ghost use Rattle.jsonb_column_cli.specs.Words.{IsDocument, IsKept, IsOutcome, IsPath};
 ghost use Rattle.jsonb_column_cli.specs.Words.{LeastType, OutOfMemory, StepView, Tree};
-ghost use Rattle.jsonb_column_cli.specs.Words.{cell_word, cells_line, compact, container_counts};
+ghost use Rattle.jsonb_column_cli.specs.Words.{binary_tree, bytes_cell, cell_word, cells_line};
+ghost use Rattle.jsonb_column_cli.specs.Words.{compact, container_counts};
 ghost use Rattle.jsonb_column_cli.specs.Words.{content_cell, extension_counts, extract};
 ghost use Rattle.jsonb_column_cli.specs.Words.{length_counts};
 ghost use Rattle.jsonb_column_cli.specs.Words.{member_at, node_tree, number_counts, reply_of};
 ghost use Rattle.jsonb_column_cli.specs.Words.{row_counts, scale_counts, step_view};
-ghost use Rattle.jsonb_column_cli.specs.Words.{survey, survey_line, text_cell, text_tree};
+ghost use Rattle.jsonb_column_cli.specs.Words.{survey, survey_line, text_tree};
 ghost use Rattle.jsonb_column_cli.specs.Words.{time_counts, tree_in};
 
 use crate::answer::Refusal;
 use crate::shown::Shown;
-use jsonb::{Document, Node};
+use jsonb::{Document, ExtensionItem, ExtensionValue, Node};
 use jsonb_column::Column;
 use jsonb_functions::{Step, read_path_text, steps_of_path};
 use jsonb_typed::{
     Boolean, Dates, Decimal, Fit, Int64, Intervals, LeastType, Nothing, Scales, Survey, Timestamps,
-    UInt64, ZonedTimestamps, extract, extract_texts, least_type, parse_type, type_text,
+    UInt64, ZonedTimestamps, extract, extract_binary, extract_texts, least_type, parse_type,
+    type_text,
 };
 use std::alloc::{AllocError, Global};
-use typed_vector::{Content, Texts, Typed};
+use typed_vector::{Binaries, Content, Texts, Typed};
 
 /// Replies with the least type that holds the member of each row, and with how many members are
 /// what.
@@ -92,11 +94,12 @@ fn line_of_type(
         LeastType::Timestamp => line_of(alloc, rows, path, &Timestamps),
         LeastType::ZonedTimestamp => line_of(alloc, rows, path, &ZonedTimestamps),
         LeastType::Interval => line_of(alloc, rows, path, &Intervals),
+        LeastType::Binary => line_of_binaries(alloc, rows, path),
         LeastType::Mixed => line_of(alloc, rows, path, &Nothing),
     }
 }
 
-// The same of a type whose values are not texts.
+// The same of a type whose values are of one size.
 fn line_of<T: Shown>(
     alloc: Global,
     rows: &[Document<'_>],
@@ -119,6 +122,20 @@ fn line_of_texts(alloc: Global, rows: &[Document<'_>], path: &[Step<'_>]) -> Res
 {
     let column = extract_texts(alloc, rows, path)?;
     texts_line(alloc, &column)
+}
+
+// The same of binary values.
+fn line_of_binaries(
+    alloc: Global,
+    rows: &[Document<'_>],
+    path: &[Step<'_>],
+) -> Result<String, Refusal>
+    ensures ok { IfOk result (λ line. IsColumnLine LeastType.Binary
+        (map (member_at path.now) rows.now) (string_bytes line)) }
+    ensures memory { IfErr result (λ refusal. refusal ≡ Call OutOfMemory) }
+{
+    let column = extract_binary(alloc, rows, path)?;
+    binaries_line(alloc, &column)
 }
 
 // The reply with what each row of a column has.
@@ -162,6 +179,24 @@ fn texts_line(alloc: Global, column: &Texts) -> Result<String, Refusal>
     Ok(line)
 }
 
+// The same of a column of binary values.
+fn binaries_line(alloc: Global, column: &Binaries) -> Result<String, Refusal>
+    requires { All IsKept column.now }
+    ensures ok { IfOk result (λ line. string_bytes line ≡ cells_line binary_tree column.now) }
+    ensures memory { IfErr result (λ refusal. refusal ≡ Call OutOfMemory) }
+{
+    let mut line = String::from_str(alloc, "ok")?;
+    for index in 0..column.len() {
+        let Some(content) = column.at(index) else {
+            unreachable!();
+        };
+        let word = binary_word(alloc, content)?;
+        line.push(' ')?;
+        line.push_str(&word)?;
+    }
+    Ok(line)
+}
+
 // The word for what a row has: nothing, a value, or the document of another member.
 fn content_word<T: Shown>(
     alloc: Global,
@@ -182,14 +217,31 @@ fn content_word<T: Shown>(
 
 // The same of a row of texts.
 fn text_word(alloc: Global, content: Content<'_, &str>) -> Result<String, Refusal>
-    requires { IsKept (text_cell content) }
+    requires { IsKept (bytes_cell content) }
     ensures ok { IfOk result
-        (λ word. string_bytes word ≡ cell_word text_tree (text_cell content.entry)) }
+        (λ word. string_bytes word ≡ cell_word text_tree (bytes_cell content.entry)) }
     ensures memory { IfErr result (λ refusal. refusal ≡ Call OutOfMemory) }
 {
     match content {
         Content::Absent => Ok(String::from_str(alloc, "-")?),
         Content::Value(text) => Ok(Node::String(text).to_string(alloc)?),
+        Content::Other(bytes) => other_word(alloc, bytes),
+    }
+}
+
+// The same of a row of binary values.
+fn binary_word(alloc: Global, content: Content<'_, &[u8]>) -> Result<String, Refusal>
+    requires { IsKept (bytes_cell content) }
+    ensures ok { IfOk result
+        (λ word. string_bytes word ≡ cell_word binary_tree (bytes_cell content.entry)) }
+    ensures memory { IfErr result (λ refusal. refusal ≡ Call OutOfMemory) }
+{
+    match content {
+        Content::Absent => Ok(String::from_str(alloc, "-")?),
+        Content::Value(bytes) => {
+            let item = ExtensionItem::from_value(ExtensionValue::Binary(bytes));
+            Ok(Node::Extension(item).to_string(alloc)?)
+        }
         Content::Other(bytes) => other_word(alloc, bytes),
     }
 }

@@ -89,4 +89,5 @@ one_value fit types.Date v w t first second = let same = sym first ∙ second in
 one_value fit types.Timestamp v w t first second = let same = sym first ∙ second in cc
 one_value fit types.ZonedTimestamp v w t first second = let same = sym first ∙ second in cc
 one_value fit types.Interval v w t first second = let same = sym first ∙ second in cc
+one_value fit types.Binary v w t first second = let same = sym first ∙ second in cc
 one_value fit types.Mixed v w t first second = absurd first

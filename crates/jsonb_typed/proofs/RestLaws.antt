@@ -40,6 +40,7 @@ value_stands fit types.Date t known is = is
 value_stands fit types.Timestamp t known is = is
 value_stands fit types.ZonedTimestamp t known is = is
 value_stands fit types.Interval t known is = is
+value_stands fit types.Binary t known is = is
 value_stands fit types.Mixed t known is = absurd (known refl)
 
 -- So what a row keeps beside its value is null.

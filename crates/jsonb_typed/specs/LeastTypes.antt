@@ -14,7 +14,7 @@ use Rattle.jsonb_functions.specs.Found.{found_at}
 use Rattle.jsonb_typed.specs.declared.lattice.LeastType.{LeastType}
 use Rattle.jsonb_typed.specs.declared.lattice.LeastType.TheVariants as types
 use Rattle.jsonb_typed.specs.declared.numbers.Fit.{Fit}
-use Rattle.jsonb_typed.specs.Types.{IsDecimal, IsInt64, IsText, IsUInt64}
+use Rattle.jsonb_typed.specs.Types.{IsBinary, IsDecimal, IsInt64, IsText, IsUInt64}
 
 -- Some value of the type stands for the member.
 abbrev pub IsValueOf : Fit → LeastType → Tree → Type 0
@@ -29,6 +29,7 @@ IsValueOf fit types.Timestamp t = (s : Timestamp) × (t ≡ trees.extension (tre
 IsValueOf fit types.ZonedTimestamp t =
     (s : TimestampTz) × (t ≡ trees.extension (trees.timestamp_tz s))
 IsValueOf fit types.Interval t = (i : Interval) × (t ≡ trees.extension (trees.interval i))
+IsValueOf fit types.Binary t = (s : List ℕ) × IsBinary s t
 IsValueOf fit types.Mixed t = ⊤
 
 -- There is no member, or it is null, or a value of the type.
@@ -64,4 +65,4 @@ abbrev pub types_in_order : ℕ → List LeastType
 types_in_order scale =
     types.Nothing ∷ (types.Boolean ∷ (types.Int64 ∷ (types.UInt64 ∷ (types.Decimal scale
     ∷ (types.Text ∷ (types.Date ∷ (types.Timestamp ∷ (types.ZonedTimestamp ∷ (types.Interval
-    ∷ [])))))))))
+    ∷ (types.Binary ∷ []))))))))))

@@ -30,6 +30,7 @@ type_word types.Date = codes "date"
 type_word types.Timestamp = codes "timestamp"
 type_word types.ZonedTimestamp = codes "timestamp_tz"
 type_word types.Interval = codes "interval"
+type_word types.Binary = codes "binary"
 type_word types.Mixed = codes "mixed"
 
 -- The name of a type.
@@ -49,6 +50,7 @@ type_named name =
     else if bytes_eq name (codes "timestamp") then Some types.Timestamp
     else if bytes_eq name (codes "timestamp_tz") then Some types.ZonedTimestamp
     else if bytes_eq name (codes "interval") then Some types.Interval
+    else if bytes_eq name (codes "binary") then Some types.Binary
     else if bytes_eq name (codes "mixed") then Some types.Mixed
     else None
 

@@ -11,7 +11,7 @@ use Rattle.typed_vector.specs.Cells.{Cell, absent, other, value}
 use Rattle.jsonb_typed.specs.declared.lattice.LeastType.{LeastType}
 use Rattle.jsonb_typed.specs.declared.lattice.LeastType.TheVariants as types
 use Rattle.jsonb_typed.specs.declared.numbers.Fit.{Fit}
-use Rattle.jsonb_typed.specs.Types.{IsDecimal, IsInt64, IsText, IsUInt64}
+use Rattle.jsonb_typed.specs.Types.{IsBinary, IsDecimal, IsInt64, IsText, IsUInt64}
 
 -- The values in a column of the type. Of two types none stands for a member.
 abbrev pub ValueOf : LeastType → Type 0
@@ -25,6 +25,7 @@ ValueOf types.Date = Date
 ValueOf types.Timestamp = Timestamp
 ValueOf types.ZonedTimestamp = TimestampTz
 ValueOf types.Interval = Interval
+ValueOf types.Binary = List ℕ
 ValueOf types.Mixed = Unit {0}
 
 -- The value stands for the member, as in the columns of the type.
@@ -39,6 +40,7 @@ StandsIn fit types.Date d t = t ≡ trees.extension (trees.date d)
 StandsIn fit types.Timestamp s t = t ≡ trees.extension (trees.timestamp s)
 StandsIn fit types.ZonedTimestamp s t = t ≡ trees.extension (trees.timestamp_tz s)
 StandsIn fit types.Interval i t = t ≡ trees.extension (trees.interval i)
+StandsIn fit types.Binary s t = IsBinary s t
 StandsIn fit types.Mixed v t = ⊥
 
 -- The row has nothing beside its value but a document of null.

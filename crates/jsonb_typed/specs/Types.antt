@@ -1,7 +1,7 @@
 -- Which values of a column stand for which members.
 use Rattle.std.specs.Prelude.{◌≡◌, ◌<◌, ◌^◌, List, ℕ, ℤ, pos, FitsSigned, Option, None, Some}
 use Rattle.std.specs.Int.{w64, w128}
-use Rattle.jsonb_value.specs.Tree.{Tree, number, text, extension}
+use Rattle.jsonb_value.specs.Tree.{Tree, number, text, extension, binary}
 use Rattle.jsonb_typed.specs.declared.numbers.Fit.{Fit}
 use Rattle.jsonb_typed.specs.Numbers.{IsNumberAt}
 
@@ -30,3 +30,7 @@ extension_tree t = None
 -- The member is the text of these bytes.
 abbrev pub IsText : List ℕ → Tree → Type 0
 IsText s t = t ≡ text s
+
+-- The member is the binary value of these bytes.
+abbrev pub IsBinary : List ℕ → Tree → Type 0
+IsBinary s t = t ≡ extension (binary s)

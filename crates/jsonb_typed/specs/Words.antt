@@ -16,7 +16,7 @@ pub use Rattle.jsonb_functions.specs.declared.path.Step.{Step}
 pub use Rattle.typed_vector.specs.Cells.{Cell, rest_cell}
 pub use Rattle.jsonb_typed.specs.Cells.{IsCellAt, IsCellOf, IsCellOfRow}
 pub use Rattle.jsonb_typed.specs.Numbers.{IsNumberAt}
-pub use Rattle.jsonb_typed.specs.Types.{IsDecimal, IsInt64, IsNumber, IsText, IsUInt64}
+pub use Rattle.jsonb_typed.specs.Types.{IsBinary, IsDecimal, IsInt64, IsNumber, IsText, IsUInt64}
 pub use Rattle.jsonb_typed.specs.Types.{extension_tree}
 pub use Rattle.jsonb_typed.specs.LeastTypes.{IsFirstHeld, IsHeld, IsHeldAt, IsValueOf}
 pub use Rattle.jsonb_typed.specs.LeastTypes.{greatest_scale, member_scale, types_in_order}

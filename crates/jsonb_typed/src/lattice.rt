@@ -1,10 +1,11 @@
 //! The least type of columns that holds the members of all rows.
 
 ghost use Rattle.std.specs.Prelude.{◌≡◌, ◌↔◌, All, ℕ, List, IsTrue, option_map};
-ghost use Rattle.jsonb_typed.specs.Words.{HoldsNoScalar, IsFirstHeld, IsHeld, IsHeldAt, IsText};
-ghost use Rattle.jsonb_typed.specs.Words.{IsValueOf, greatest_scale, member_scale, types_in_order};
-ghost use Rattle.jsonb_typed.specs.Words.{node_tree};
+ghost use Rattle.jsonb_typed.specs.Words.{HoldsNoScalar, IsBinary, IsFirstHeld, IsHeld, IsHeldAt};
+ghost use Rattle.jsonb_typed.specs.Words.{IsText, IsValueOf, greatest_scale, member_scale};
+ghost use Rattle.jsonb_typed.specs.Words.{node_tree, types_in_order};
 
+use crate::binaries::binary_of;
 use crate::column_type::ColumnType;
 use crate::keeping::opened;
 use crate::member::member_of;
@@ -29,15 +30,16 @@ pub enum LeastType {
     Timestamp,
     ZonedTimestamp,
     Interval,
+    Binary,
     /// No type above holds all members.
     Mixed,
 }
 
 /// The first of these types that holds the member of each row at the end of a path, where it has
 /// one that is not null: nothing, booleans, 64 bits with a sign and without, decimals of the
-/// greatest scale, texts, dates, timestamps, those with a zone, intervals. A column of it keeps no
-/// document but `null`. `Mixed` if none does. It takes a pass for the scale, and one for each type
-/// up to the first member that does not fit.
+/// greatest scale, texts, dates, timestamps, those with a zone, intervals, binary values. A column
+/// of it keeps no document but `null`. `Mixed` if none does. It takes a pass for the scale, and one
+/// for each type up to the first member that does not fit.
 pub fn least_type(rows: &[Document<'_>], path: &[Step<'_>], fit: Fit) -> LeastType
     ensures { IsFirstHeld fit path.now rows.now
         (types_in_order (greatest_scale path.now rows.now)) result }
@@ -53,6 +55,7 @@ pub fn least_type(rows: &[Document<'_>], path: &[Step<'_>], fit: Fit) -> LeastTy
         LeastType::Timestamp,
         LeastType::ZonedTimestamp,
         LeastType::Interval,
+        LeastType::Binary,
     ];
     first_held(rows, path, fit, &candidates)
 }
@@ -143,6 +146,7 @@ fn is_value_of(member: Node<'_>, fit: Fit, candidate: LeastType) -> bool
         LeastType::Timestamp => is_value(member, &Timestamps),
         LeastType::ZonedTimestamp => is_value(member, &ZonedTimestamps),
         LeastType::Interval => is_value(member, &Intervals),
+        LeastType::Binary => is_binary(member),
         LeastType::Mixed => true,
     }
 }
@@ -165,4 +169,12 @@ fn is_text(member: Node<'_>) -> bool
         Node::String(_) => true,
         _ => false,
     }
+}
+
+// Whether a member is a binary value.
+fn is_binary(member: Node<'_>) -> bool
+    requires { HoldsNoScalar member }
+    ensures { IsTrue result ↔ ((s : List ℕ) × IsBinary s (node_tree member.entry)) }
+{
+    matches!(binary_of(member), Some(_))
 }

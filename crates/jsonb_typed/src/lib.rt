@@ -2,6 +2,7 @@
 //! not fit the type.
 #![tactic(auto)]
 
+mod binaries;
 mod column_type;
 mod columns;
 mod keeping;
@@ -14,6 +15,7 @@ mod survey;
 mod texts;
 mod types;
 
+pub use binaries::{binary_of, extract_binary, push_binary};
 pub use column_type::ColumnType;
 pub use columns::{extract, push_member, push_row};
 pub use keeping::opened;

@@ -9,8 +9,8 @@ use crate::lattice::LeastType;
 use std::alloc::{AllocError, Global};
 
 /// The type that a text names: `decimal` and the digits after the point, as `decimal 2`, or one of
-/// `nothing`, `boolean`, `int64`, `uint64`, `text`, `date`, `timestamp`, `timestamp_tz`, `interval`
-/// and `mixed`. What follows such a word after a space is passed over.
+/// `nothing`, `boolean`, `int64`, `uint64`, `text`, `date`, `timestamp`, `timestamp_tz`, `interval`,
+/// `binary` and `mixed`. What follows such a word after a space is passed over.
 pub fn parse_type(text: &str) -> Option<LeastType>
     ensures is { IfSome result (λ type. IsType text.now type) }
     ensures none { IfNone result ((type : LeastType) → IsType text.now type → ⊥) }
@@ -72,6 +72,8 @@ fn type_named(name: &str) -> Option<LeastType>
         Some(LeastType::ZonedTimestamp)
     } else if name == "interval" {
         Some(LeastType::Interval)
+    } else if name == "binary" {
+        Some(LeastType::Binary)
     } else if name == "mixed" {
         Some(LeastType::Mixed)
     } else {
@@ -94,6 +96,7 @@ fn type_word(column_type: LeastType) -> &'static str
         LeastType::Timestamp => "timestamp",
         LeastType::ZonedTimestamp => "timestamp_tz",
         LeastType::Interval => "interval",
+        LeastType::Binary => "binary",
         LeastType::Mixed => "mixed",
     }
 }

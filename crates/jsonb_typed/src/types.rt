@@ -211,8 +211,8 @@ fn number_at(member: Node<'_>, scale: u8, fit: Fit) -> Option<i128>
     }
 }
 
-// The extension value of a member, if it is one.
-fn extension_of(member: Node<'_>) -> Option<ExtensionValue<'_>>
+/// The extension value of a member, if it is one.
+pub fn extension_of(member: Node<'_>) -> Option<ExtensionValue<'_>>
     requires { HoldsNoScalar member }
     ensures { option_map (λ value. extension (extension_of value)) result
         ≡ extension_tree (node_tree member.entry) }

@@ -4,12 +4,14 @@ use Rattle.std.proofs.Common.{List, [], ◌∷◌, ◌++◌, length, get_or, min
 use Rattle.std.proofs.Common.{ap₂, subst, ◌∙◌, arith, below_more}
 use Rattle.std.specs.Int.{div_ceil}
 use Rattle.std.proofs.lemmas.Grind.{div_ceil_times}
-use Rattle.std.proofs.lemmas.List.{append-nil, get_or_append_left, get_or_push, length-drop}
-use Rattle.std.proofs.lemmas.List.{length-take, take_min, take_more}
+use Rattle.std.proofs.lemmas.List.{append-nil, drop-map, get_or-map, get_or_append_left}
+use Rattle.std.proofs.lemmas.List.{get_or_push, length-drop, length-map, length-take, take-map}
+use Rattle.std.proofs.lemmas.List.{take_min, take_more}
+use Rattle.std.specs.Bool.{beq}
 use Rattle.std.specs.Prelude.{Option, None}
 use Rattle.std.specs.declared.cmp.Ordering.{Ordering}
-use Rattle.typed_vector.specs.Cells.{Cell, cells}
-use Rattle.typed_vector.specs.ZoneMap.{IsZone, block_at, cell_values, set_values}
+use Rattle.typed_vector.specs.Cells.{cells}
+use Rattle.typed_vector.specs.ZoneMap.{IsZone, are_set, block_at, cell_values, set_values}
 use Rattle.typed_vector.specs.declared.zone_map.Zone.{Zone}
 
 set_values-push : {A : Type 0} (vs : List A) (bs : List Bool) (v : A) (b : Bool)
@@ -116,27 +118,50 @@ each_more P xs x d i is each here =
     (each k lt))
     (subst (P i) (sym (get_or_push xs x d i is)) here)
 
--- The zone of one more block.
-pub zones_more : {A : Type 0} (cmp : A → A → Ordering) (vs : List A) (bs : List Bool)
-    (rs : List (List ℕ)) (column : List (Cell A)) (size index rows : ℕ)
-    (zones new : List (Option (Zone A))) (zone : Option (Zone A)) → length bs ≡ length vs
-    → length rs ≡ length vs → cells vs bs rs ≡ column
+-- Which flag an index has.
+pub set_flag : {F : Type 0} (eq : F → F → Bool) (set : F) (flags : List F) (i : ℕ) (flag : F)
+    → i < length flags → flag ≡ get_or flags i flag
+    → get_or (are_set eq set flags) i false ≡ eq flag set
+set_flag eq set flags i flag low is =
+    get_or-map (λ one. eq one set) flags i flag false low
+    ∙ ap (λ one. eq one set) (sym is)
+
+-- The flags of a part.
+pub set_between : {F : Type 0} (eq : F → F → Bool) (set : F) (flags : List F) (n m : ℕ)
+    → are_set eq set (take n (drop m flags)) ≡ take n (drop m (are_set eq set flags))
+set_between eq set flags n m =
+    sym (take-map (λ one. eq one set) n (drop m flags))
+    ∙ ap (take n) (sym (drop-map (λ one. eq one set) m flags))
+
+-- A flag that is true or false is itself.
+pub set_itself : (flags : List Bool) → are_set beq true flags ≡ flags
+set_itself [] = refl
+set_itself (true ∷ flags) = ap (λ (xs : List Bool). true ∷ xs) (set_itself flags)
+set_itself (false ∷ flags) = ap (λ (xs : List Bool). false ∷ xs) (set_itself flags)
+
+-- The zone of the slices of a block is that of the block.
+pub zone_is : {A F : Type 0} (cmp : A → A → Ordering) (eq : F → F → Bool) (set : F) (vs : List A)
+    (flags : List F) (rs : List (List ℕ)) (size index rows : ℕ) (zone : Option (Zone A))
+    → length flags ≡ length vs → length rs ≡ length vs
     → rows ≡ min size (length vs - index * size)
     → IsZone cmp (set_values (take (index * size + rows - index * size) (drop (index * size) vs))
-    (take (index * size + rows - index * size) (drop (index * size) bs))) zone
+    (are_set eq set (take (index * size + rows - index * size) (drop (index * size) flags)))) zone
+    → IsZone cmp (cell_values (block_at size (cells vs (are_set eq set flags) rs) index)) zone
+zone_is cmp eq set vs flags rs size index rows zone hb hr rows_is here =
+    let start = index * size in
+    let many = start + rows - start in
+    let block = block_values vs (are_set eq set flags) rs size index (start + rows)
+    (length-map flags (λ one. eq one set) ∙ hb) hr (ap (λ n. start + n) rows_is) in
+    subst (λ items. IsZone cmp items zone)
+    (ap (set_values (take many (drop start vs))) (set_between eq set flags many start) ∙ block)
+    here
+
+-- The zone of one more block.
+pub zones_more : {A : Type 0} (P : ℕ → Option (Zone A) → Type 0)
+    (zones new : List (Option (Zone A))) (zone : Option (Zone A)) (index : ℕ)
     → new ≡ zones ++ zone ∷ [] → length zones ≡ index
-    → ((k : ℕ) → k < index
-    → IsZone cmp (cell_values (block_at size column k)) (get_or zones k None))
-    → (k : ℕ) → k < index + 1
-    → IsZone cmp (cell_values (block_at size column k)) (get_or new k None)
-zones_more {A = A} cmp vs bs rs column size index rows zones new zone hb hr are rows_is here new_is
-    count each =
-    let block = block_values vs bs rs size index (index * size + rows) hb hr
-    (ap (λ n. index * size + n) rows_is) in
-    let P : ℕ → Option (Zone A) → Type 0 =
-    λ k zone. IsZone cmp (cell_values (block_at size column k)) zone in
-    let last : P index zone =
-    subst (λ cs. IsZone cmp (cell_values (block_at size cs index)) zone) are
-    (subst (λ items. IsZone cmp items zone) block here) in
+    → ((k : ℕ) → k < index → P k (get_or zones k None)) → P index zone
+    → (k : ℕ) → k < index + 1 → P k (get_or new k None)
+zones_more {A = A} P zones new zone index new_is count each here =
     subst (λ zs. (k : ℕ) → k < index + 1 → P k (get_or zs k None)) (sym new_is)
-    (each_more P zones zone None index count each last)
+    (each_more P zones zone None index count each here)

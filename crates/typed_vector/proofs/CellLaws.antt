@@ -1,12 +1,12 @@
 -- A row that is appended to the stored form is one more row.
 use Rattle.std.proofs.Common.{◌≡◌, ℕ, suc, Bool, ◌+◌, ◌-◌, ◌≤◌, List, [], ◌∷◌, ◌++◌, take, drop}
-use Rattle.std.proofs.Common.{zero, false, Some, ◌<◌, get_or, length, refl, sym, ap, ap₂}
+use Rattle.std.proofs.Common.{zero, false, true, Some, ◌<◌, get_or, length, refl, sym, ap, ap₂}
 use Rattle.std.proofs.Common.{subst, ◌∙◌, arith}
 use Rattle.std.proofs.Math.Seq.{drop-append_seam, take-length}
 use Rattle.std.proofs.lemmas.List.{take-append-le, drop-append-le, length-drop, length-append}
 use Rattle.std.specs.Prelude.{slice_get}
-use Rattle.typed_vector.specs.Cells.{Cell, cell, cells, rows_from, rows}
-use Rattle.typed_vector.specs.Cells.{AreEnds, AreOffsets, AreAlike}
+use Rattle.typed_vector.specs.Cells.{AreAlike, AreEnds, AreOffsets, Cell, value, cell, cells}
+use Rattle.typed_vector.specs.Cells.{rest_cell, rows_from, rows}
 
 -- The first end is at most the size.
 start-le : (size start : ℕ) (ends : List ℕ) → AreEnds size start ends → start ≤ size
@@ -109,83 +109,62 @@ cells-at (x ∷ vs) (y ∷ bs) (z ∷ rs) zero v hb hr low = refl
 cells-at (x ∷ vs) (y ∷ bs) (z ∷ rs) (suc i) v hb hr low =
     cells-at vs bs rs i v (omega (arith, hb)) (omega (arith, hr)) (omega (arith, low))
 
-pub pushed : {A : Type 0} (vs : List A) (bs : List Bool) (b es : List ℕ) (v : A) (is : Bool)
-    (c : List ℕ) → AreAlike vs bs b es → (end : ℕ) → end ≡ length b + length c
-    → AreAlike (vs ++ v ∷ []) (bs ++ is ∷ []) (b ++ c) (es ++ end ∷ [])
-    × (cells (vs ++ v ∷ []) (bs ++ is ∷ []) (rows (b ++ c) (es ++ end ∷ []))
-    ≡ cells vs bs (rows b es) ++ cell v is c ∷ [])
-pushed vs bs b es v is c alike end size = (
+pub length-rests : {A : Type 0} (vs : List A) (bs : List Bool) (rs : List (List ℕ))
+    (column : List (Cell A)) → AreAlike vs bs rs → cells vs bs rs ≡ column
+    → length rs ≡ length column
+length-rests vs bs rs column alike is =
+    omega (arith, alike.counted, length-cells vs bs rs alike.flags alike.counted, ap length is)
+
+-- One more row, by what each part has become.
+pub pushed_to : {A : Type 0} (vs vs' : List A) (bs bs' : List Bool) (rs rs' : List (List ℕ)) (v : A)
+    (is : Bool) (r : List ℕ) → AreAlike vs bs rs → vs' ≡ vs ++ v ∷ [] → bs' ≡ bs ++ is ∷ []
+    → rs' ≡ rs ++ r ∷ []
+    → AreAlike vs' bs' rs' × (cells vs' bs' rs' ≡ cells vs bs rs ++ cell v is r ∷ [])
+pushed_to vs vs' bs bs' rs rs' v is r alike pv pb pr = (
   record {
     flags = omega (
       arith,
       alike.flags,
-      length-append bs (is ∷ []),
-      length-append vs (v ∷ []),
+      ap length pb ∙ length-append bs (is ∷ []),
+      ap length pv ∙ length-append vs (v ∷ []),
     );
     counted = omega (
       arith,
       alike.counted,
-      length-append es (end ∷ []),
-      length-append vs (v ∷ []),
+      ap length pr ∙ length-append rs (r ∷ []),
+      ap length pv ∙ length-append vs (v ∷ []),
     );
-    ascending = subst (λ (n : ℕ). AreOffsets n (es ++ end ∷ []))
-        (size ∙ sym (length-append b c))
-        (AreOffsets-push (length b) end es alike.ascending (omega (arith, size)));
   },
-  ap (cells (vs ++ v ∷ []) (bs ++ is ∷ [])) (rows-push b c end es alike.ascending size)
-      ∙ cells-push vs bs (rows b es) v is c alike.flags
-      (omega (arith, length-rows b es alike.ascending, alike.counted)),
+  rw (pv, pb, pr) (cells-push vs bs rs v is r alike.flags alike.counted),
 )
 
--- The same by what each part has become.
-pub pushed_to : {A : Type 0} (vs vs' : List A) (bs bs' : List Bool) (b b' es es' : List ℕ) (v : A)
-    (is : Bool) (c : List ℕ) (end : ℕ) → AreAlike vs bs b es → vs' ≡ vs ++ v ∷ []
-    → bs' ≡ bs ++ is ∷ [] → b' ≡ b ++ c → es' ≡ es ++ end ∷ [] → end ≡ length b'
-    → AreAlike vs' bs' b' es'
-    × (cells vs' bs' (rows b' es') ≡ cells vs bs (rows b es) ++ cell v is c ∷ [])
-pushed_to vs vs' bs bs' b b' es es' v is c end alike pv pb pr pe size =
-    let same = pushed vs bs b es v is c alike end
-    (size ∙ ap length pr ∙ length-append b c) in
-    rw (pv, pb, pr, pe) same
-
 -- What is there of the row at an index.
-pub record IsThere {A : Type 0} (vs : List A) (bs : List Bool) (rest offsets : List ℕ) (i : ℕ)
+pub record IsThere {A : Type 0} (vs : List A) (bs : List Bool) (rs : List (List ℕ)) (i : ℕ)
     : Type 0 where
   pub value : i < length vs
   pub flag : i < length bs
-  pub next : i + 1 < length offsets
-  pub between : IsRowAt rest offsets i
-  pub is : (v : A) → slice_get (cells vs bs (rows rest offsets)) i
-      ≡ Some (cell (get_or vs i v) (get_or bs i false)
-      (take (get_or offsets (suc i) 0 - get_or offsets i 0) (drop (get_or offsets i 0) rest)))
+  pub is : (v : A) → slice_get (cells vs bs rs) i
+      ≡ Some (cell (get_or vs i v) (get_or bs i false) (get_or rs i []))
 
-pub is_there : {A : Type 0} (vs : List A) (bs : List Bool) (rest offsets : List ℕ) (i : ℕ)
-    → AreAlike vs bs rest offsets → i < length (cells vs bs (rows rest offsets))
-    → IsThere vs bs rest offsets i
-is_there vs bs rest offsets i alike low =
-    let many : length (rows rest offsets) ≡ length vs =
-    omega (arith, length-rows rest offsets alike.ascending, alike.counted) in
+pub is_there : {A : Type 0} (vs : List A) (bs : List Bool) (rs : List (List ℕ)) (i : ℕ)
+    → AreAlike vs bs rs → i < length (cells vs bs rs) → IsThere vs bs rs i
+is_there vs bs rs i alike low =
     let value : i < length vs =
-    omega (arith, low, length-cells vs bs (rows rest offsets) alike.flags many) in
-    let at = row-at rest offsets i alike.ascending (omega (arith, value, alike.counted)) in
+    omega (arith, low, length-cells vs bs rs alike.flags alike.counted) in
     record {
       value = value;
       flag = omega (arith, value, alike.flags);
-      next = omega (arith, value, alike.counted);
-      between = at;
-      is = λ v. cells-at vs bs (rows rest offsets) i v alike.flags many value
-          ∙ ap (λ (r : List ℕ). Some (cell (get_or vs i v) (get_or bs i false) r)) at.row;
+      is = λ v. cells-at vs bs rs i v alike.flags alike.counted value;
     }
 
--- What is shown of the row at an index is what the row has.
-pub shown : {A : Type 0} (vs : List A) (bs : List Bool) (rest offsets : List ℕ) (i : ℕ)
-    → IsThere vs bs rest offsets i → (v : A) (is : Bool) (start end : ℕ) (bytes : List ℕ)
-    → v ≡ get_or vs i v → is ≡ get_or bs i false → start ≡ get_or offsets i 0
-    → end ≡ get_or offsets (suc i) 0 → bytes ≡ rest
-    → slice_get (cells vs bs (rows rest offsets)) i
-    ≡ Some (cell v is (take (end - start) (drop start bytes)))
-shown vs bs rest offsets i there v is start end bytes pv pb ps pe pr =
-    rw (ps, pe, pr) (there.is v ∙ ap₂ (λ x y. Some
-    (cell x y (take (get_or offsets (suc i) 0 - get_or offsets i 0)
-    (drop (get_or offsets i 0) rest))))
-    (sym pv) (sym pb))
+pub value_shown : {A : Type 0} (vs : List A) (bs : List Bool) (rs : List (List ℕ)) (i : ℕ)
+    → IsThere vs bs rs i → (v : A) → v ≡ get_or vs i v → get_or bs i false ≡ true
+    → Some (value v) ≡ slice_get (cells vs bs rs) i
+value_shown vs bs rs i there v pv pb =
+    sym (there.is v ∙ ap₂ (λ x y. Some (cell x y (get_or rs i []))) (sym pv) pb)
+
+pub rest_shown : {A : Type 0} (vs : List A) (bs : List Bool) (rs : List (List ℕ)) (i : ℕ)
+    → IsThere vs bs rs i → (v : A) → get_or bs i false ≡ false
+    → Some (rest_cell (get_or rs i [])) ≡ slice_get (cells vs bs rs) i
+rest_shown vs bs rs i there v pb =
+    sym (there.is v ∙ ap (λ y. Some (cell (get_or vs i v) y (get_or rs i []))) pb)

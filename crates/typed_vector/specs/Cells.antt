@@ -48,9 +48,8 @@ abbrev pub AreOffsets : ℕ → List ℕ → Type 0
 AreOffsets size [] = ⊥
 AreOffsets size (start ∷ ends) = (start ≡ 0) × AreEnds size start ends
 
--- There is one of each for each row, and one more offset.
-pub record AreAlike {A : Type 0} (values : List A) (are_set : List Bool) (rest offsets : List ℕ)
+-- There is one of each for each row.
+pub record AreAlike {A : Type 0} (values : List A) (are_set : List Bool) (rests : List (List ℕ))
     : Type 0 where
   pub flags : length are_set ≡ length values
-  pub counted : length offsets ≡ length values + 1
-  pub ascending : AreOffsets (length rest) offsets
+  pub counted : length rests ≡ length values

@@ -1,6 +1,7 @@
 -- Zone maps: the least and the greatest value of each block of rows.
 use Rattle.std.specs.Prelude.{◌≡◌, ◌≢◌, ◌<◌, ◌*◌, ◌&&◌, ℕ, Bool, true, false, not, List, [], ◌∷◌}
-use Rattle.std.specs.Prelude.{All, Contains, Option, Some, None, length, take, drop, slice_index_or}
+use Rattle.std.specs.Prelude.{All, Contains, Option, Some, None, length, map, take, drop}
+use Rattle.std.specs.Prelude.{slice_index_or}
 use Rattle.std.specs.Int.{div_ceil}
 use Rattle.std.specs.Ordering.{is_gt, is_lt}
 use Rattle.std.specs.declared.cmp.Ordering.{Ordering}
@@ -21,6 +22,10 @@ set_values [] are_set = []
 set_values (item ∷ items) [] = []
 set_values (item ∷ items) (true ∷ are_set) = item ∷ set_values items are_set
 set_values (item ∷ items) (false ∷ are_set) = set_values items are_set
+
+-- Which of the flags are this one.
+abbrev pub are_set : {F : Type 0} → (F → F → Bool) → F → List F → List Bool
+are_set eq set flags = map (λ flag. eq flag set) flags
 
 -- The value is below the lower limit.
 abbrev pub is_below : {A : Type 0} → (A → A → Ordering) → A → A → Bool

@@ -2,32 +2,32 @@
 
 ghost use Rattle.std.specs.Prelude.{◌≡◌, ◌<◌, ◌∷◌, ◌++◌, [], List, length, OnOk, OnErr, ℕ};
 ghost use Rattle.std.specs.Prelude.{option_map, slice_get, IfOk, Some};
-ghost use Rattle.typed_vector.specs.Cells.{Cell, absent, value, other, cell, cells, rows};
-ghost use Rattle.typed_vector.specs.Cells.{AreAlike};
-ghost use Rattle.typed_vector.specs.Contents.{content_cell};
+ghost use Rattle.typed_vector.specs.Cells.{AreAlike, Cell, absent, value, other, cell, cells};
+ghost use Rattle.typed_vector.specs.Cells.{rest_cell};
+ghost use Rattle.typed_vector.specs.Contents.{IsStoredRest, content_cell, rests};
 
+use crate::rest::{Rest, RestParts};
 use std::alloc::{AllocError, Global};
 use std::marker::Model;
 
 /// Values of one type in a vector, one for each row. A row without a value is not set, and may have
-/// other bytes. These follow one another: each row's begin where those of the row before end. It is
-/// the form of Arrow's arrays.
+/// other bytes, which are kept beside its index. The values and the flags are in the form of Arrow's
+/// arrays.
 #[derive(Drop)]
 pub struct Typed<T: Copy> {
     blank: T,
     values: Vec<T>,
     is_set: Vec<bool>,
-    rest: Vec<u8>,
-    offsets: Vec<usize>,
+    rest: Rest,
 }
 
 // In contracts a column is the list of what each row has.
 impl<T: Copy> Model for Typed<T> {
     ghost Value = { List (Cell T) };
 
-    ghost view = { λ s. cells s.values.items s.is_set.items (rows s.rest.items s.offsets.items) };
+    ghost view = { λ s. cells s.values.items s.is_set.items s.rest };
 
-    ghost invariant = { λ s. AreAlike s.values.items s.is_set.items s.rest.items s.offsets.items };
+    ghost invariant = { λ s. AreAlike s.values.items s.is_set.items s.rest };
 }
 
 impl<T: Copy> Typed<T> {
@@ -35,14 +35,11 @@ impl<T: Copy> Typed<T> {
     pub fn new(alloc: Global, blank: T) -> Result<Self, AllocError>
         ensures { IfOk result (λ column. column ≡ []) }
     {
-        let mut offsets = Vec::with_capacity(alloc, 1)?;
-        offsets.push_reserved(0);
         Ok(Typed {
             blank,
             values: Vec::new(alloc),
             is_set: Vec::new(alloc),
-            rest: Vec::new(alloc),
-            offsets,
+            rest: Rest::new(alloc)?,
         })
     }
 
@@ -59,7 +56,6 @@ impl<T: Copy> Typed<T> {
     {
         self.values.reserve(rows)?;
         self.is_set.reserve(rows)?;
-        self.offsets.reserve(rows)?;
         Ok(())
     }
 
@@ -95,28 +91,24 @@ impl<T: Copy> Typed<T> {
     {
         self.values.reserve(1)?;
         self.is_set.reserve(1)?;
-        self.offsets.reserve(1)?;
-        self.rest.extend_from_slice(rest)?;
+        self.rest.push(rest)?;
         self.values.push_reserved(item);
         self.is_set.push_reserved(is_set);
-        let end = self.rest.len();
-        self.offsets.push_reserved(end);
         Ok(())
     }
 
-    /// The stored form: as many values as flags, and one offset more, from 0 to the length of the
-    /// other bytes.
+    /// The stored form: as many values as flags, and the other bytes of the rows that have some.
     pub fn parts(&self) -> Parts<'_, T>
         ensures cells { cells result.values.now result.is_set.now
-            (rows result.rest.now result.offsets.now) ≡ self.now }
+            (rests (length self.now) result.rest) ≡ self.now }
         ensures alike { AreAlike result.values.now result.is_set.now
-            result.rest.now result.offsets.now }
+            (rests (length self.now) result.rest) }
+        ensures rest { IsStoredRest (length self.now) result.rest }
     {
         Parts {
             values: self.values.as_slice(),
             is_set: self.is_set.as_slice(),
-            rest: self.rest.as_slice(),
-            offsets: self.offsets.as_slice(),
+            rest: self.rest.parts(),
         }
     }
 
@@ -136,10 +128,11 @@ impl<T: Copy> Typed<T> {
         requires { index < length self.now }
         ensures { Some (content_cell result) ≡ slice_get self.now index }
     {
-        let start = self.offsets[index];
-        let end = self.offsets[index + 1];
-        let rest = &self.rest[start..end];
-        content_of(self.values[index], self.is_set[index], rest)
+        if self.is_set[index] {
+            Content::Value(self.values[index])
+        } else {
+            other_content(self.rest.at(index))
+        }
     }
 }
 
@@ -148,8 +141,7 @@ impl<T: Copy> Typed<T> {
 pub struct Parts<'a, T> {
     pub values: &'a [T],
     pub is_set: &'a [bool],
-    pub rest: &'a [u8],
-    pub offsets: &'a [usize],
+    pub rest: RestParts<'a>,
 }
 
 /// What a row has.
@@ -160,13 +152,11 @@ pub enum Content<'a, T> {
     Other(&'a [u8]),
 }
 
-// What a row has, by its value, whether it is set, and its bytes.
-fn content_of<T: Copy>(item: T, is_set: bool, rest: &[u8]) -> Content<'_, T>
-    ensures { content_cell result ≡ cell item is_set rest.now }
+// What a row has that is not set.
+fn other_content<T>(rest: &[u8]) -> Content<'_, T>
+    ensures { content_cell result ≡ rest_cell rest.now }
 {
-    if is_set {
-        Content::Value(item)
-    } else if rest.is_empty() {
+    if rest.is_empty() {
         Content::Absent
     } else {
         Content::Other(rest)

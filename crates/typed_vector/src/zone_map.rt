@@ -1,11 +1,14 @@
 //! Zone maps of a column: the least and the greatest value of each block of rows.
 
-ghost use Rattle.std.specs.Prelude.{◌≡◌, ◌∷◌, ◌++◌, ◌||◌, [], List, IfOk, Some};
+ghost use Rattle.std.specs.Prelude.{◌≡◌, ◌<◌, ◌∷◌, ◌++◌, ◌||◌, ℕ, [], List, IfOk, Some};
 ghost use Rattle.std.specs.Prelude.{filter, length, max, not};
 ghost use Rattle.std.specs.Bool.{OnFalse};
+ghost use Rattle.std.specs.Int.{div_ceil};
 ghost use Rattle.std.specs.List.{list_all};
-ghost use Rattle.typed_vector.specs.ZoneMap.{AreZones, IsSpan, IsZone};
-ghost use Rattle.typed_vector.specs.ZoneMap.{is_above, is_below, is_within, set_values};
+ghost use Rattle.typed_vector.specs.Cells.{cells};
+ghost use Rattle.typed_vector.specs.ZoneMap.{AreZones, IsSpan, IsZone, are_set, block_at};
+ghost use Rattle.typed_vector.specs.ZoneMap.{cell_values, is_above, is_below, is_within};
+ghost use Rattle.typed_vector.specs.ZoneMap.{set_values};
 
 use crate::vector::Typed;
 use std::alloc::{AllocError, Global};
@@ -59,26 +62,48 @@ pub fn zones<T: Copy + Ord>(
     ensures { IfOk result (λ zones. AreZones T.cmp (max block_rows 1) column.now zones.items) }
 {
     let parts = column.parts();
-    let rows = parts.values.len();
     let block_rows = block_rows.max(1);
-    let count = rows.div_ceil(block_rows);
+    let count = parts.values.len().div_ceil(block_rows);
     let mut zones = Vec::with_capacity(alloc, count)?;
     for index in 0..count {
-        let start = index * block_rows;
-        let end = start + block_rows.min(rows - start);
-        zones.push_reserved(zone_of(&parts.values[start..end], &parts.is_set[start..end]));
+        let zone = zone_of_block(parts.values, parts.is_set, true, block_rows, index);
+        zones.push_reserved(zone);
     }
     Ok(zones)
 }
 
-// The zone of the values that are set.
-fn zone_of<T: Copy + Ord>(values: &[T], is_set: &[bool]) -> Option<Zone<T>>
-    requires { length is_set.now ≡ length values.now }
-    ensures { IsZone T.cmp (set_values values.now is_set.now) result }
+/// The zone of one block of rows, which are given by a value and a flag each: a row has its value
+/// if its flag is `set`. `index` counts the blocks of `block_rows` rows; the last may have fewer.
+/// `None` if no row of the block has a value.
+pub fn zone_of_block<T: Copy + Ord, F: Copy + Eq>(
+    values: &[T],
+    flags: &[F],
+    set: F,
+    block_rows: usize,
+    index: usize,
+) -> Option<Zone<T>>
+    requires alike { length flags.now ≡ length values.now }
+    requires some { 0 < block_rows }
+    requires within { index < div_ceil (length values.now) block_rows }
+
+    // Whatever other bytes the rows have.
+    ensures { (rests : List (List ℕ)) → length rests ≡ length values.now
+        → IsZone T.cmp (cell_values (block_at block_rows
+        (cells values.now (are_set F.eq set flags.now) rests) index)) result }
+{
+    let start = index * block_rows;
+    let end = start + block_rows.min(values.len() - start);
+    zone_of(&values[start..end], &flags[start..end], set)
+}
+
+// The zone of the values whose flag is `set`.
+fn zone_of<T: Copy + Ord, F: Copy + Eq>(values: &[T], flags: &[F], set: F) -> Option<Zone<T>>
+    requires { length flags.now ≡ length values.now }
+    ensures { IsZone T.cmp (set_values values.now (are_set F.eq set flags.now)) result }
 {
     let mut zone = None;
     for (index, item) in values.iter().enumerate() {
-        if is_set[index] {
+        if flags[index] == set {
             zone = Some(with_value(zone, *item));
         }
     }

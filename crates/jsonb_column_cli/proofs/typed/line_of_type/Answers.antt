@@ -53,6 +53,11 @@ returns-in-Interval-clause-ok c =
     of_type c.args.column_type _ (map (member_at c.args.path.now) c.args.rows.now)
     c.line_of-in-Interval.result c.in-Interval.is c.line_of-in-Interval.ensures.ok
 
+pub returns-in-Binary-clause-ok : goal.returns-in-Binary-clause-ok
+returns-in-Binary-clause-ok c =
+    of_type c.args.column_type _ (map (member_at c.args.path.now) c.args.rows.now)
+    c.line_of_binaries.result c.in-Binary.is c.line_of_binaries.ensures.ok
+
 pub returns-in-Mixed-clause-ok : goal.returns-in-Mixed-clause-ok
 returns-in-Mixed-clause-ok c =
     of_type c.args.column_type _ (map (member_at c.args.path.now) c.args.rows.now)

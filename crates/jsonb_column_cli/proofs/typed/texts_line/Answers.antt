@@ -1,6 +1,6 @@
 use Rattle.std.proofs.Common.{rules, ◌≡◌, ◌∷◌, ◌++◌, []}
 use Rattle.std.specs.String.{string_bytes}
-use Rattle.typed_vector.specs.Contents.{text_cell}
+use Rattle.typed_vector.specs.Contents.{bytes_cell}
 use Rattle.jsonb_column_cli.specs.Members.{text_tree}
 use Rattle.jsonb_column_cli.proofs.MemberLaws.{cells_line-more}
 use Rattle.jsonb_column_cli.proofs.typed.texts_line.Goals as goal
@@ -13,6 +13,6 @@ loop-index-preserved c =
     let word = string_bytes c.in_ok-word.word in
     let space : spaced ≡ before ++ 32 ∷ [] = search rules in
     let grown : string_bytes c.push_str.new.self ≡ spaced ++ word = search rules in
-    cells_line-more text_tree c.args.column.now c.loop-index.index (text_cell c.in-Some.content)
+    cells_line-more text_tree c.args.column.now c.loop-index.index (bytes_cell c.in-Some.content)
     before spaced (string_bytes c.push_str.new.self) word c.in-Some.ensures c.loop-index.invariant
     space c.in_ok-word.ensures.ok grown

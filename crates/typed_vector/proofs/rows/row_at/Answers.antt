@@ -1,6 +1,6 @@
 use Rattle.std.proofs.Common.{arith}
-use Rattle.typed_vector.proofs.TextLaws.{row_between}
-use Rattle.typed_vector.proofs.texts.row_at.Goals as goal
+use Rattle.typed_vector.proofs.BinaryLaws.{row_between}
+use Rattle.typed_vector.proofs.rows.row_at.Goals as goal
 
 pub slice_bounds-result-count : goal.slice_bounds-result-count
 slice_bounds-result-count c =

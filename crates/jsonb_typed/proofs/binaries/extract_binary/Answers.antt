@@ -1,0 +1,16 @@
+use Rattle.std.proofs.Common.{subst}
+use Rattle.std.specs.Prelude.{Option}
+use Rattle.jsonb_value.specs.Tree.{Tree}
+use Rattle.jsonb_typed.specs.Cells.{IsCellAt, IsCellOf}
+use Rattle.jsonb_typed.specs.Types.{IsBinary}
+use Rattle.jsonb_typed.proofs.RowLaws.{more_rows}
+use Rattle.jsonb_typed.proofs.binaries.extract_binary.Goals as goal
+
+-- The column has one row more.
+pub loop-row-preserved : goal.loop-row-preserved
+loop-row-preserved c =
+    let pushed = c.in_ok-push_binary.ensures.pushed in
+    more_rows (IsCellAt IsBinary c.args.path.now) c.args.rows.now c.loop-row.row-index
+    c.loop-row.column c.push_binary.new.column pushed.0 c.row-item.result c.loop-row-test.true
+    c.row-item.is pushed.1.0 c.loop-row.invariant
+    (subst (λ (m : Option Tree). IsCellOf IsBinary m pushed.0) c.member_of.ensures pushed.1.1)
