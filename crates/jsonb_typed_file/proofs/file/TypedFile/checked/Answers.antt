@@ -1,0 +1,72 @@
+use Rattle.std.proofs.Common.{rules, ◌≡◌, false, sym, subst, ◌⊎◌, inr}
+use Rattle.jsonb_typed_file.specs.File.{IsInForm, NestWithin}
+use Rattle.jsonb_typed_file.specs.declared.error.FileError.TheVariants.{OutOfForm, OutOfMemory}
+use Rattle.jsonb_typed_file.specs.declared.error.FileError.TheVariants.{TooDeep, WrongLength}
+use Rattle.jsonb_typed_file.proofs.FormLaws.{form_or_memory, not_both}
+use Rattle.jsonb_typed_file.proofs.LayoutLaws.{told, told_error, told_refusal}
+use Rattle.jsonb_typed_file.proofs.file.TypedFile.checked.Goals as goal
+
+pub returns-in_err-layout-clause-memory : goal.returns-in_err-layout-clause-memory
+returns-in_err-layout-clause-memory c f file =
+    told c.from_residual.result c.in_err-layout.field-0.0 (λ e. e ≡ OutOfMemory)
+    c.from_residual.ensures.1 (c.in_err-layout.ensures.memory f file.file.layout file.file.lengths)
+
+pub returns-in_err-layout-clause-form : goal.returns-in_err-layout-clause-form
+returns-in_err-layout-clause-form c refused f file =
+    form_or_memory c.in_err-layout.field-0.0
+    (told_error c.from_residual.result c.in_err-layout.field-0.0 OutOfForm
+    c.from_residual.ensures.1 refused)
+    (c.in_err-layout.ensures.memory f file.layout file.lengths)
+
+pub returns-then-not-is_in_form-clause-memory : goal.returns-then-not-is_in_form-clause-memory
+returns-then-not-is_in_form-clause-memory c f file =
+    let same = c.in_ok-layout.ensures.same f file.file.layout file.file.lengths in
+    let failed : c.is_in_form.result ≡ false = search rules in
+    absurd (not_both c.is_in_form.result failed
+    (c.is_in_form.ensures.1 (subst IsInForm (sym same) file.file.form)))
+
+pub returns-then-not-is_in_form-clause-form : goal.returns-then-not-is_in_form-clause-form
+returns-then-not-is_in_form-clause-form c refused f file =
+    let same = c.in_ok-layout.ensures.same f file.layout file.lengths in
+    let failed : c.is_in_form.result ≡ false = search rules in
+    not_both c.is_in_form.result failed
+    (c.is_in_form.ensures.1 (subst IsInForm (sym same) file.form))
+
+pub returns-clause-same : goal.returns-clause-same
+returns-clause-same c f file = c.in_ok-layout.ensures.same f file.file.layout file.file.lengths
+
+pub returns-in_err-layout-clause-deep : goal.returns-in_err-layout-clause-deep
+returns-in_err-layout-clause-deep c refused f file =
+    c.in_err-layout.ensures.deep (told_error c.from_residual.result c.in_err-layout.field-0.0
+    TooDeep c.from_residual.ensures.1 refused)
+
+pub returns-in_err-layout-clause-refused : goal.returns-in_err-layout-clause-refused
+returns-in_err-layout-clause-refused c f file =
+    told c.from_residual.result c.in_err-layout.field-0.0
+    (λ e. (e ≡ TooDeep) ⊎ (e ≡ OutOfMemory)) c.from_residual.ensures.1
+    (inr (c.in_err-layout.ensures.memory f file.layout file.lengths))
+
+pub returns-then-nest_deeper-clause-memory : goal.returns-then-nest_deeper-clause-memory
+returns-then-nest_deeper-clause-memory c f file =
+    let same = c.in_ok-layout.ensures.same f file.file.layout file.file.lengths in
+    let deeper = rw c.if-nest_deeper.true at c.nest_deeper.ensures.deeper in
+    absurd (deeper (subst (NestWithin c.args.depth) (sym same) file.shallow))
+
+pub returns-then-nest_deeper-clause-deep : goal.returns-then-nest_deeper-clause-deep
+returns-then-nest_deeper-clause-deep c refused f file =
+    let same = c.in_ok-layout.ensures.same f file.file.layout file.file.lengths in
+    let deeper = rw c.if-nest_deeper.true at c.nest_deeper.ensures.deeper in
+    deeper (subst (NestWithin c.args.depth) (sym same) file.shallow)
+
+pub returns-then-not-is_in_form-clause-refused : goal.returns-then-not-is_in_form-clause-refused
+returns-then-not-is_in_form-clause-refused c f file =
+    let same = c.in_ok-layout.ensures.same f file.layout file.lengths in
+    let failed : c.is_in_form.result ≡ false = search rules in
+    absurd (not_both c.is_in_form.result failed
+    (c.is_in_form.ensures.1 (subst IsInForm (sym same) file.form)))
+
+pub returns-in_err-layout-clause-length_refused : goal.returns-in_err-layout-clause-length_refused
+returns-in_err-layout-clause-length_refused c f layout unfit =
+    told_refusal c.from_residual.result c.in_err-layout.field-0.0
+    (λ e. (e ≡ WrongLength) ⊎ (e ≡ OutOfMemory)) c.from_residual.ensures.1
+    (c.in_err-layout.ensures.length_refused f layout unfit)

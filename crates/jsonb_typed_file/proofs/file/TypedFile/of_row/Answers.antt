@@ -1,0 +1,101 @@
+use Rattle.std.proofs.Common.{rules, ◌≡◌, ◌<◌, ◌⊎◌, Some, false, inr, sym, ap, subst, ◌∙◌}
+use Rattle.std.specs.Prelude.{IsTrue}
+use Rattle.jsonb_typed_file.specs.File.{IsInForm, LengthsFit, NestWithin, row_count}
+use Rattle.jsonb_typed_file.specs.OneRow.{IsRowOf, file_of_row}
+use Rattle.jsonb_typed_file.specs.Views.{layout_view}
+use Rattle.jsonb_typed_file.specs.declared.error.FileError.TheVariants.{OutOfMemory, TooDeep}
+use Rattle.jsonb_typed_file.specs.declared.error.FileError.TheVariants.{WrongLength}
+use Rattle.jsonb_typed_file.proofs.FormLaws.{not_both}
+use Rattle.jsonb_typed_file.proofs.LayoutLaws.{told, told_refusal}
+use Rattle.jsonb_typed_file.proofs.OneRowLaws.{row_fits, row_in_form, row_of, row_within}
+use Rattle.jsonb_typed_file.proofs.file.TypedFile.of_row.Goals as goal
+
+pub returns-in_err-layout-clause-memory : goal.returns-in_err-layout-clause-memory
+returns-in_err-layout-clause-memory c f file rest =
+    told c.from_residual.result c.in_err-layout.field-0.0 (λ e. e ≡ OutOfMemory)
+    c.from_residual.ensures.1 (c.in_err-layout.ensures.memory f file.layout file.lengths)
+
+pub returns-in_err-layout-clause-refused : goal.returns-in_err-layout-clause-refused
+returns-in_err-layout-clause-refused c f file =
+    told c.from_residual.result c.in_err-layout.field-0.0
+    (λ e. (e ≡ TooDeep) ⊎ (e ≡ OutOfMemory)) c.from_residual.ensures.1
+    (inr (c.in_err-layout.ensures.memory f file.layout file.lengths))
+
+pub nest_deeper-requires : goal.nest_deeper-requires
+nest_deeper-requires c =
+    let all = layout_view c.in_ok-layout.layout in
+    let low : c.args.index < row_count all = search rules in
+    subst LengthsFit (sym c.in_ok-one.ensures)
+    (row_fits all c.args.index c.in_ok-layout.ensures.lengths low)
+
+pub is_in_form-requires : goal.is_in_form-requires
+is_in_form-requires c =
+    let all = layout_view c.in_ok-layout.layout in
+    let low : c.args.index < row_count all = search rules in
+    subst LengthsFit (sym c.in_ok-one.ensures)
+    (row_fits all c.args.index c.in_ok-layout.ensures.lengths low)
+
+pub returns-then-nest_deeper-clause-memory : goal.returns-then-nest_deeper-clause-memory
+returns-then-nest_deeper-clause-memory c f file rest =
+    let same = c.in_ok-layout.ensures.same f file.layout file.lengths in
+    let low : c.args.index < row_count (layout_view c.in_ok-layout.layout) = search rules in
+    let one = c.in_ok-one.ensures ∙ ap (λ g. file_of_row g c.args.index) same in
+    let deeper = rw c.if-nest_deeper.true at c.nest_deeper.ensures.deeper in
+    absurd (deeper (subst (NestWithin (Some c.args.depth)) (sym one)
+    (row_within c.args.depth f c.args.index file.lengths
+    (subst (λ g. c.args.index < row_count g) same low) rest)))
+
+pub returns-then-not-is_in_form-clause-memory : goal.returns-then-not-is_in_form-clause-memory
+returns-then-not-is_in_form-clause-memory c f file rest =
+    let same = c.in_ok-layout.ensures.same f file.layout file.lengths in
+    let failed : c.is_in_form.result ≡ false = search rules in
+    let low : c.args.index < row_count (layout_view c.in_ok-layout.layout) = search rules in
+    let one = c.in_ok-one.ensures ∙ ap (λ g. file_of_row g c.args.index) same in
+    absurd (not_both c.is_in_form.result failed
+    (c.is_in_form.ensures.1 (subst IsInForm (sym one)
+    (row_in_form f c.args.index file.lengths file.form
+    (subst (λ g. c.args.index < row_count g) same low)))))
+
+pub returns-then-not-is_in_form-clause-refused : goal.returns-then-not-is_in_form-clause-refused
+returns-then-not-is_in_form-clause-refused c f file =
+    let same = c.in_ok-layout.ensures.same f file.layout file.lengths in
+    let failed : c.is_in_form.result ≡ false = search rules in
+    let low : c.args.index < row_count (layout_view c.in_ok-layout.layout) = search rules in
+    let one = c.in_ok-one.ensures ∙ ap (λ g. file_of_row g c.args.index) same in
+    absurd (not_both c.is_in_form.result failed
+    (c.is_in_form.ensures.1 (subst IsInForm (sym one)
+    (row_in_form f c.args.index file.lengths file.form
+    (subst (λ g. c.args.index < row_count g) same low)))))
+
+pub returns-clause-row : goal.returns-clause-row
+returns-clause-row c f layout lengths =
+    let same = c.in_ok-layout.ensures.same f layout lengths in
+    let low : c.args.index < row_count (layout_view c.in_ok-layout.layout) = search rules in
+    let under = subst (λ g. c.args.index < row_count g) same low in
+    let one = c.in_ok-one.ensures ∙ ap (λ g. file_of_row g c.args.index) same in (
+      under,
+      subst (IsRowOf f c.args.index) (sym one) (row_of f c.args.index lengths under),
+    )
+
+pub returns-clause-within : goal.returns-clause-within
+returns-clause-within c =
+    let formed : IsTrue c.is_in_form.result = search rules in
+    let failed : c.nest_deeper.result ≡ false = search rules in
+    let within = rw failed at c.nest_deeper.ensures.within in
+    within (c.is_in_form.ensures.0 formed) 0
+
+pub invariant_of-result : goal.invariant_of-result
+invariant_of-result c =
+    let formed : IsTrue c.is_in_form.result = search rules in
+    let all = layout_view c.in_ok-layout.layout in
+    let low : c.args.index < row_count all = search rules in (
+      subst LengthsFit (sym c.in_ok-one.ensures)
+          (row_fits all c.args.index c.in_ok-layout.ensures.lengths low),
+      c.is_in_form.ensures.0 formed,
+    )
+
+pub returns-in_err-layout-clause-length_refused : goal.returns-in_err-layout-clause-length_refused
+returns-in_err-layout-clause-length_refused c f layout unfit =
+    told_refusal c.from_residual.result c.in_err-layout.field-0.0
+    (λ e. (e ≡ WrongLength) ⊎ (e ≡ OutOfMemory)) c.from_residual.ensures.1
+    (c.in_err-layout.ensures.length_refused f layout unfit)

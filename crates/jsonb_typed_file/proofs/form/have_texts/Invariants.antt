@@ -1,0 +1,16 @@
+-- The texts of the columns so far are texts.
+use Rattle.std.proofs.Common.{map, length}
+use Rattle.std.specs.Prelude.{◌↔◌}
+use Rattle.jsonb_typed_file.specs.File.{HaveRows, HaveTexts}
+use Rattle.jsonb_typed_file.specs.Views.{buffers_view}
+use Rattle.jsonb_typed_file.proofs.form.have_texts.Given as goal
+
+abbrev pub invariant-loop-left : goal.invariant-loop-left
+invariant-loop-left l = record {
+  size : HaveRows l.rows (map buffers_view l.left);
+  texts : HaveTexts l.rows (map buffers_view l.columns)
+      ↔ HaveTexts l.rows (map buffers_view l.left);
+}
+
+abbrev pub decreases-loop-left : goal.decreases-loop-left
+decreases-loop-left l = length l.left

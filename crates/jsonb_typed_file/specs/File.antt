@@ -1,0 +1,74 @@
+-- Which bytes are a file of typed columns.
+use Rattle.std.specs.Prelude.{◌≡◌, ◌<◌, ◌≤◌, ◌-◌, ◌/◌, ◌%◌, ⊤, ℕ, nat_lt, List, [], ◌∷◌}
+use Rattle.std.specs.Prelude.{IfSome, Option, None, Some, bytes_eq, if◌then◌else◌, length}
+use Rattle.std.specs.Cmp.Lexicographic.{slice_cmp}
+use Rattle.std.specs.Ordering.{nat_cmp}
+use Rattle.std.specs.declared.cmp.Ordering.TheVariants.{Less}
+use Rattle.jsonb_codec.specs.Depth.{IsDocumentWithin}
+use Rattle.jsonb_codec.specs.Doc.{IsDocument}
+use Rattle.jsonb_typed_file.specs.Layout.{Contents, IsLayout, Parts}
+use Rattle.jsonb_typed_file.specs.Values.{AreTexts, HasRows, IsWithin, string_at}
+
+-- The number of rows, one fewer than there are offsets of eight bytes.
+abbrev pub row_count : Contents → ℕ
+row_count f = length f.offsets / 8 - 1
+
+-- The columns have so many rows.
+abbrev pub HaveRows : ℕ → List Parts → Type 0
+HaveRows rows [] = ⊤
+HaveRows rows (p ∷ ps) = HasRows rows p × HaveRows rows ps
+
+-- Their texts are texts.
+abbrev pub HaveTexts : ℕ → List Parts → Type 0
+HaveTexts rows [] = ⊤
+HaveTexts rows (p ∷ ps) = AreTexts rows p × HaveTexts rows ps
+
+-- Each buffer is as long as that of so many rows.
+pub record LengthsFit (f : Contents) : Type 0 where
+  pub some : 8 ≤ length f.offsets
+  pub whole : length f.offsets % 8 ≡ 0
+  pub columns : HaveRows (row_count f) f.columns
+
+-- The names ascend strictly by their bytes.
+abbrev pub AscendNames : Option (List ℕ) → List Parts → Type 0
+AscendNames before [] = ⊤
+AscendNames before (p ∷ ps) =
+    IfSome before (λ b. slice_cmp nat_cmp b p.name ≡ Less) × AscendNames (Some p.name) ps
+
+-- The rest of a row is a document.
+abbrev pub IsRest : List ℕ → List ℕ → ℕ → Type 0
+IsRest offsets documents index =
+    IsWithin offsets documents index × IsDocument (string_at offsets documents index)
+
+-- The names ascend, the texts are texts, and the rest of each row is a document.
+pub record IsInForm (f : Contents) : Type 0 where
+  pub names : AscendNames None f.columns
+  pub texts : HaveTexts (row_count f) f.columns
+  pub rests : (index : ℕ) → index < row_count f → IsRest f.offsets f.documents index
+
+-- The bytes are this file.
+pub record IsFile (f : Contents) (bytes : List ℕ) : Type 0 where
+  pub layout : IsLayout f bytes
+  pub lengths : LengthsFit f
+  pub form : IsInForm f
+
+-- The rests of all rows nest at most so deep, if there is a limit.
+abbrev pub NestWithin : Option ℕ → Contents → Type 0
+NestWithin None f = ⊤
+NestWithin (Some depth) f = (index : ℕ) → index < row_count f
+    → IsDocumentWithin depth (string_at f.offsets f.documents index)
+
+-- The bytes are this file, whose rests nest at most so deep, if there is a limit.
+pub record IsFileWithin (depth : Option ℕ) (f : Contents) (bytes : List ℕ) : Type 0 where
+  pub file : IsFile f bytes
+  pub shallow : NestWithin depth f
+
+-- The column of this name.
+abbrev pub column_named : List ℕ → List Parts → Option Parts
+column_named name [] = None
+column_named name (p ∷ ps) = if bytes_eq p.name name then Some p else column_named name ps
+
+-- The bytes of a row's rest, if there is such a row.
+abbrev pub rest_at : Contents → ℕ → Option (List ℕ)
+rest_at f index =
+    if nat_lt index (row_count f) then Some (string_at f.offsets f.documents index) else None

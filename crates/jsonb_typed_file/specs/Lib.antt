@@ -1,0 +1,10 @@
+pub mod File
+pub mod Layout
+pub mod OneRow
+pub mod Places
+pub mod Rows
+pub mod ValueViews
+pub mod Values
+pub mod Views
+pub mod Words
+pub mod Written

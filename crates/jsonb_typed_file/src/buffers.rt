@@ -1,0 +1,200 @@
+//! The buffers of a column, where they lie in a file.
+
+ghost use Rattle.std.specs.Prelude.{◌≡◌, ◌<◌, ◌≤◌, ◌+◌, ◌-◌, ◌*◌, ◌/◌, ◌^◌, ◌↔◌, IsTrue};
+ghost use Rattle.std.specs.Prelude.{MatchOption, length, option_map, ℕ};
+ghost use Rattle.jsonb_typed_file.specs.Words.{AreTexts, HasRows, HasTexts, IsText, IsWithin};
+ghost use Rattle.jsonb_typed_file.specs.Words.{buffers_view, cell_at, is_set, number_size};
+ghost use Rattle.jsonb_typed_file.specs.Words.{string_at, value_tree, value_view};
+ghost use Rattle.jsonb_typed_file.specs.OneRow.{column_of_row, flags_of_row};
+
+use crate::column::StoredValue;
+use crate::fixed::{fixed_value, value_size};
+use crate::strings::Strings;
+use crate::types::StoredType;
+use jsonb::ExtensionValue;
+
+/// A column's name, its type and its buffers.
+#[derive(Clone, Copy, Debug)]
+pub struct Buffers<'a> {
+    pub name: &'a str,
+    pub column_type: StoredType,
+    pub flags: &'a [u8],
+    pub numbers: &'a [u8],
+    pub texts: &'a [u8],
+}
+
+impl<'a> Buffers<'a> {
+    // What a row has in the column, of so many rows.
+    pub fn cell(&self, rows: usize, index: usize) -> Option<StoredValue<'a>>
+        requires size { HasRows rows (buffers_view self.now) }
+        requires texts { AreTexts rows (buffers_view self.now) }
+        requires within { index < rows }
+        ensures { option_map value_view result ≡ cell_at (buffers_view self.now) index }
+    {
+        if is_set(self.flags, index) {
+            self.stored(rows, index)
+        } else {
+            None
+        }
+    }
+
+    // What is in the buffers at a row, set or not.
+    #[tactic(auto, using(crate::proofs::FixedLaws::value_within))]
+    fn stored(&self, rows: usize, index: usize) -> Option<StoredValue<'a>>
+        requires size { HasRows rows (buffers_view self.now) }
+        requires texts { AreTexts rows (buffers_view self.now) }
+        requires within { index < rows }
+        ensures { option_map value_view result
+            ≡ value_tree self.now.column_type self.now.numbers.now self.now.texts.now index }
+    {
+        match self.column_type {
+            StoredType::Text => match self.text(index) {
+                Some(text) => Some(StoredValue::Text(text)),
+                None => None,
+            },
+            StoredType::Binary => match self.bytes(index) {
+                Some(bytes) => Some(StoredValue::Extension(ExtensionValue::Binary(bytes))),
+                None => None,
+            },
+            column_type => {
+                let start = value_size(column_type) * index;
+                fixed_value(column_type, &self.numbers[start..])
+            }
+        }
+    }
+
+    // The text of a row. `None` if its offsets are not in order, or it is no text.
+    fn text(&self, index: usize) -> Option<&'a str>
+        requires { 8 * (index + 2) ≤ length self.now.numbers.now }
+        ensures { MatchOption result
+            (IsText StoredType.Text self.now.numbers.now self.now.texts.now index → ⊥)
+            (λ text. IsText StoredType.Text self.now.numbers.now self.now.texts.now index
+            × (text.now ≡ string_at self.now.numbers.now self.now.texts.now index)) }
+    {
+        str::from_utf8(self.bytes(index)?).ok()
+    }
+
+    // The bytes of a row's text or binary value. `None` if its offsets are not in order.
+    fn bytes(&self, index: usize) -> Option<&'a [u8]>
+        requires { 8 * (index + 2) ≤ length self.now.numbers.now }
+        ensures { MatchOption result
+            (IsWithin self.now.numbers.now self.now.texts.now index → ⊥)
+            (λ bytes. IsWithin self.now.numbers.now self.now.texts.now index
+            × (bytes.now ≡ string_at self.now.numbers.now self.now.texts.now index)) }
+    {
+        let strings = Strings {
+            offsets: self.numbers,
+            bytes: self.texts,
+        };
+        strings.at(index)
+    }
+
+    // Whether a row has a text, or a binary value, if the column is of these.
+    fn is_text(&self, index: usize) -> bool
+        requires { 8 * (index + 2) ≤ length self.now.numbers.now }
+        ensures { IsTrue result
+            ↔ IsText self.now.column_type self.now.numbers.now self.now.texts.now index }
+    {
+        match self.column_type {
+            StoredType::Text => self.text(index).is_some(),
+            StoredType::Binary => self.bytes(index).is_some(),
+            _ => true,
+        }
+    }
+
+    // Whether the buffers are as long as those of so many rows.
+    pub fn has_rows(&self, rows: usize) -> bool
+        requires { rows < 2 ^ 60 - 1 }
+        ensures { IsTrue result ↔ HasRows rows (buffers_view self.now) }
+    {
+        self.flags.len() == rows.div_ceil(8)
+            && self.numbers.len() == number_size(self.column_type, rows)
+            && has_texts(self.column_type, self.texts)
+    }
+
+    // Whether the texts of so many rows are texts.
+    pub fn are_texts(&self, rows: usize) -> bool
+        requires { HasRows rows (buffers_view self.now) }
+        ensures { IsTrue result ↔ AreTexts rows (buffers_view self.now) }
+    {
+        match self.column_type {
+            StoredType::Text | StoredType::Binary => self.all_texts(rows),
+            _ => true,
+        }
+    }
+
+    // The column of one of the rows alone.
+    pub fn row_alone(&self, rows: usize, index: usize) -> Buffers<'a>
+        requires size { HasRows rows (buffers_view self.now) }
+        requires few { rows < 2 ^ 60 - 1 }
+        requires within { index < rows }
+        ensures { buffers_view result ≡ column_of_row (buffers_view self.now) index }
+    {
+        let start = number_size(self.column_type, index) - number_size(self.column_type, 0);
+        let end = number_size(self.column_type, index + 1);
+        Buffers {
+            name: self.name,
+            column_type: self.column_type,
+            flags: flags_of_row(self.flags, index),
+            numbers: &self.numbers[start..end],
+            texts: self.texts,
+        }
+    }
+
+    // The same of a column of texts or binary values.
+    fn all_texts(&self, rows: usize) -> bool
+        requires { length self.now.numbers.now ≡ 8 * (rows + 1) }
+        ensures { IsTrue result ↔ ((index : ℕ) → index < rows
+            → IsText self.now.column_type self.now.numbers.now self.now.texts.now index) }
+    {
+        for index in 0..rows {
+            if !self.is_text(index) {
+                return false;
+            }
+        }
+        true
+    }
+}
+
+// Whether a row has a value.
+fn is_set(flags: &[u8], index: usize) -> bool
+    requires { index / 8 < length flags.now }
+    ensures { result ≡ is_set flags.now index }
+{
+    flags[index / 8] >> (index % 8) & 1 == 1
+}
+
+// The flags of one row that has a value, and of one that has none.
+const SET: &[u8] = &[1];
+
+const UNSET: &[u8] = &[0];
+
+// The flags of one of the rows alone.
+fn flags_of_row(flags: &[u8], index: usize) -> &'static [u8]
+    requires { index / 8 < length flags.now }
+    ensures { result.now ≡ flags_of_row flags.now index }
+{
+    if is_set(flags, index) { SET } else { UNSET }
+}
+
+// How many bytes the numbers of so many rows take.
+#[tactic(auto, using(crate::proofs::FixedLaws::values_few))]
+fn number_size(column_type: StoredType, rows: usize) -> usize
+    requires { rows < 2 ^ 60 - 1 }
+    ensures { result ≡ number_size column_type rows }
+{
+    match column_type {
+        StoredType::Text | StoredType::Binary => 8 * (rows + 1),
+        _ => value_size(column_type) * rows,
+    }
+}
+
+// Whether there are no bytes of texts but in a column of texts or binary values.
+fn has_texts(column_type: StoredType, texts: &[u8]) -> bool
+    ensures { IsTrue result ↔ HasTexts column_type texts.now }
+{
+    match column_type {
+        StoredType::Text | StoredType::Binary => true,
+        _ => texts.is_empty(),
+    }
+}

@@ -1,0 +1,109 @@
+//! A column of a file.
+
+ghost use Rattle.std.specs.Prelude.{◌≡◌, option_map};
+ghost use Rattle.jsonb_typed_file.specs.Words.{Column, IsChecked, buffers_view, cell_within};
+ghost use Rattle.jsonb_typed_file.specs.Words.{value_view};
+
+use crate::buffers::Buffers;
+use crate::types::StoredType;
+use jsonb::{ExtensionValue, Number};
+use std::marker::Model;
+
+/// A column of a file, which was checked: its name, its type and its buffers, where they lie in the
+/// file.
+#[derive(Drop)]
+pub struct StoredColumn<'a> {
+    rows: usize,
+    buffers: Buffers<'a>,
+}
+
+// In contracts a column is its parts and the number of rows.
+impl<'a> Model for StoredColumn<'a> {
+    ghost Value = { Column };
+
+    ghost view = { λ s. record { rows = s.rows; parts = buffers_view s.buffers } };
+
+    ghost invariant = { λ s. IsChecked s.rows (buffers_view s.buffers) };
+}
+
+/// A value of a stored column.
+#[derive(Clone, Copy, Debug, PartialEq)]
+pub enum StoredValue<'a> {
+    /// `true` or `false`.
+    Boolean(bool),
+    /// A number, in the kind that its digits have in a JSON text.
+    Number(Number),
+    /// A text.
+    Text(&'a str),
+    /// A date, a timestamp without a time zone or with one, an interval or a binary value.
+    Extension(ExtensionValue<'a>),
+}
+
+impl<'a> StoredColumn<'a> {
+    // The column of these buffers, which were checked.
+    pub(crate) fn new(rows: usize, buffers: Buffers<'a>) -> Self
+        requires { IsChecked rows (buffers_view buffers) }
+        ensures { result ≡ record { rows = rows; parts = buffers_view buffers.entry } }
+    {
+        StoredColumn { rows, buffers }
+    }
+
+    /// The number of rows of the file.
+    pub fn len(&self) -> usize
+        ensures { result ≡ self.now.rows }
+    {
+        self.rows
+    }
+
+    /// The key of the members that stand in the column.
+    pub fn name(&self) -> &'a str
+        ensures { result.now ≡ self.now.parts.name }
+    {
+        self.buffers.name
+    }
+
+    /// The type of the values.
+    pub fn column_type(&self) -> StoredType
+        ensures { result ≡ self.now.parts.type }
+    {
+        self.buffers.column_type
+    }
+
+    /// The value of a row, counted from 0. `None` if the row has none in the column, or the index
+    /// is not below the number of rows.
+    pub fn value(&self, index: usize) -> Option<StoredValue<'a>>
+        ensures { option_map value_view result
+            ≡ cell_within self.now.rows self.now.parts index }
+    {
+        if index < self.rows {
+            self.buffers.cell(self.rows, index)
+        } else {
+            None
+        }
+    }
+
+    /// Which rows have a value in the column: a bit for each, eight in a byte, the first in the
+    /// lowest bit.
+    pub fn flags(&self) -> &'a [u8]
+        ensures { result.now ≡ self.now.parts.flags }
+    {
+        self.buffers.flags
+    }
+
+    /// The numbers, the highest byte first: 8 bytes for each row, 16 of decimals, and 1 of
+    /// booleans. A date has 4; a timestamp with a zone has 8 and then 4 of the offset, and an
+    /// interval 4 of months, 4 of days and 8 of microseconds. Of texts and binary values they are
+    /// offsets of 8 bytes, one more than there are rows.
+    pub fn numbers(&self) -> &'a [u8]
+        ensures { result.now ≡ self.now.parts.numbers }
+    {
+        self.buffers.numbers
+    }
+
+    /// The bytes of all texts or binary values, one after another.
+    pub fn texts(&self) -> &'a [u8]
+        ensures { result.now ≡ self.now.parts.texts }
+    {
+        self.buffers.texts
+    }
+}

@@ -1,0 +1,301 @@
+//! A file of typed columns, read where it lies.
+
+ghost use Rattle.std.specs.Prelude.{◌≡◌, ◌≢◌, ◌++◌, ◌⊎◌, ◌↔◌, ℕ, List, Err, IfErr, IfOk, IsErrAnd};
+ghost use Rattle.std.specs.Prelude.{◌<◌, ◌≤◌, IfSome, MatchOption, None, Some, length, map};
+ghost use Rattle.std.specs.Prelude.{option_map};
+ghost use Rattle.jsonb_typed_file.specs.Words.{Contents, HasNoMagic, HasOtherVersion};
+ghost use Rattle.jsonb_typed_file.specs.Words.{HasTrailingData, IsFile, IsFileWithin, IsInForm};
+ghost use Rattle.jsonb_typed_file.specs.Words.{IsLayout, layout_view};
+ghost use Rattle.jsonb_typed_file.specs.Words.{LengthsFit, buffers_view, column_named};
+ghost use Rattle.jsonb_typed_file.specs.Words.{IsMade, document_bytes, rest_at, row_count};
+ghost use Rattle.jsonb_typed_file.specs.Words.{HaveRows, HaveTexts, row_tree};
+ghost use Rattle.jsonb_typed_file.specs.OneRow.{IsRowOf, IsRowWithin};
+
+use crate::buffers::Buffers;
+use crate::column::StoredColumn;
+use crate::error::FileError;
+use crate::form::{is_in_form, lengths_fit, nest_deeper};
+use crate::layout::{Layout, read_layout};
+use crate::one_row::layout_of_row;
+use crate::row::whole_row;
+use crate::strings::Strings;
+use jsonb::{Document, Error, OwnedJsonb};
+use std::alloc::Global;
+use std::marker::Model;
+
+/// A file of typed columns, whose bytes were checked once and are read where they lie.
+#[derive(Drop)]
+pub struct TypedFile<'a> {
+    rests: Strings<'a>,
+    columns: Vec<Buffers<'a>>,
+}
+
+// In contracts a file is what it is made of.
+impl<'a> Model for TypedFile<'a> {
+    ghost Value = { Contents };
+
+    ghost view = { λ s. record {
+      offsets = s.rests.offsets.now;
+      documents = s.rests.bytes.now;
+      columns = map buffers_view s.columns.items;
+    } };
+
+    ghost invariant = { λ s. LengthsFit (record {
+      offsets = s.rests.offsets.now;
+      documents = s.rests.bytes.now;
+      columns = map buffers_view s.columns.items;
+    }) × IsInForm (record {
+      offsets = s.rests.offsets.now;
+      documents = s.rests.bytes.now;
+      columns = map buffers_view s.columns.items;
+    }) };
+}
+
+impl<'a> TypedFile<'a> {
+    /// Checks the bytes of a file once. `BadMagic` if they do not begin as one, `UnknownVersion` if
+    /// they have another version than 1, `Cut` if they end before the file does, `TrailingData` if
+    /// they go on after it, `WrongLength` if a buffer is not as long as that of so many rows,
+    /// `OutOfForm` if a type is unknown, the names are not texts that ascend strictly, a text is
+    /// none or the rest of a row is no document, `OutOfMemory` if an allocation fails, that of the
+    /// list of columns. Each length is tested before anything is read or allocated by it.
+    pub fn new(alloc: Global, bytes: &'a [u8]) -> Result<Self, FileError>
+        ensures ok { IfOk result (λ file. IsFile file bytes.entry.now) }
+        ensures same { (f : Contents) → IsFile f bytes.entry.now
+            → IfOk result (λ file. file ≡ f) }
+        ensures memory { (f : Contents) → IsFile f bytes.entry.now
+            → IfErr result (λ e. e ≡ FileError.OutOfMemory) }
+        ensures magic { result ≡ Err FileError.BadMagic ↔ HasNoMagic bytes.entry.now }
+        ensures version { result ≡ Err FileError.UnknownVersion ↔ HasOtherVersion bytes.entry.now }
+        ensures cut { result ≡ Err FileError.Cut → (f : Contents) (front more : List ℕ)
+            → IsLayout f front → bytes.entry.now ≡ front ++ more → ⊥ }
+        ensures trailing { result ≡ Err FileError.TrailingData → HasTrailingData bytes.entry.now }
+        ensures trailing_refused { HasTrailingData bytes.entry.now → IsErrAnd result
+            (λ e. (e ≡ FileError.TrailingData) ⊎ (e ≡ FileError.OutOfMemory)) }
+        ensures length { result ≡ Err FileError.WrongLength → (f : Contents)
+            → IsLayout f bytes.entry.now → LengthsFit f → ⊥ }
+        ensures length_refused { (f : Contents) → IsLayout f bytes.entry.now
+            → (LengthsFit f → ⊥) → IsErrAnd result
+            (λ e. (e ≡ FileError.WrongLength) ⊎ (e ≡ FileError.OutOfMemory)) }
+        ensures form { result ≡ Err FileError.OutOfForm → (f : Contents)
+            → IsFile f bytes.entry.now → ⊥ }
+        ensures deep { IfErr result (λ e. e ≢ FileError.TooDeep) }
+    {
+        TypedFile::checked(alloc, bytes, None)
+    }
+
+    /// Checks the bytes of a file as `new` does, and the depth of its rests: a scalar has depth 0,
+    /// an empty array or object 1, any other array or object one more than its deepest child.
+    /// `TooDeep` if the rest of a row nests deeper than `depth` levels; levels beyond are not
+    /// examined. The other errors are those of `new`.
+    pub fn within(alloc: Global, bytes: &'a [u8], depth: usize) -> Result<Self, FileError>
+        ensures ok { IfOk result (λ file. IsFileWithin (Some depth) file bytes.entry.now) }
+        ensures same { (f : Contents) → IsFileWithin (Some depth) f bytes.entry.now
+            → IfOk result (λ file. file ≡ f) }
+        ensures memory { (f : Contents) → IsFileWithin (Some depth) f bytes.entry.now
+            → IfErr result (λ e. e ≡ FileError.OutOfMemory) }
+        ensures magic { result ≡ Err FileError.BadMagic ↔ HasNoMagic bytes.entry.now }
+        ensures version { result ≡ Err FileError.UnknownVersion ↔ HasOtherVersion bytes.entry.now }
+        ensures cut { result ≡ Err FileError.Cut → (f : Contents) (front more : List ℕ)
+            → IsLayout f front → bytes.entry.now ≡ front ++ more → ⊥ }
+        ensures trailing { result ≡ Err FileError.TrailingData → HasTrailingData bytes.entry.now }
+        ensures trailing_refused { HasTrailingData bytes.entry.now → IsErrAnd result
+            (λ e. (e ≡ FileError.TrailingData) ⊎ (e ≡ FileError.OutOfMemory)) }
+        ensures length { result ≡ Err FileError.WrongLength → (f : Contents)
+            → IsLayout f bytes.entry.now → LengthsFit f → ⊥ }
+        ensures length_refused { (f : Contents) → IsLayout f bytes.entry.now
+            → (LengthsFit f → ⊥) → IsErrAnd result
+            (λ e. (e ≡ FileError.WrongLength) ⊎ (e ≡ FileError.OutOfMemory)) }
+        ensures form { result ≡ Err FileError.OutOfForm → (f : Contents)
+            → IsFile f bytes.entry.now → ⊥ }
+        ensures deep { result ≡ Err FileError.TooDeep → (f : Contents)
+            → IsFileWithin (Some depth) f bytes.entry.now → ⊥ }
+        ensures refused { (f : Contents) → IsFile f bytes.entry.now
+            → IfErr result (λ e. (e ≡ FileError.TooDeep) ⊎ (e ≡ FileError.OutOfMemory)) }
+    {
+        TypedFile::checked(alloc, bytes, Some(depth))
+    }
+
+    // The same with a limit of depth or without one.
+    fn checked(alloc: Global, bytes: &'a [u8], depth: Option<usize>) -> Result<Self, FileError>
+        ensures ok { IfOk result (λ file. IsFileWithin depth file bytes.entry.now) }
+        ensures same { (f : Contents) → IsFileWithin depth f bytes.entry.now
+            → IfOk result (λ file. file ≡ f) }
+        ensures memory { (f : Contents) → IsFileWithin depth f bytes.entry.now
+            → IfErr result (λ e. e ≡ FileError.OutOfMemory) }
+        ensures magic { result ≡ Err FileError.BadMagic ↔ HasNoMagic bytes.entry.now }
+        ensures version { result ≡ Err FileError.UnknownVersion ↔ HasOtherVersion bytes.entry.now }
+        ensures cut { result ≡ Err FileError.Cut → (f : Contents) (front more : List ℕ)
+            → IsLayout f front → bytes.entry.now ≡ front ++ more → ⊥ }
+        ensures trailing { result ≡ Err FileError.TrailingData → HasTrailingData bytes.entry.now }
+        ensures trailing_refused { HasTrailingData bytes.entry.now → IsErrAnd result
+            (λ e. (e ≡ FileError.TrailingData) ⊎ (e ≡ FileError.OutOfMemory)) }
+        ensures length { result ≡ Err FileError.WrongLength → (f : Contents)
+            → IsLayout f bytes.entry.now → LengthsFit f → ⊥ }
+        ensures length_refused { (f : Contents) → IsLayout f bytes.entry.now
+            → (LengthsFit f → ⊥) → IsErrAnd result
+            (λ e. (e ≡ FileError.WrongLength) ⊎ (e ≡ FileError.OutOfMemory)) }
+        ensures form { result ≡ Err FileError.OutOfForm → (f : Contents)
+            → IsFile f bytes.entry.now → ⊥ }
+        ensures deep { result ≡ Err FileError.TooDeep → (f : Contents)
+            → IsFileWithin depth f bytes.entry.now → ⊥ }
+        ensures refused { (f : Contents) → IsFile f bytes.entry.now
+            → IfErr result (λ e. (e ≡ FileError.TooDeep) ⊎ (e ≡ FileError.OutOfMemory)) }
+        ensures unlimited { depth ≡ None → IfErr result (λ e. e ≢ FileError.TooDeep) }
+    {
+        let layout = read_sized(alloc, bytes)?;
+        if nest_deeper(&layout, depth) {
+            return Err(FileError::TooDeep);
+        }
+        if !is_in_form(&layout) {
+            return Err(FileError::OutOfForm);
+        }
+        let Layout { rests, columns } = layout;
+        Ok(TypedFile { rests, columns })
+    }
+
+    /// The file of one of the rows alone, counted from 0: only that row is read, and checked as
+    /// `within` checks all of them. `None` if the index is not below the number of rows. `TooDeep`
+    /// if the rest of the row nests deeper than `depth` levels; levels beyond are not examined.
+    /// `OutOfMemory` if an allocation fails, that of the list of columns; the errors of `new` of
+    /// bytes that are no file.
+    pub fn of_row(
+        alloc: Global,
+        bytes: &'a [u8],
+        index: usize,
+        depth: usize,
+    ) -> Result<Option<Self>, FileError>
+        ensures row { (f : Contents) → IsLayout f bytes.entry.now → LengthsFit f → IfOk result
+            (λ one. MatchOption one (row_count f ≤ index)
+            (λ g. (index < row_count f) × IsRowOf f index g)) }
+        ensures laid_out { IfOk result (λ one. (f : Contents) × (IsLayout f bytes.entry.now
+            × LengthsFit f)) }
+        ensures within { IfOk result (λ one. IfSome one (λ g. IsRowWithin depth g 0)) }
+        ensures memory { (f : Contents) → IsFile f bytes.entry.now → IsRowWithin depth f index
+            → IfErr result (λ e. e ≡ FileError.OutOfMemory) }
+        ensures refused { (f : Contents) → IsFile f bytes.entry.now
+            → IfErr result (λ e. (e ≡ FileError.TooDeep) ⊎ (e ≡ FileError.OutOfMemory)) }
+        ensures magic { result ≡ Err FileError.BadMagic ↔ HasNoMagic bytes.entry.now }
+        ensures version { result ≡ Err FileError.UnknownVersion ↔ HasOtherVersion bytes.entry.now }
+        ensures cut { result ≡ Err FileError.Cut → (f : Contents) (front more : List ℕ)
+            → IsLayout f front → bytes.entry.now ≡ front ++ more → ⊥ }
+        ensures trailing { result ≡ Err FileError.TrailingData → HasTrailingData bytes.entry.now }
+        ensures trailing_refused { HasTrailingData bytes.entry.now → IsErrAnd result
+            (λ e. (e ≡ FileError.TrailingData) ⊎ (e ≡ FileError.OutOfMemory)) }
+        ensures length { result ≡ Err FileError.WrongLength → (f : Contents)
+            → IsLayout f bytes.entry.now → LengthsFit f → ⊥ }
+        ensures length_refused { (f : Contents) → IsLayout f bytes.entry.now
+            → (LengthsFit f → ⊥) → IsErrAnd result
+            (λ e. (e ≡ FileError.WrongLength) ⊎ (e ≡ FileError.OutOfMemory)) }
+    {
+        let layout = read_sized(alloc, bytes)?;
+        if layout.rows() <= index {
+            return Ok(None);
+        }
+        let one = layout_of_row(alloc, &layout, index)?;
+        if nest_deeper(&one, Some(depth)) {
+            return Err(FileError::TooDeep);
+        }
+        if !is_in_form(&one) {
+            return Err(FileError::OutOfForm);
+        }
+        let Layout { rests, columns } = one;
+        Ok(Some(TypedFile { rests, columns }))
+    }
+
+    /// The number of columns.
+    pub fn column_count(&self) -> usize
+        ensures { result ≡ length self.now.columns }
+    {
+        self.columns.len()
+    }
+
+    /// The number of rows.
+    pub fn len(&self) -> usize
+        ensures { result ≡ row_count self.now }
+    {
+        self.rests.offsets.len() / 8 - 1
+    }
+
+    /// The column of this name. `None` if there is none. No other column is read.
+    pub fn column(&self, name: &str) -> Option<StoredColumn<'a>>
+        ensures column { option_map (λ c. c.parts) result
+            ≡ column_named name.now self.now.columns }
+        ensures rows { IfSome result (λ c. c.rows ≡ row_count self.now) }
+    {
+        let rows = self.len();
+        let mut left = self.columns.as_slice();
+        while let [column, later @ ..] = left {
+            if column.name == name {
+                return Some(StoredColumn::new(rows, *column));
+            }
+            left = later;
+        }
+        None
+    }
+
+    /// What a row has beside its columns, counted from 0: a document of its other members, or of
+    /// the row if it is no object. `None` if the index is not below the number of rows.
+    pub fn rest(&self, index: usize) -> Option<Document<'a>>
+        ensures { option_map document_bytes result ≡ rest_at self.now index }
+    {
+        if index < self.len() {
+            match self.rests.at(index) {
+                Some(rest) => Some(Document::new_unchecked(rest)),
+                None => None,
+            }
+        } else {
+            None
+        }
+    }
+
+    // The columns, where they lie in the file.
+    pub(crate) fn buffers(&self) -> &[Buffers<'a>]
+        ensures columns { map buffers_view result.now ≡ self.now.columns }
+        ensures size { HaveRows (row_count self.now) (map buffers_view result.now) }
+        ensures texts { HaveTexts (row_count self.now) (map buffers_view result.now) }
+    {
+        &self.columns
+    }
+
+    /// The canonical document of a row, counted from 0: its rest with the members that stand in
+    /// columns, or the rest alone if it is no object. `None` if the index is not below the number
+    /// of rows. `InvalidJsonb` if the row does not fit the format, `OutOfMemory` if an allocation
+    /// fails.
+    pub fn row(&self, alloc: Global, index: usize) -> Option<Result<OwnedJsonb, Error>>
+        ensures { MatchOption result (row_count self.now ≤ index)
+            (λ made. (index < row_count self.now) × IsMade (row_tree self.now index) made) }
+    {
+        match self.rest(index) {
+            Some(rest) => Some(whole_row(alloc, rest, &self.columns, self.len(), index)),
+            None => None,
+        }
+    }
+}
+
+// What a file is made of, whose buffers are each as long as those of so many rows.
+pub(crate) fn read_sized(alloc: Global, bytes: &[u8]) -> Result<Layout<'_>, FileError>
+    ensures ok { IfOk result (λ l. IsLayout (layout_view l) bytes.now) }
+    ensures lengths { IfOk result (λ l. LengthsFit (layout_view l)) }
+    ensures same { (f : Contents) → IsLayout f bytes.now → LengthsFit f
+        → IfOk result (λ l. layout_view l ≡ f) }
+    ensures memory { (f : Contents) → IsLayout f bytes.now → LengthsFit f
+        → IfErr result (λ e. e ≡ FileError.OutOfMemory) }
+    ensures magic { result ≡ Err FileError.BadMagic ↔ HasNoMagic bytes.now }
+    ensures version { result ≡ Err FileError.UnknownVersion ↔ HasOtherVersion bytes.now }
+    ensures cut { result ≡ Err FileError.Cut → (f : Contents) (front more : List ℕ)
+        → IsLayout f front → bytes.now ≡ front ++ more → ⊥ }
+    ensures trailing { result ≡ Err FileError.TrailingData → HasTrailingData bytes.now }
+    ensures trailing_refused { HasTrailingData bytes.now → IsErrAnd result
+        (λ e. (e ≡ FileError.TrailingData) ⊎ (e ≡ FileError.OutOfMemory)) }
+    ensures length { result ≡ Err FileError.WrongLength → (f : Contents)
+        → IsLayout f bytes.now → LengthsFit f → ⊥ }
+    ensures length_refused { (f : Contents) → IsLayout f bytes.now → (LengthsFit f → ⊥)
+        → IsErrAnd result (λ e. (e ≡ FileError.WrongLength) ⊎ (e ≡ FileError.OutOfMemory)) }
+    ensures deep { IfErr result (λ e. e ≢ FileError.TooDeep) }
+{
+    let layout = read_layout(alloc, bytes)?;
+    if !lengths_fit(&layout) {
+        return Err(FileError::WrongLength);
+    }
+    Ok(layout)
+}
