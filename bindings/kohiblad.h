@@ -20,15 +20,15 @@
  * `*length` is set to the number of bytes that the result has, also if they do not fit. Then the
  * status is KOHIBLAD_NO_ROOM and `out` is untouched, and the call can be repeated with more room;
  * `room` 0 gives the length alone. With every other status but KOHIBLAD_OK, `out` is untouched and
- * `*length` is 0. So it is with a `*count` of hashes or places. A struct whose status is not
+ * `*length` is 0. So it is with a `*count` of hashes, places or zones. A struct whose status is not
  * KOHIBLAD_OK has zeros beside it. The calls that differ say so. Texts are UTF-8, without a zero
  * byte at the end.
  *
  * ORDER: if a call has several reasons to refuse, KOHIBLAD_OVERLAP comes first. Then come texts,
  * keys and names that are not UTF-8, in calls with a depth bytes that are not documents within it,
  * what is of another kind, what is past a limit of the format, and last KOHIBLAD_NO_ROOM. The calls
- * that differ say so: kohiblad_parse, kohiblad_text_fault, kohiblad_build_object, kohiblad_sort and
- * the kohiblad_take calls.
+ * that differ say so: kohiblad_parse, kohiblad_text_fault, kohiblad_build_object, kohiblad_sort,
+ * kohiblad_locate and the kohiblad_take calls.
  * KOHIBLAD_OUT_OF_MEMORY comes after the tests for UTF-8 and documents, and in place of any status
  * that would be found later.
  *
@@ -46,12 +46,12 @@
  *
  * STACK: calls with a depth recurse as deep as the document nests, up to that depth.
  * KOHIBLAD_LEVEL_STACK bytes for each level, and KOHIBLAD_CALL_STACK beside them, are enough for
- * all but the three calls below: 64 levels need 72 KB, and 1,000 levels 1,008 KB. Most calls need
+ * all but the five calls below: 64 levels need 72 KB, and 1,000 levels 1,008 KB. Most calls need
  * fewer bytes for each level (these were measured and rounded up, so that 1,000 levels need 258 KB
  * in kohiblad_check):
  *
  *     256 bytes: check, is_canonical, build_array, build_object, exists, object_keys, top_keys,
- *                get_path, path_in
+ *                get_path, path_in, check_typed_file
  *     320 bytes: print, print_at, pretty, pretty_at, key, key_cut, member_key, compare, sort,
  *                array_intersection, array_overlap
  *     448 bytes: canonical, index_keys
@@ -60,14 +60,16 @@
  *     896 bytes: strip_nulls, select_within
  *
  * kohiblad_edit and kohiblad_concat take KOHIBLAD_EDIT_LEVEL_STACK bytes for each level of their
- * result. That of an edit may nest as deep as the path is long and the value nests together, also
- * where these are within the depth; that of kohiblad_concat may nest one level deeper than that.
+ * result, and so do kohiblad_build_typed_file and kohiblad_typed_row for each level of a row. That
+ * of an edit may nest as deep as the path is long and the value nests together, also where these
+ * are within the depth; that of kohiblad_concat may nest one level deeper than that.
  * kohiblad_merge_patch takes KOHIBLAD_PATCH_LEVEL_STACK bytes for each level. parse, text_fault and
  * text_expected do not recurse, but the depth given to kohiblad_parse is also how deep its document
  * nests. The calls without a depth do not recurse.
  *
- * NULL is allowed for bytes, texts, offsets, out and order whose length is 0, and for `key` of
- * kohiblad_next. A `length`, a `count`, a cursor and `value` of kohiblad_next are never null.
+ * NULL is allowed for bytes, texts, offsets, values, states, out and order whose length is 0, and
+ * for `key` of kohiblad_next. A `length`, a `count`, a cursor and `value` of kohiblad_next are
+ * never null.
  *
  * OTHER LANGUAGES: the functions below are inline. They replace null and refuse overlaps, and then
  * call the library's export of the same name. A caller that loads the library by itself calls the
@@ -135,7 +137,13 @@ enum kohiblad_status {
     KOHIBLAD_PAST_RANGE = 15,             /* the number is no whole one of 64 bits */
     KOHIBLAD_OVERLAP = 16,                /* what a call writes overlaps something else */
     KOHIBLAD_BAD_NUMBER = 17,             /* the text has an unfinished or too large number */
-    KOHIBLAD_TOO_MANY_STEPS = 18          /* the call took more steps than it may */
+    KOHIBLAD_TOO_MANY_STEPS = 18,         /* the call took more steps than it may */
+    KOHIBLAD_BAD_MAGIC = 19,              /* the bytes do not begin as a file of typed columns */
+    KOHIBLAD_UNKNOWN_VERSION = 20,        /* the file has another version of the format */
+    KOHIBLAD_TRAILING_DATA = 21,          /* there are bytes after the end of the file */
+    KOHIBLAD_WRONG_LENGTH = 22,           /* a length does not fit the number of rows */
+    KOHIBLAD_OUT_OF_FORM = 23,            /* what is in the file is out of form */
+    KOHIBLAD_NOT_READ_BACK = 24           /* the file did not give its rows back */
 };
 
 /* What may come in a text: kohiblad_text_expected returns the sum of some of them. */
@@ -279,11 +287,96 @@ struct kohiblad_int128 {
     int64_t high;
 };
 
+/* A timestamp with a time zone. */
+struct kohiblad_timestamp_tz {
+    int64_t value;   /* the number that is stored */
+    int32_t seconds; /* the zone's offset */
+};
+
+/* An interval, of three numbers apart. Where the least byte comes first, it lies as Arrow's
+ * interval of months, days and nanoseconds does, with microseconds in their place. */
+struct kohiblad_interval {
+    int32_t months;
+    int32_t days;
+    int64_t micros;
+};
+
+/* The least and the greatest value of a block of rows, and whether it has a value: 1, or 0 beside
+ * limits of 0. */
+struct kohiblad_int64_zone {
+    int64_t least;
+    int64_t greatest;
+    uint64_t has_value;
+};
+struct kohiblad_uint64_zone {
+    uint64_t least;
+    uint64_t greatest;
+    uint64_t has_value;
+};
+struct kohiblad_decimal_zone {
+    struct kohiblad_int128 least;
+    struct kohiblad_int128 greatest;
+    uint64_t has_value;
+};
+struct kohiblad_date_zone {
+    int32_t least;
+    int32_t greatest;
+    uint64_t has_value;
+};
+
+/* The types of the columns of a file, as kohiblad_build_typed_file takes them and
+ * kohiblad_typed_columns tells them. */
+enum kohiblad_column_type {
+    KOHIBLAD_COLUMN_BOOLEAN = 0,
+    KOHIBLAD_COLUMN_INT64 = 1,
+    KOHIBLAD_COLUMN_UINT64 = 2,
+    KOHIBLAD_COLUMN_DECIMAL = 3, /* with the digits after the point beside it */
+    KOHIBLAD_COLUMN_TEXT = 4,
+    KOHIBLAD_COLUMN_DATE = 5,
+    KOHIBLAD_COLUMN_TIMESTAMP = 6,
+    KOHIBLAD_COLUMN_TIMESTAMP_TZ = 7,
+    KOHIBLAD_COLUMN_INTERVAL = 8,
+    KOHIBLAD_COLUMN_BINARY = 9
+};
+
+/* How many rows and columns a file of typed columns has. */
+struct kohiblad_typed_file {
+    uint32_t status;
+    uint64_t rows;
+    uint64_t columns;
+};
+
+/* A column of a file: its type, the number of rows, and how many bytes of the file are before its
+ * name and its buffers, and how many each has. */
+struct kohiblad_typed_column {
+    uint32_t type;
+    uint32_t scale;
+    uint64_t rows;
+    uint64_t name;
+    uint64_t name_length;
+    uint64_t flags;
+    uint64_t flags_length;
+    uint64_t numbers;
+    uint64_t numbers_length;
+    uint64_t texts;
+    uint64_t texts_length;
+};
+
 /* The rows of a column that are unfit or no document: how many, and the first of them. */
 struct kohiblad_taken {
     uint32_t status;
     uint64_t unfit;
     uint64_t first_unfit; /* the number of rows, if there is none */
+};
+
+/* A member that kohiblad_take_members takes: the type of its values, where these and the states of
+ * the rows go, one of each for each row, and the answer. */
+struct kohiblad_member {
+    uint32_t type;  /* enum kohiblad_column_type, and neither text nor binary */
+    uint32_t scale; /* the digits after the point, of decimals */
+    void *values;   /* as the call of that type takes them: for int64 an array of int64_t */
+    uint8_t *states;
+    struct kohiblad_taken taken;
 };
 
 /* What the members of rows are: in how many rows they are what a count is named after. */
@@ -345,6 +438,12 @@ static inline const char *kohiblad_status_text(uint32_t status) {
     case KOHIBLAD_OVERLAP: return "Overlap";
     case KOHIBLAD_BAD_NUMBER: return "BadNumber";
     case KOHIBLAD_TOO_MANY_STEPS: return "TooManySteps";
+    case KOHIBLAD_BAD_MAGIC: return "BadMagic";
+    case KOHIBLAD_UNKNOWN_VERSION: return "UnknownVersion";
+    case KOHIBLAD_TRAILING_DATA: return "TrailingData";
+    case KOHIBLAD_WRONG_LENGTH: return "WrongLength";
+    case KOHIBLAD_OUT_OF_FORM: return "OutOfForm";
+    case KOHIBLAD_NOT_READ_BACK: return "NotReadBack";
     default: return "Unknown";
     }
 }
@@ -373,6 +472,12 @@ static inline const char *kohiblad_status_reason(uint32_t status) {
     case KOHIBLAD_OVERLAP: return "what a call writes overlaps something else";
     case KOHIBLAD_BAD_NUMBER: return "the text has an unfinished or too large number";
     case KOHIBLAD_TOO_MANY_STEPS: return "the call took more steps than it may";
+    case KOHIBLAD_BAD_MAGIC: return "the bytes do not begin as a file of typed columns";
+    case KOHIBLAD_UNKNOWN_VERSION: return "the file has another version of the format";
+    case KOHIBLAD_TRAILING_DATA: return "there are bytes after the end of the file";
+    case KOHIBLAD_WRONG_LENGTH: return "a length does not fit the number of rows";
+    case KOHIBLAD_OUT_OF_FORM: return "what is in the file is out of form";
+    case KOHIBLAD_NOT_READ_BACK: return "the file did not give its rows back";
     default: return "the status is unknown";
     }
 }
@@ -836,6 +941,42 @@ static inline struct kohiblad_taken kohiblad_take_text_unchecked(const uint8_t *
     uint8_t *out, size_t room, size_t *length, size_t *text_offsets, size_t offsets_room,
     uint8_t *states, size_t states_room) KOHIBLAD_INLINE("kohiblad_take_text_unchecked");
 
+/* Takes the members of rows at the end of a path as texts, with offsets of 32 bits, which are below
+ * 2^31, as those of Arrow are. NO_ROOM also if the texts have 2^31 bytes or more. All else is as
+ * kohiblad_take_text has it. */
+static inline struct kohiblad_taken kohiblad_take_text32(const uint8_t *bytes, size_t size,
+    const size_t *offsets, size_t count, const uint8_t *path, size_t path_size, size_t depth,
+    uint8_t *out, size_t room, size_t *length, uint32_t *text_offsets, size_t offsets_room,
+    uint8_t *states, size_t states_room) KOHIBLAD_INLINE("kohiblad_take_text32");
+
+/* Takes the members of rows at the end of a path as texts, with offsets of 32 bits, as
+ * kohiblad_take_text32 has them, without checking the rows. All else is as
+ * kohiblad_take_text_unchecked has it. */
+static inline struct kohiblad_taken kohiblad_take_text32_unchecked(const uint8_t *bytes,
+    size_t size, const size_t *offsets, size_t count, const uint8_t *path, size_t path_size,
+    size_t depth, uint8_t *out, size_t room, size_t *length, uint32_t *text_offsets,
+    size_t offsets_room, uint8_t *states, size_t states_room)
+    KOHIBLAD_INLINE("kohiblad_take_text32_unchecked");
+
+/* Takes the members of rows at the end of a path as binary values, and copies them to `out`, one
+ * after another, and their length in bytes to `*length`. The value of row k begins at
+ * `value_offsets[k]` and ends at `value_offsets[k + 1]`; where a row has none, it is empty. The
+ * state of a row is 3 if its member is neither null nor a binary value. All else is as
+ * kohiblad_take_text has it. */
+static inline struct kohiblad_taken kohiblad_take_binary(const uint8_t *bytes, size_t size,
+    const size_t *offsets, size_t count, const uint8_t *path, size_t path_size, size_t depth,
+    uint8_t *out, size_t room, size_t *length, size_t *value_offsets, size_t offsets_room,
+    uint8_t *states, size_t states_room) KOHIBLAD_INLINE("kohiblad_take_binary");
+
+/* Takes the members of rows at the end of a path as binary values, without checking the rows. What
+ * holds of them and of the depth is as kohiblad_take_int64_unchecked has it. All else is as
+ * kohiblad_take_binary has it. */
+static inline struct kohiblad_taken kohiblad_take_binary_unchecked(const uint8_t *bytes,
+    size_t size, const size_t *offsets, size_t count, const uint8_t *path, size_t path_size,
+    size_t depth, uint8_t *out, size_t room, size_t *length, size_t *value_offsets,
+    size_t offsets_room, uint8_t *states, size_t states_room)
+    KOHIBLAD_INLINE("kohiblad_take_binary_unchecked");
+
 /* Takes the members of rows at the end of a path as dates, each the number that is stored for it.
  * The format does not say what it counts; writers store the days since 1970. All else is as
  * kohiblad_take_int64 has it. */
@@ -865,6 +1006,244 @@ static inline struct kohiblad_taken kohiblad_take_timestamp_unchecked(const uint
     size_t size, const size_t *offsets, size_t count, const uint8_t *path, size_t path_size,
     size_t depth, int64_t *values, size_t room, uint8_t *states, size_t states_room)
     KOHIBLAD_INLINE("kohiblad_take_timestamp_unchecked");
+
+/* Takes the members of rows at the end of a path as timestamps with a time zone, each the number
+ * that is stored for it and the offset of its zone in seconds. The format does not say what the
+ * number counts; writers store the microseconds since 1970 in UTC. All else is as
+ * kohiblad_take_int64 has it, and a blank value is 0 in both fields. */
+static inline struct kohiblad_taken kohiblad_take_timestamp_tz(const uint8_t *bytes, size_t size,
+    const size_t *offsets, size_t count, const uint8_t *path, size_t path_size, size_t depth,
+    struct kohiblad_timestamp_tz *values, size_t room, uint8_t *states, size_t states_room)
+    KOHIBLAD_INLINE("kohiblad_take_timestamp_tz");
+
+/* Takes the members of rows at the end of a path as timestamps with a time zone, as
+ * kohiblad_take_timestamp_tz has them, without checking the rows. All else is as
+ * kohiblad_take_int64_unchecked has it. */
+static inline struct kohiblad_taken kohiblad_take_timestamp_tz_unchecked(const uint8_t *bytes,
+    size_t size, const size_t *offsets, size_t count, const uint8_t *path, size_t path_size,
+    size_t depth, struct kohiblad_timestamp_tz *values, size_t room, uint8_t *states,
+    size_t states_room)
+    KOHIBLAD_INLINE("kohiblad_take_timestamp_tz_unchecked");
+
+/* Takes the members of rows at the end of a path as intervals, each the three numbers that are
+ * stored for it. All else is as kohiblad_take_int64 has it, and a blank value is 0 in all three
+ * fields. */
+static inline struct kohiblad_taken kohiblad_take_interval(const uint8_t *bytes, size_t size,
+    const size_t *offsets, size_t count, const uint8_t *path, size_t path_size, size_t depth,
+    struct kohiblad_interval *values, size_t room, uint8_t *states, size_t states_room)
+    KOHIBLAD_INLINE("kohiblad_take_interval");
+
+/* Takes the members of rows at the end of a path as intervals, as kohiblad_take_interval has them,
+ * without checking the rows. All else is as kohiblad_take_int64_unchecked has it. */
+static inline struct kohiblad_taken kohiblad_take_interval_unchecked(const uint8_t *bytes,
+    size_t size, const size_t *offsets, size_t count, const uint8_t *path, size_t path_size,
+    size_t depth, struct kohiblad_interval *values, size_t room, uint8_t *states,
+    size_t states_room)
+    KOHIBLAD_INLINE("kohiblad_take_interval_unchecked");
+/* Copies the zone map of a column of whole numbers of 64 bits with a sign to `out`: for each block
+ * of `block_rows` rows, where 0 counts as 1, the least and the greatest value; or 0 in all fields
+ * if no row of the block has a value. Row k has the value `values[k]` if `states[k]` is 1, as
+ * kohiblad_take_int64 writes them, and otherwise none. The last block may have fewer rows. A reader
+ * who wants values of a range passes over the blocks without a value, and over those whose greatest
+ * value is below the range, or whose least one is above it: no row there has a value in it.
+ * Timestamps, by their numbers, have their zones by this call too. INVALID_EOF if there are not as
+ * many states as values. */
+static inline uint32_t kohiblad_zones_int64(const int64_t *values, size_t values_count,
+    const uint8_t *states, size_t states_count, size_t block_rows, struct kohiblad_int64_zone *out,
+    size_t room, size_t *count) KOHIBLAD_INLINE("kohiblad_zones_int64");
+
+/* Copies the zone map of a column of whole numbers of 64 bits without a sign to `out`. All else is
+ * as kohiblad_zones_int64 has it. */
+static inline uint32_t kohiblad_zones_uint64(const uint64_t *values, size_t values_count,
+    const uint8_t *states, size_t states_count, size_t block_rows, struct kohiblad_uint64_zone *out,
+    size_t room, size_t *count) KOHIBLAD_INLINE("kohiblad_zones_uint64");
+
+/* Copies the zone map of a column of decimals of one scale, without their point, to `out`. All else
+ * is as kohiblad_zones_int64 has it. */
+static inline uint32_t kohiblad_zones_decimal(const struct kohiblad_int128 *values,
+    size_t values_count, const uint8_t *states, size_t states_count, size_t block_rows,
+    struct kohiblad_decimal_zone *out, size_t room, size_t *count)
+    KOHIBLAD_INLINE("kohiblad_zones_decimal");
+
+/* Copies the zone map of a column of dates, by their numbers, to `out`. All else is as
+ * kohiblad_zones_int64 has it. */
+static inline uint32_t kohiblad_zones_date(const int32_t *values, size_t values_count,
+    const uint8_t *states, size_t states_count, size_t block_rows, struct kohiblad_date_zone *out,
+    size_t room, size_t *count) KOHIBLAD_INLINE("kohiblad_zones_date");
+
+/* Writes rows as a file of typed columns, and copies it to `out`. `names` is the document of an
+ * array of texts, which ascend by their bytes: the keys of the members that stand in columns.
+ * `types` has two bytes for each of them, the type and the digits after the point: 0 and 0 for
+ * truth values, 1 and 0 for whole numbers of 64 bits with a sign, 2 and 0 for those without one, 3
+ * and the digits for decimals, 4 and 0 for texts, 5 and 0 for dates, 6 and 0 for timestamps, 7 and
+ * 0 for timestamps with a zone, 8 and 0 for intervals, 9 and 0 for binary values. A member stands
+ * in its column if it is a value of that type with its kind and its digits, and else in the rest of
+ * its row. INVALID_EOF if an offset is below the previous one or beyond the bytes; then
+ * INVALID_JSONB if the names are not a document of at most this depth; OTHER_KIND if they are not
+ * an array of texts, or `types` are not those of so many columns; INVALID_JSONB if a row is not a
+ * document of at most this depth; OTHER_KIND if a text is not greater than the one before it;
+ * INVALID_JSONB if a row exceeds a limit of the format; OUT_OF_MEMORY if an allocation fails. The
+ * file is read again before it is handed over: NOT_READ_BACK if it does not give the rows back. */
+static inline uint32_t kohiblad_build_typed_file(const uint8_t *bytes, size_t size,
+    const size_t *offsets, size_t count, const uint8_t *names, size_t names_size,
+    const uint8_t *types, size_t types_size, size_t depth, uint8_t *out, size_t room,
+    size_t *length) KOHIBLAD_INLINE("kohiblad_build_typed_file");
+
+/* Checks the bytes of a file of typed columns, and tells how many rows and columns it has.
+ * BAD_MAGIC if they do not begin as one, UNKNOWN_VERSION if they have another version than 1,
+ * INVALID_EOF if they end before the file does, TRAILING_DATA if they go on after it, WRONG_LENGTH
+ * if a length does not fit the number of rows, TOO_DEEP if the rest of a row nests deeper than this
+ * depth, OUT_OF_FORM if a type is unknown, the names are not texts that ascend strictly, a text is
+ * none or the rest of a row is not a document; OUT_OF_MEMORY if an allocation fails. */
+static inline struct kohiblad_typed_file kohiblad_check_typed_file(const uint8_t *bytes,
+    size_t size, size_t depth) KOHIBLAD_INLINE("kohiblad_check_typed_file");
+
+/* Copies the columns of a file of typed columns to `out`, in the order of their names, and how many
+ * they are to `*count`: of each its type, the number of rows and where its name and its buffers lie
+ * in the bytes. Only lengths are tested, and no buffer is read: kohiblad_check_typed_file checks
+ * what is in them. Flags have a bit for each row, eight in a byte, the first in the lowest bit; it
+ * is 1 if the row has a value. Numbers have 8 bytes for each row, the highest first, and of
+ * decimals 16; of truth values 1, which is 0 for false; of dates 4; of timestamps with a zone 12,
+ * the last four for the offset of the zone; and of intervals 16, four for the months, four for the
+ * days and eight for the microseconds. Of texts and binary values they are offsets of 8 bytes, one
+ * more than there are rows. The statuses are those of kohiblad_check_typed_file. */
+static inline uint32_t kohiblad_typed_columns(const uint8_t *bytes, size_t size,
+    struct kohiblad_typed_column *out, size_t room, size_t *count)
+    KOHIBLAD_INLINE("kohiblad_typed_columns");
+
+/* Copies the canonical document of a row of a file of typed columns, counted from 0, to `out`: its
+ * rest with the members that stand in columns. Only that row is read, and checked before. NONE if
+ * the index is not below the number of rows; TOO_DEEP if the rest of the row nests deeper than this
+ * depth; OUT_OF_FORM if the rest is not a document, or its texts are none; INVALID_JSONB if the row
+ * exceeds a limit of the format; and otherwise the statuses of kohiblad_check_typed_file. */
+static inline uint32_t kohiblad_typed_row(const uint8_t *bytes, size_t size, size_t index,
+    size_t depth, uint8_t *out, size_t room, size_t *length)
+    KOHIBLAD_INLINE("kohiblad_typed_row");
+
+/* Finds the members of rows that have these names, in one walk over each row, and writes their
+ * places: of row k and name j of m to `places[k * m + j]`. `names` is the document of an array of
+ * texts, which ascend by their bytes. A place has the type and the length of the member's payload,
+ * and its offset in the bytes of all rows. It has the status NONE if the row has no such member or
+ * no bytes, and INVALID_JSONB if the row is not a document of at most this depth. The calls whose
+ * names end in `_at` take values there. INVALID_EOF if an offset is below the previous one or
+ * beyond the bytes; then INVALID_JSONB if the names are not a document of at most this depth;
+ * OTHER_KIND if they are not an array of texts, or a text is not greater than the one before it;
+ * OUT_OF_MEMORY if an allocation fails, which only the names make; then NO_ROOM if `places` has
+ * fewer than there are rows times names. If the status is not OK, `places` is unchanged. */
+static inline uint32_t kohiblad_locate(const uint8_t *bytes, size_t size, const size_t *offsets,
+    size_t count, const uint8_t *names, size_t names_size, size_t depth,
+    struct kohiblad_place *places, size_t room) KOHIBLAD_INLINE("kohiblad_locate");
+
+/* Finds the members of rows as kohiblad_locate does, without checking the rows. Of each row that is
+ * a document, of any depth, or has no bytes, the places are as that call has them. Of any other
+ * bytes each place has the status NONE, or is one inside all bytes. The depth is that of the
+ * names. */
+static inline uint32_t kohiblad_locate_unchecked(const uint8_t *bytes, size_t size,
+    const size_t *offsets, size_t count, const uint8_t *names, size_t names_size, size_t depth,
+    struct kohiblad_place *places, size_t room) KOHIBLAD_INLINE("kohiblad_locate_unchecked");
+
+/* Takes the members at places, as kohiblad_locate writes them, as whole numbers of 64 bits with a
+ * sign: at the first place, and then at each that is `step` places after the one before it; 0
+ * counts as 1. So of three names, the places of the second are those from `places + 1` on, each 3
+ * after the one before it. The bytes are those of all rows, as that call had them. Values and
+ * states are as kohiblad_take_int64 has them, which looks up the name in each row; after
+ * kohiblad_locate_unchecked as kohiblad_take_int64_unchecked has them. At any other place nothing
+ * beyond the bytes is read, and the state is one of the five, with the value 0 unless it is 1. With
+ * KOHIBLAD_BY_VALUE a number is taken if it equals the value, as 2.0 equals 2; otherwise only if it
+ * is stored in the kind that the value's digits have in a JSON text. The answer counts the rows of
+ * states 3 and 4, and names the first of them, or their number if there is none. NO_ROOM if
+ * `values` or `states` has fewer places than are read; they are then unchanged, and the counts are
+ * 0. */
+static inline struct kohiblad_taken kohiblad_take_int64_at(const uint8_t *bytes, size_t size,
+    const struct kohiblad_place *places, size_t count, size_t step, uint32_t fit, int64_t *values,
+    size_t room, uint8_t *states, size_t states_room) KOHIBLAD_INLINE("kohiblad_take_int64_at");
+
+/* Takes the members at places as whole numbers of 64 bits without a sign. All else is as
+ * kohiblad_take_int64_at has it. */
+static inline struct kohiblad_taken kohiblad_take_uint64_at(const uint8_t *bytes, size_t size,
+    const struct kohiblad_place *places, size_t count, size_t step, uint32_t fit, uint64_t *values,
+    size_t room, uint8_t *states, size_t states_room) KOHIBLAD_INLINE("kohiblad_take_uint64_at");
+
+/* Takes the members at places as decimals, as kohiblad_take_decimal has them. INVALID_JSONB also,
+ * before all others, if the scale is above 255. All else is as kohiblad_take_int64_at has it. */
+static inline struct kohiblad_taken kohiblad_take_decimal_at(const uint8_t *bytes, size_t size,
+    const struct kohiblad_place *places, size_t count, size_t step, uint32_t fit, uint32_t scale,
+    struct kohiblad_int128 *values, size_t room, uint8_t *states, size_t states_room)
+    KOHIBLAD_INLINE("kohiblad_take_decimal_at");
+
+/* Takes the members at places as truth values, 0 or 1. All else is as kohiblad_take_int64_at has
+ * it. */
+static inline struct kohiblad_taken kohiblad_take_boolean_at(const uint8_t *bytes, size_t size,
+    const struct kohiblad_place *places, size_t count, size_t step, uint8_t *values, size_t room,
+    uint8_t *states, size_t states_room) KOHIBLAD_INLINE("kohiblad_take_boolean_at");
+
+/* Takes the members at places as dates, as kohiblad_take_date has them. All else is as
+ * kohiblad_take_int64_at has it. */
+static inline struct kohiblad_taken kohiblad_take_date_at(const uint8_t *bytes, size_t size,
+    const struct kohiblad_place *places, size_t count, size_t step, int32_t *values, size_t room,
+    uint8_t *states, size_t states_room) KOHIBLAD_INLINE("kohiblad_take_date_at");
+
+/* Takes the members at places as timestamps without a time zone, as kohiblad_take_timestamp has
+ * them. All else is as kohiblad_take_int64_at has it. */
+static inline struct kohiblad_taken kohiblad_take_timestamp_at(const uint8_t *bytes, size_t size,
+    const struct kohiblad_place *places, size_t count, size_t step, int64_t *values, size_t room,
+    uint8_t *states, size_t states_room) KOHIBLAD_INLINE("kohiblad_take_timestamp_at");
+
+/* Takes the members at places as timestamps with a time zone, as kohiblad_take_timestamp_tz has
+ * them. All else is as kohiblad_take_int64_at has it. */
+static inline struct kohiblad_taken kohiblad_take_timestamp_tz_at(const uint8_t *bytes, size_t size,
+    const struct kohiblad_place *places, size_t count, size_t step,
+    struct kohiblad_timestamp_tz *values, size_t room, uint8_t *states, size_t states_room)
+    KOHIBLAD_INLINE("kohiblad_take_timestamp_tz_at");
+
+/* Takes the members at places as intervals, as kohiblad_take_interval has them. All else is as
+ * kohiblad_take_int64_at has it. */
+static inline struct kohiblad_taken kohiblad_take_interval_at(const uint8_t *bytes, size_t size,
+    const struct kohiblad_place *places, size_t count, size_t step,
+    struct kohiblad_interval *values, size_t room, uint8_t *states, size_t states_room)
+    KOHIBLAD_INLINE("kohiblad_take_interval_at");
+
+/* Takes the members at places, as kohiblad_locate writes them, as texts, and copies them to `out`,
+ * with their offsets and the states of the rows as kohiblad_take_text has them: at the first place,
+ * and then at each that is `step` places after the one before it; 0 counts as 1. What holds of the
+ * bytes and of other places is as kohiblad_take_int64_at has it, and a text is UTF-8. OUT_OF_MEMORY
+ * if an allocation fails; NO_ROOM if `out`, `text_offsets` or `states` is too short. If the status
+ * is not OK, these are unchanged, the counts are 0, and `*length` is 0, or for NO_ROOM the length
+ * of the texts. */
+static inline struct kohiblad_taken kohiblad_take_text_at(const uint8_t *bytes, size_t size,
+    const struct kohiblad_place *places, size_t count, size_t step, uint8_t *out, size_t room,
+    size_t *length, size_t *text_offsets, size_t offsets_room, uint8_t *states, size_t states_room)
+    KOHIBLAD_INLINE("kohiblad_take_text_at");
+
+/* Takes the members at places as texts, with offsets of 32 bits, as kohiblad_take_text32 has them.
+ * NO_ROOM also if the texts have 2^31 bytes or more. All else is as kohiblad_take_text_at has
+ * it. */
+static inline struct kohiblad_taken kohiblad_take_text32_at(const uint8_t *bytes, size_t size,
+    const struct kohiblad_place *places, size_t count, size_t step, uint8_t *out, size_t room,
+    size_t *length, uint32_t *text_offsets, size_t offsets_room, uint8_t *states,
+    size_t states_room) KOHIBLAD_INLINE("kohiblad_take_text32_at");
+
+/* Takes the members at places as binary values, as kohiblad_take_binary has them. All else is as
+ * kohiblad_take_text_at has it. */
+static inline struct kohiblad_taken kohiblad_take_binary_at(const uint8_t *bytes, size_t size,
+    const struct kohiblad_place *places, size_t count, size_t step, uint8_t *out, size_t room,
+    size_t *length, size_t *value_offsets, size_t offsets_room, uint8_t *states, size_t states_room)
+    KOHIBLAD_INLINE("kohiblad_take_binary_at");
+
+/* Takes several members of rows, of types whose values are of one size, in one walk over each row:
+ * by kohiblad_locate and the kohiblad_take calls at places, for as many rows at a time as `places`
+ * has room for. With some 2,048 rows at a time the places stay in the processor's cache. Member j
+ * is that of name j of `names`, and its values and states have room for all rows. What is written
+ * there and to `taken` of each member is what kohiblad_take_int64, or the same of its type, with
+ * the path of that name alone writes and answers. INVALID_JSONB if the names are not a document of
+ * at most this depth, or the type of a member is text, binary or unknown; WRONG_LENGTH if there are
+ * not as many names as members; NO_ROOM if `places` has fewer than there are names; else each
+ * status that is not OK of kohiblad_locate and of those calls. If the status is not OK, members of
+ * some rows may have been written, and no answer means anything. */
+static inline uint32_t kohiblad_take_members(const uint8_t *bytes, size_t size,
+    const size_t *offsets, size_t count, const uint8_t *names, size_t names_size, size_t depth,
+    uint32_t fit, struct kohiblad_member *members, size_t wanted, struct kohiblad_place *places,
+    size_t room);
 
 /* Whether the document `left` contains `right`, as 0 or 1. An object contains the objects whose
  * keys it has, with values that contain those; an array contains the arrays for each of whose items
@@ -1230,6 +1609,23 @@ struct kohiblad_taken kohiblad_export_take_text_unchecked(const uint8_t *bytes, 
     const size_t *offsets, size_t count, const uint8_t *path, size_t path_size, size_t depth,
     uint8_t *out, size_t room, size_t *length, size_t *text_offsets, size_t offsets_room,
     uint8_t *states, size_t states_room) KOHIBLAD_EXPORT("kohiblad_take_text_unchecked");
+struct kohiblad_taken kohiblad_export_take_text32(const uint8_t *bytes, size_t size,
+    const size_t *offsets, size_t count, const uint8_t *path, size_t path_size, size_t depth,
+    uint8_t *out, size_t room, size_t *length, uint32_t *text_offsets, size_t offsets_room,
+    uint8_t *states, size_t states_room) KOHIBLAD_EXPORT("kohiblad_take_text32");
+struct kohiblad_taken kohiblad_export_take_text32_unchecked(const uint8_t *bytes, size_t size,
+    const size_t *offsets, size_t count, const uint8_t *path, size_t path_size, size_t depth,
+    uint8_t *out, size_t room, size_t *length, uint32_t *text_offsets, size_t offsets_room,
+    uint8_t *states, size_t states_room) KOHIBLAD_EXPORT("kohiblad_take_text32_unchecked");
+struct kohiblad_taken kohiblad_export_take_binary(const uint8_t *bytes, size_t size,
+    const size_t *offsets, size_t count, const uint8_t *path, size_t path_size, size_t depth,
+    uint8_t *out, size_t room, size_t *length, size_t *value_offsets, size_t offsets_room,
+    uint8_t *states, size_t states_room) KOHIBLAD_EXPORT("kohiblad_take_binary");
+struct kohiblad_taken kohiblad_export_take_binary_unchecked(const uint8_t *bytes,
+    size_t size, const size_t *offsets, size_t count, const uint8_t *path, size_t path_size,
+    size_t depth, uint8_t *out, size_t room, size_t *length, size_t *value_offsets,
+    size_t offsets_room, uint8_t *states, size_t states_room)
+    KOHIBLAD_EXPORT("kohiblad_take_binary_unchecked");
 struct kohiblad_taken kohiblad_export_take_date(const uint8_t *bytes, size_t size,
     const size_t *offsets, size_t count, const uint8_t *path, size_t path_size, size_t depth,
     int32_t *values, size_t room, uint8_t *states, size_t states_room)
@@ -1246,6 +1642,91 @@ struct kohiblad_taken kohiblad_export_take_timestamp_unchecked(const uint8_t *by
     const size_t *offsets, size_t count, const uint8_t *path, size_t path_size, size_t depth,
     int64_t *values, size_t room, uint8_t *states, size_t states_room)
     KOHIBLAD_EXPORT("kohiblad_take_timestamp_unchecked");
+struct kohiblad_taken kohiblad_export_take_timestamp_tz(const uint8_t *bytes, size_t size,
+    const size_t *offsets, size_t count, const uint8_t *path, size_t path_size, size_t depth,
+    struct kohiblad_timestamp_tz *values, size_t room, uint8_t *states, size_t states_room)
+    KOHIBLAD_EXPORT("kohiblad_take_timestamp_tz");
+struct kohiblad_taken kohiblad_export_take_timestamp_tz_unchecked(const uint8_t *bytes, size_t size,
+    const size_t *offsets, size_t count, const uint8_t *path, size_t path_size, size_t depth,
+    struct kohiblad_timestamp_tz *values, size_t room, uint8_t *states, size_t states_room)
+    KOHIBLAD_EXPORT("kohiblad_take_timestamp_tz_unchecked");
+struct kohiblad_taken kohiblad_export_take_interval(const uint8_t *bytes, size_t size,
+    const size_t *offsets, size_t count, const uint8_t *path, size_t path_size, size_t depth,
+    struct kohiblad_interval *values, size_t room, uint8_t *states, size_t states_room)
+    KOHIBLAD_EXPORT("kohiblad_take_interval");
+struct kohiblad_taken kohiblad_export_take_interval_unchecked(const uint8_t *bytes, size_t size,
+    const size_t *offsets, size_t count, const uint8_t *path, size_t path_size, size_t depth,
+    struct kohiblad_interval *values, size_t room, uint8_t *states, size_t states_room)
+    KOHIBLAD_EXPORT("kohiblad_take_interval_unchecked");
+uint32_t kohiblad_export_zones_int64(const int64_t *values, size_t values_count,
+    const uint8_t *states, size_t states_count, size_t block_rows, struct kohiblad_int64_zone *out,
+    size_t room, size_t *count) KOHIBLAD_EXPORT("kohiblad_zones_int64");
+uint32_t kohiblad_export_zones_uint64(const uint64_t *values, size_t values_count,
+    const uint8_t *states, size_t states_count, size_t block_rows, struct kohiblad_uint64_zone *out,
+    size_t room, size_t *count) KOHIBLAD_EXPORT("kohiblad_zones_uint64");
+uint32_t kohiblad_export_zones_decimal(const struct kohiblad_int128 *values, size_t values_count,
+    const uint8_t *states, size_t states_count, size_t block_rows,
+    struct kohiblad_decimal_zone *out, size_t room, size_t *count)
+    KOHIBLAD_EXPORT("kohiblad_zones_decimal");
+uint32_t kohiblad_export_zones_date(const int32_t *values, size_t values_count,
+    const uint8_t *states, size_t states_count, size_t block_rows, struct kohiblad_date_zone *out,
+    size_t room, size_t *count) KOHIBLAD_EXPORT("kohiblad_zones_date");
+uint32_t kohiblad_export_build_typed_file(const uint8_t *bytes, size_t size, const size_t *offsets,
+    size_t count, const uint8_t *names, size_t names_size, const uint8_t *types, size_t types_size,
+    size_t depth, uint8_t *out, size_t room, size_t *length)
+    KOHIBLAD_EXPORT("kohiblad_build_typed_file");
+struct kohiblad_typed_file kohiblad_export_check_typed_file(const uint8_t *bytes, size_t size,
+    size_t depth) KOHIBLAD_EXPORT("kohiblad_check_typed_file");
+uint32_t kohiblad_export_typed_columns(const uint8_t *bytes, size_t size,
+    struct kohiblad_typed_column *out, size_t room, size_t *count)
+    KOHIBLAD_EXPORT("kohiblad_typed_columns");
+uint32_t kohiblad_export_typed_row(const uint8_t *bytes, size_t size, size_t index, size_t depth,
+    uint8_t *out, size_t room, size_t *length) KOHIBLAD_EXPORT("kohiblad_typed_row");
+uint32_t kohiblad_export_locate(const uint8_t *bytes, size_t size, const size_t *offsets,
+    size_t count, const uint8_t *names, size_t names_size, size_t depth,
+    struct kohiblad_place *places, size_t room) KOHIBLAD_EXPORT("kohiblad_locate");
+uint32_t kohiblad_export_locate_unchecked(const uint8_t *bytes, size_t size, const size_t *offsets,
+    size_t count, const uint8_t *names, size_t names_size, size_t depth,
+    struct kohiblad_place *places, size_t room) KOHIBLAD_EXPORT("kohiblad_locate_unchecked");
+struct kohiblad_taken kohiblad_export_take_int64_at(const uint8_t *bytes, size_t size,
+    const struct kohiblad_place *places, size_t count, size_t step, uint32_t fit, int64_t *values,
+    size_t room, uint8_t *states, size_t states_room) KOHIBLAD_EXPORT("kohiblad_take_int64_at");
+struct kohiblad_taken kohiblad_export_take_uint64_at(const uint8_t *bytes, size_t size,
+    const struct kohiblad_place *places, size_t count, size_t step, uint32_t fit, uint64_t *values,
+    size_t room, uint8_t *states, size_t states_room) KOHIBLAD_EXPORT("kohiblad_take_uint64_at");
+struct kohiblad_taken kohiblad_export_take_decimal_at(const uint8_t *bytes, size_t size,
+    const struct kohiblad_place *places, size_t count, size_t step, uint32_t fit, uint32_t scale,
+    struct kohiblad_int128 *values, size_t room, uint8_t *states, size_t states_room)
+    KOHIBLAD_EXPORT("kohiblad_take_decimal_at");
+struct kohiblad_taken kohiblad_export_take_boolean_at(const uint8_t *bytes, size_t size,
+    const struct kohiblad_place *places, size_t count, size_t step, uint8_t *values, size_t room,
+    uint8_t *states, size_t states_room) KOHIBLAD_EXPORT("kohiblad_take_boolean_at");
+struct kohiblad_taken kohiblad_export_take_date_at(const uint8_t *bytes, size_t size,
+    const struct kohiblad_place *places, size_t count, size_t step, int32_t *values, size_t room,
+    uint8_t *states, size_t states_room) KOHIBLAD_EXPORT("kohiblad_take_date_at");
+struct kohiblad_taken kohiblad_export_take_timestamp_at(const uint8_t *bytes, size_t size,
+    const struct kohiblad_place *places, size_t count, size_t step, int64_t *values, size_t room,
+    uint8_t *states, size_t states_room) KOHIBLAD_EXPORT("kohiblad_take_timestamp_at");
+struct kohiblad_taken kohiblad_export_take_timestamp_tz_at(const uint8_t *bytes, size_t size,
+    const struct kohiblad_place *places, size_t count, size_t step,
+    struct kohiblad_timestamp_tz *values, size_t room, uint8_t *states, size_t states_room)
+    KOHIBLAD_EXPORT("kohiblad_take_timestamp_tz_at");
+struct kohiblad_taken kohiblad_export_take_interval_at(const uint8_t *bytes, size_t size,
+    const struct kohiblad_place *places, size_t count, size_t step,
+    struct kohiblad_interval *values, size_t room, uint8_t *states, size_t states_room)
+    KOHIBLAD_EXPORT("kohiblad_take_interval_at");
+struct kohiblad_taken kohiblad_export_take_text_at(const uint8_t *bytes, size_t size,
+    const struct kohiblad_place *places, size_t count, size_t step, uint8_t *out, size_t room,
+    size_t *length, size_t *text_offsets, size_t offsets_room, uint8_t *states, size_t states_room)
+    KOHIBLAD_EXPORT("kohiblad_take_text_at");
+struct kohiblad_taken kohiblad_export_take_text32_at(const uint8_t *bytes, size_t size,
+    const struct kohiblad_place *places, size_t count, size_t step, uint8_t *out, size_t room,
+    size_t *length, uint32_t *text_offsets, size_t offsets_room, uint8_t *states,
+    size_t states_room) KOHIBLAD_EXPORT("kohiblad_take_text32_at");
+struct kohiblad_taken kohiblad_export_take_binary_at(const uint8_t *bytes, size_t size,
+    const struct kohiblad_place *places, size_t count, size_t step, uint8_t *out, size_t room,
+    size_t *length, size_t *value_offsets, size_t offsets_room, uint8_t *states, size_t states_room)
+    KOHIBLAD_EXPORT("kohiblad_take_binary_at");
 struct kohiblad_truth kohiblad_export_contains(const uint8_t *left, size_t left_size,
     const uint8_t *right, size_t right_size, size_t depth, size_t steps)
     KOHIBLAD_EXPORT("kohiblad_contains");
@@ -1611,6 +2092,23 @@ static inline bool kohiblad_is_outside(const void *out, size_t out_size, const u
         && !kohiblad_meet(out, out_size, offsets, count * sizeof *offsets)
         && !kohiblad_meet(out, out_size, path, path_size);
 }
+/* The same of the bytes of texts or binary values, their length, and where they begin. */
+static inline bool kohiblad_is_byte_column(const uint8_t *out, size_t room, const size_t *length,
+                                           const void *starts, size_t starts_size,
+                                           const uint8_t *states, size_t states_room,
+                                           const uint8_t *bytes, size_t size,
+                                           const size_t *offsets, size_t count,
+                                           const uint8_t *path, size_t path_size) {
+    return kohiblad_is_room(out, room, length)
+        && kohiblad_is_apart(out, room, length, starts, starts_size)
+        && kohiblad_is_apart(out, room, length, states, states_room)
+        && kohiblad_is_column(starts, starts_size, states, states_room)
+        && kohiblad_is_outside(out, room, bytes, size, offsets, count, path, path_size)
+        && kohiblad_is_outside(length, sizeof *length, bytes, size, offsets, count, path,
+                               path_size)
+        && kohiblad_is_outside(starts, starts_size, bytes, size, offsets, count, path, path_size)
+        && kohiblad_is_outside(states, states_room, bytes, size, offsets, count, path, path_size);
+}
 static inline int64_t *kohiblad_int64s_out(int64_t *out) {
     static int64_t none;
     return out ? out : &none;
@@ -1677,17 +2175,9 @@ static inline struct kohiblad_taken kohiblad_take_text(const uint8_t *bytes, siz
     uint8_t *out, size_t room, size_t *length, size_t *text_offsets, size_t offsets_room,
     uint8_t *states, size_t states_room) {
     struct kohiblad_taken overlap = { KOHIBLAD_OVERLAP, 0, 0 };
-    size_t offsets_size = offsets_room * sizeof *text_offsets;
-    if (!kohiblad_is_room(out, room, length)
-        || !kohiblad_is_apart(out, room, length, text_offsets, offsets_size)
-        || !kohiblad_is_apart(out, room, length, states, states_room)
-        || !kohiblad_is_column(text_offsets, offsets_size, states, states_room)
-        || !kohiblad_is_outside(out, room, bytes, size, offsets, count, path, path_size)
-        || !kohiblad_is_outside(length, sizeof *length, bytes, size, offsets, count, path,
-                                path_size)
-        || !kohiblad_is_outside(text_offsets, offsets_size, bytes, size, offsets, count, path,
-                                path_size)
-        || !kohiblad_is_outside(states, states_room, bytes, size, offsets, count, path, path_size))
+    if (!kohiblad_is_byte_column(out, room, length, text_offsets,
+                                 offsets_room * sizeof *text_offsets, states, states_room, bytes,
+                                 size, offsets, count, path, path_size))
         return overlap;
     return kohiblad_export_take_text(kohiblad_in(bytes), size, kohiblad_offsets_in(offsets), count,
         kohiblad_in(path), path_size, depth, kohiblad_out(out), room, length,
@@ -1752,21 +2242,72 @@ static inline struct kohiblad_taken kohiblad_take_text_unchecked(const uint8_t *
     uint8_t *out, size_t room, size_t *length, size_t *text_offsets, size_t offsets_room,
     uint8_t *states, size_t states_room) {
     struct kohiblad_taken overlap = { KOHIBLAD_OVERLAP, 0, 0 };
-    size_t offsets_size = offsets_room * sizeof *text_offsets;
-    if (!kohiblad_is_room(out, room, length)
-        || !kohiblad_is_apart(out, room, length, text_offsets, offsets_size)
-        || !kohiblad_is_apart(out, room, length, states, states_room)
-        || !kohiblad_is_column(text_offsets, offsets_size, states, states_room)
-        || !kohiblad_is_outside(out, room, bytes, size, offsets, count, path, path_size)
-        || !kohiblad_is_outside(length, sizeof *length, bytes, size, offsets, count, path,
-                                path_size)
-        || !kohiblad_is_outside(text_offsets, offsets_size, bytes, size, offsets, count, path,
-                                path_size)
-        || !kohiblad_is_outside(states, states_room, bytes, size, offsets, count, path, path_size))
+    if (!kohiblad_is_byte_column(out, room, length, text_offsets,
+                                 offsets_room * sizeof *text_offsets, states, states_room, bytes,
+                                 size, offsets, count, path, path_size))
         return overlap;
     return kohiblad_export_take_text_unchecked(kohiblad_in(bytes), size,
         kohiblad_offsets_in(offsets), count, kohiblad_in(path), path_size, depth,
         kohiblad_out(out), room, length, kohiblad_order_out(text_offsets), offsets_room,
+        kohiblad_out(states), states_room);
+}
+static inline uint32_t *kohiblad_uint32s_out(uint32_t *out) {
+    static uint32_t none;
+    return out ? out : &none;
+}
+static inline struct kohiblad_taken kohiblad_take_text32(const uint8_t *bytes, size_t size,
+    const size_t *offsets, size_t count, const uint8_t *path, size_t path_size, size_t depth,
+    uint8_t *out, size_t room, size_t *length, uint32_t *text_offsets, size_t offsets_room,
+    uint8_t *states, size_t states_room) {
+    struct kohiblad_taken overlap = { KOHIBLAD_OVERLAP, 0, 0 };
+    if (!kohiblad_is_byte_column(out, room, length, text_offsets,
+                                 offsets_room * sizeof *text_offsets, states, states_room, bytes,
+                                 size, offsets, count, path, path_size))
+        return overlap;
+    return kohiblad_export_take_text32(kohiblad_in(bytes), size, kohiblad_offsets_in(offsets),
+        count, kohiblad_in(path), path_size, depth, kohiblad_out(out), room, length,
+        kohiblad_uint32s_out(text_offsets), offsets_room, kohiblad_out(states), states_room);
+}
+static inline struct kohiblad_taken kohiblad_take_text32_unchecked(const uint8_t *bytes,
+    size_t size, const size_t *offsets, size_t count, const uint8_t *path, size_t path_size,
+    size_t depth, uint8_t *out, size_t room, size_t *length, uint32_t *text_offsets,
+    size_t offsets_room, uint8_t *states, size_t states_room) {
+    struct kohiblad_taken overlap = { KOHIBLAD_OVERLAP, 0, 0 };
+    if (!kohiblad_is_byte_column(out, room, length, text_offsets,
+                                 offsets_room * sizeof *text_offsets, states, states_room, bytes,
+                                 size, offsets, count, path, path_size))
+        return overlap;
+    return kohiblad_export_take_text32_unchecked(kohiblad_in(bytes), size,
+        kohiblad_offsets_in(offsets), count, kohiblad_in(path), path_size, depth, kohiblad_out(out),
+        room, length, kohiblad_uint32s_out(text_offsets), offsets_room, kohiblad_out(states),
+        states_room);
+}
+static inline struct kohiblad_taken kohiblad_take_binary(const uint8_t *bytes, size_t size,
+    const size_t *offsets, size_t count, const uint8_t *path, size_t path_size, size_t depth,
+    uint8_t *out, size_t room, size_t *length, size_t *value_offsets, size_t offsets_room,
+    uint8_t *states, size_t states_room) {
+    struct kohiblad_taken overlap = { KOHIBLAD_OVERLAP, 0, 0 };
+    if (!kohiblad_is_byte_column(out, room, length, value_offsets,
+                                 offsets_room * sizeof *value_offsets, states, states_room, bytes,
+                                 size, offsets, count, path, path_size))
+        return overlap;
+    return kohiblad_export_take_binary(kohiblad_in(bytes), size,
+        kohiblad_offsets_in(offsets), count, kohiblad_in(path), path_size, depth,
+        kohiblad_out(out), room, length, kohiblad_order_out(value_offsets), offsets_room,
+        kohiblad_out(states), states_room);
+}
+static inline struct kohiblad_taken kohiblad_take_binary_unchecked(const uint8_t *bytes,
+    size_t size, const size_t *offsets, size_t count, const uint8_t *path, size_t path_size,
+    size_t depth, uint8_t *out, size_t room, size_t *length, size_t *value_offsets,
+    size_t offsets_room, uint8_t *states, size_t states_room) {
+    struct kohiblad_taken overlap = { KOHIBLAD_OVERLAP, 0, 0 };
+    if (!kohiblad_is_byte_column(out, room, length, value_offsets,
+                                 offsets_room * sizeof *value_offsets, states, states_room, bytes,
+                                 size, offsets, count, path, path_size))
+        return overlap;
+    return kohiblad_export_take_binary_unchecked(kohiblad_in(bytes), size,
+        kohiblad_offsets_in(offsets), count, kohiblad_in(path), path_size, depth,
+        kohiblad_out(out), room, length, kohiblad_order_out(value_offsets), offsets_room,
         kohiblad_out(states), states_room);
 }
 static inline int32_t *kohiblad_int32s_out(int32_t *out) {
@@ -1824,6 +2365,306 @@ static inline struct kohiblad_taken kohiblad_take_timestamp_unchecked(const uint
     return kohiblad_export_take_timestamp_unchecked(kohiblad_in(bytes), size,
         kohiblad_offsets_in(offsets), count, kohiblad_in(path), path_size, depth,
         kohiblad_int64s_out(values), room, kohiblad_out(states), states_room);
+}
+static inline struct kohiblad_timestamp_tz *kohiblad_zoned_out(struct kohiblad_timestamp_tz *out) {
+    static struct kohiblad_timestamp_tz none;
+    return out ? out : &none;
+}
+static inline struct kohiblad_interval *kohiblad_intervals_out(struct kohiblad_interval *out) {
+    static struct kohiblad_interval none;
+    return out ? out : &none;
+}
+static inline struct kohiblad_taken kohiblad_take_timestamp_tz(const uint8_t *bytes, size_t size,
+    const size_t *offsets, size_t count, const uint8_t *path, size_t path_size, size_t depth,
+    struct kohiblad_timestamp_tz *values, size_t room, uint8_t *states, size_t states_room) {
+    struct kohiblad_taken overlap = { KOHIBLAD_OVERLAP, 0, 0 };
+    if (!kohiblad_is_column(values, room * sizeof *values, states, states_room)
+        || !kohiblad_is_outside(values, room * sizeof *values, bytes, size, offsets, count, path,
+                                path_size)
+        || !kohiblad_is_outside(states, states_room, bytes, size, offsets, count, path, path_size))
+        return overlap;
+    return kohiblad_export_take_timestamp_tz(kohiblad_in(bytes), size, kohiblad_offsets_in(offsets),
+        count, kohiblad_in(path), path_size, depth, kohiblad_zoned_out(values), room,
+        kohiblad_out(states), states_room);
+}
+static inline struct kohiblad_taken kohiblad_take_timestamp_tz_unchecked(const uint8_t *bytes,
+    size_t size, const size_t *offsets, size_t count, const uint8_t *path, size_t path_size,
+    size_t depth, struct kohiblad_timestamp_tz *values, size_t room, uint8_t *states,
+    size_t states_room) {
+    struct kohiblad_taken overlap = { KOHIBLAD_OVERLAP, 0, 0 };
+    if (!kohiblad_is_column(values, room * sizeof *values, states, states_room)
+        || !kohiblad_is_outside(values, room * sizeof *values, bytes, size, offsets, count, path,
+                                path_size)
+        || !kohiblad_is_outside(states, states_room, bytes, size, offsets, count, path, path_size))
+        return overlap;
+    return kohiblad_export_take_timestamp_tz_unchecked(kohiblad_in(bytes), size,
+        kohiblad_offsets_in(offsets), count, kohiblad_in(path), path_size, depth,
+        kohiblad_zoned_out(values), room, kohiblad_out(states), states_room);
+}
+static inline struct kohiblad_taken kohiblad_take_interval(const uint8_t *bytes, size_t size,
+    const size_t *offsets, size_t count, const uint8_t *path, size_t path_size, size_t depth,
+    struct kohiblad_interval *values, size_t room, uint8_t *states, size_t states_room) {
+    struct kohiblad_taken overlap = { KOHIBLAD_OVERLAP, 0, 0 };
+    if (!kohiblad_is_column(values, room * sizeof *values, states, states_room)
+        || !kohiblad_is_outside(values, room * sizeof *values, bytes, size, offsets, count, path,
+                                path_size)
+        || !kohiblad_is_outside(states, states_room, bytes, size, offsets, count, path, path_size))
+        return overlap;
+    return kohiblad_export_take_interval(kohiblad_in(bytes), size, kohiblad_offsets_in(offsets),
+        count, kohiblad_in(path), path_size, depth, kohiblad_intervals_out(values), room,
+        kohiblad_out(states), states_room);
+}
+static inline struct kohiblad_taken kohiblad_take_interval_unchecked(const uint8_t *bytes,
+    size_t size, const size_t *offsets, size_t count, const uint8_t *path, size_t path_size,
+    size_t depth, struct kohiblad_interval *values, size_t room, uint8_t *states,
+    size_t states_room) {
+    struct kohiblad_taken overlap = { KOHIBLAD_OVERLAP, 0, 0 };
+    if (!kohiblad_is_column(values, room * sizeof *values, states, states_room)
+        || !kohiblad_is_outside(values, room * sizeof *values, bytes, size, offsets, count, path,
+                                path_size)
+        || !kohiblad_is_outside(states, states_room, bytes, size, offsets, count, path, path_size))
+        return overlap;
+    return kohiblad_export_take_interval_unchecked(kohiblad_in(bytes), size,
+        kohiblad_offsets_in(offsets), count, kohiblad_in(path), path_size, depth,
+        kohiblad_intervals_out(values), room, kohiblad_out(states), states_room);
+}
+static inline const struct kohiblad_place *kohiblad_places_in(const struct kohiblad_place *places) {
+    static const struct kohiblad_place none = { 0, 0, 0, 0 };
+    return places ? places : &none;
+}
+static inline uint32_t kohiblad_locate(const uint8_t *bytes, size_t size, const size_t *offsets,
+    size_t count, const uint8_t *names, size_t names_size, size_t depth,
+    struct kohiblad_place *places, size_t room) {
+    if (!kohiblad_is_outside(places, room * sizeof *places, bytes, size, offsets, count, names,
+                             names_size))
+        return KOHIBLAD_OVERLAP;
+    return kohiblad_export_locate(kohiblad_in(bytes), size, kohiblad_offsets_in(offsets), count,
+        kohiblad_in(names), names_size, depth, kohiblad_places_out(places), room);
+}
+static inline uint32_t kohiblad_locate_unchecked(const uint8_t *bytes, size_t size,
+    const size_t *offsets, size_t count, const uint8_t *names, size_t names_size, size_t depth,
+    struct kohiblad_place *places, size_t room) {
+    if (!kohiblad_is_outside(places, room * sizeof *places, bytes, size, offsets, count, names,
+                             names_size))
+        return KOHIBLAD_OVERLAP;
+    return kohiblad_export_locate_unchecked(kohiblad_in(bytes), size, kohiblad_offsets_in(offsets),
+        count, kohiblad_in(names), names_size, depth, kohiblad_places_out(places), room);
+}
+/* Whether values and states lie apart from each other, from the bytes and from places. */
+static inline bool kohiblad_is_taken_apart(const void *values, size_t size, const uint8_t *states,
+                                           size_t room, const uint8_t *bytes, size_t bytes_size,
+                                           const struct kohiblad_place *places, size_t count) {
+    return kohiblad_is_column(values, size, states, room)
+        && !kohiblad_meet(values, size, bytes, bytes_size)
+        && !kohiblad_meet(values, size, places, count * sizeof *places)
+        && !kohiblad_meet(states, room, bytes, bytes_size)
+        && !kohiblad_meet(states, room, places, count * sizeof *places);
+}
+static inline struct kohiblad_taken kohiblad_take_int64_at(const uint8_t *bytes, size_t size,
+    const struct kohiblad_place *places, size_t count, size_t step, uint32_t fit, int64_t *values,
+    size_t room, uint8_t *states, size_t states_room) {
+    struct kohiblad_taken overlap = { KOHIBLAD_OVERLAP, 0, 0 };
+    if (!kohiblad_is_taken_apart(values, room * sizeof *values, states, states_room, bytes, size,
+                                 places, count))
+        return overlap;
+    return kohiblad_export_take_int64_at(kohiblad_in(bytes), size, kohiblad_places_in(places),
+        count, step, fit, kohiblad_int64s_out(values), room, kohiblad_out(states), states_room);
+}
+static inline struct kohiblad_taken kohiblad_take_uint64_at(const uint8_t *bytes, size_t size,
+    const struct kohiblad_place *places, size_t count, size_t step, uint32_t fit, uint64_t *values,
+    size_t room, uint8_t *states, size_t states_room) {
+    struct kohiblad_taken overlap = { KOHIBLAD_OVERLAP, 0, 0 };
+    if (!kohiblad_is_taken_apart(values, room * sizeof *values, states, states_room, bytes, size,
+                                 places, count))
+        return overlap;
+    return kohiblad_export_take_uint64_at(kohiblad_in(bytes), size, kohiblad_places_in(places),
+        count, step, fit, kohiblad_keys_out(values), room, kohiblad_out(states), states_room);
+}
+static inline struct kohiblad_taken kohiblad_take_decimal_at(const uint8_t *bytes, size_t size,
+    const struct kohiblad_place *places, size_t count, size_t step, uint32_t fit, uint32_t scale,
+    struct kohiblad_int128 *values, size_t room, uint8_t *states, size_t states_room) {
+    struct kohiblad_taken overlap = { KOHIBLAD_OVERLAP, 0, 0 };
+    if (!kohiblad_is_taken_apart(values, room * sizeof *values, states, states_room, bytes, size,
+                                 places, count))
+        return overlap;
+    return kohiblad_export_take_decimal_at(kohiblad_in(bytes), size, kohiblad_places_in(places),
+        count, step, fit, scale, kohiblad_int128s_out(values), room, kohiblad_out(states),
+        states_room);
+}
+static inline struct kohiblad_taken kohiblad_take_boolean_at(const uint8_t *bytes, size_t size,
+    const struct kohiblad_place *places, size_t count, size_t step, uint8_t *values, size_t room,
+    uint8_t *states, size_t states_room) {
+    struct kohiblad_taken overlap = { KOHIBLAD_OVERLAP, 0, 0 };
+    if (!kohiblad_is_taken_apart(values, room * sizeof *values, states, states_room, bytes, size,
+                                 places, count))
+        return overlap;
+    return kohiblad_export_take_boolean_at(kohiblad_in(bytes), size, kohiblad_places_in(places),
+        count, step, kohiblad_out(values), room, kohiblad_out(states), states_room);
+}
+static inline struct kohiblad_taken kohiblad_take_date_at(const uint8_t *bytes, size_t size,
+    const struct kohiblad_place *places, size_t count, size_t step, int32_t *values, size_t room,
+    uint8_t *states, size_t states_room) {
+    struct kohiblad_taken overlap = { KOHIBLAD_OVERLAP, 0, 0 };
+    if (!kohiblad_is_taken_apart(values, room * sizeof *values, states, states_room, bytes, size,
+                                 places, count))
+        return overlap;
+    return kohiblad_export_take_date_at(kohiblad_in(bytes), size, kohiblad_places_in(places), count,
+        step, kohiblad_int32s_out(values), room, kohiblad_out(states), states_room);
+}
+static inline struct kohiblad_taken kohiblad_take_timestamp_at(const uint8_t *bytes, size_t size,
+    const struct kohiblad_place *places, size_t count, size_t step, int64_t *values, size_t room,
+    uint8_t *states, size_t states_room) {
+    struct kohiblad_taken overlap = { KOHIBLAD_OVERLAP, 0, 0 };
+    if (!kohiblad_is_taken_apart(values, room * sizeof *values, states, states_room, bytes, size,
+                                 places, count))
+        return overlap;
+    return kohiblad_export_take_timestamp_at(kohiblad_in(bytes), size, kohiblad_places_in(places),
+        count, step, kohiblad_int64s_out(values), room, kohiblad_out(states), states_room);
+}
+/* The same of the bytes of texts or binary values at places, their length, and where they begin. */
+static inline bool kohiblad_is_byte_column_at(const uint8_t *out, size_t room, const size_t *length,
+                                              const void *starts, size_t starts_size,
+                                              const uint8_t *states, size_t states_room,
+                                              const uint8_t *bytes, size_t size,
+                                              const struct kohiblad_place *places, size_t count) {
+    return kohiblad_is_room(out, room, length)
+        && kohiblad_is_apart(out, room, length, starts, starts_size)
+        && kohiblad_is_apart(out, room, length, states, states_room)
+        && kohiblad_is_taken_apart(starts, starts_size, states, states_room, bytes, size, places,
+                                   count)
+        && !kohiblad_meet(out, room, bytes, size)
+        && !kohiblad_meet(out, room, places, count * sizeof *places)
+        && !kohiblad_meet(length, sizeof *length, bytes, size)
+        && !kohiblad_meet(length, sizeof *length, places, count * sizeof *places);
+}
+static inline struct kohiblad_taken kohiblad_take_timestamp_tz_at(const uint8_t *bytes, size_t size,
+    const struct kohiblad_place *places, size_t count, size_t step,
+    struct kohiblad_timestamp_tz *values, size_t room, uint8_t *states, size_t states_room) {
+    struct kohiblad_taken overlap = { KOHIBLAD_OVERLAP, 0, 0 };
+    if (!kohiblad_is_taken_apart(values, room * sizeof *values, states, states_room, bytes, size,
+                                 places, count))
+        return overlap;
+    return kohiblad_export_take_timestamp_tz_at(kohiblad_in(bytes), size,
+        kohiblad_places_in(places), count, step, kohiblad_zoned_out(values), room,
+        kohiblad_out(states), states_room);
+}
+static inline struct kohiblad_taken kohiblad_take_interval_at(const uint8_t *bytes, size_t size,
+    const struct kohiblad_place *places, size_t count, size_t step,
+    struct kohiblad_interval *values, size_t room, uint8_t *states, size_t states_room) {
+    struct kohiblad_taken overlap = { KOHIBLAD_OVERLAP, 0, 0 };
+    if (!kohiblad_is_taken_apart(values, room * sizeof *values, states, states_room, bytes, size,
+                                 places, count))
+        return overlap;
+    return kohiblad_export_take_interval_at(kohiblad_in(bytes), size, kohiblad_places_in(places),
+        count, step, kohiblad_intervals_out(values), room, kohiblad_out(states), states_room);
+}
+static inline struct kohiblad_taken kohiblad_take_text_at(const uint8_t *bytes, size_t size,
+    const struct kohiblad_place *places, size_t count, size_t step, uint8_t *out, size_t room,
+    size_t *length, size_t *text_offsets, size_t offsets_room, uint8_t *states,
+    size_t states_room) {
+    struct kohiblad_taken overlap = { KOHIBLAD_OVERLAP, 0, 0 };
+    if (!kohiblad_is_byte_column_at(out, room, length, text_offsets,
+                                    offsets_room * sizeof *text_offsets, states, states_room, bytes,
+                                    size, places, count))
+        return overlap;
+    return kohiblad_export_take_text_at(kohiblad_in(bytes), size, kohiblad_places_in(places), count,
+        step, kohiblad_out(out), room, length, kohiblad_order_out(text_offsets), offsets_room,
+        kohiblad_out(states), states_room);
+}
+static inline struct kohiblad_taken kohiblad_take_text32_at(const uint8_t *bytes, size_t size,
+    const struct kohiblad_place *places, size_t count, size_t step, uint8_t *out, size_t room,
+    size_t *length, uint32_t *text_offsets, size_t offsets_room, uint8_t *states,
+    size_t states_room) {
+    struct kohiblad_taken overlap = { KOHIBLAD_OVERLAP, 0, 0 };
+    if (!kohiblad_is_byte_column_at(out, room, length, text_offsets,
+                                    offsets_room * sizeof *text_offsets, states, states_room, bytes,
+                                    size, places, count))
+        return overlap;
+    return kohiblad_export_take_text32_at(kohiblad_in(bytes), size, kohiblad_places_in(places),
+        count, step, kohiblad_out(out), room, length, kohiblad_uint32s_out(text_offsets),
+        offsets_room, kohiblad_out(states), states_room);
+}
+static inline struct kohiblad_taken kohiblad_take_binary_at(const uint8_t *bytes, size_t size,
+    const struct kohiblad_place *places, size_t count, size_t step, uint8_t *out, size_t room,
+    size_t *length, size_t *value_offsets, size_t offsets_room, uint8_t *states,
+    size_t states_room) {
+    struct kohiblad_taken overlap = { KOHIBLAD_OVERLAP, 0, 0 };
+    if (!kohiblad_is_byte_column_at(out, room, length, value_offsets,
+                                    offsets_room * sizeof *value_offsets, states, states_room,
+                                    bytes, size, places, count))
+        return overlap;
+    return kohiblad_export_take_binary_at(kohiblad_in(bytes), size, kohiblad_places_in(places),
+        count, step, kohiblad_out(out), room, length, kohiblad_order_out(value_offsets),
+        offsets_room, kohiblad_out(states), states_room);
+}
+
+/* Takes one member of a batch of rows, which begins at row `first`. */
+static inline struct kohiblad_taken kohiblad_take_batch(const uint8_t *bytes, size_t size,
+    const struct kohiblad_place *places, size_t count, size_t step, uint32_t fit,
+    const struct kohiblad_member *member, size_t first, size_t rows) {
+    struct kohiblad_taken unknown = { KOHIBLAD_INVALID_JSONB, 0, 0 };
+    uint8_t *states = member->states + first;
+    switch (member->type) {
+    case KOHIBLAD_COLUMN_BOOLEAN:
+        return kohiblad_take_boolean_at(bytes, size, places, count, step,
+            (uint8_t *)member->values + first, rows, states, rows);
+    case KOHIBLAD_COLUMN_INT64:
+        return kohiblad_take_int64_at(bytes, size, places, count, step, fit,
+            (int64_t *)member->values + first, rows, states, rows);
+    case KOHIBLAD_COLUMN_UINT64:
+        return kohiblad_take_uint64_at(bytes, size, places, count, step, fit,
+            (uint64_t *)member->values + first, rows, states, rows);
+    case KOHIBLAD_COLUMN_DECIMAL:
+        return kohiblad_take_decimal_at(bytes, size, places, count, step, fit, member->scale,
+            (struct kohiblad_int128 *)member->values + first, rows, states, rows);
+    case KOHIBLAD_COLUMN_DATE:
+        return kohiblad_take_date_at(bytes, size, places, count, step,
+            (int32_t *)member->values + first, rows, states, rows);
+    case KOHIBLAD_COLUMN_TIMESTAMP:
+        return kohiblad_take_timestamp_at(bytes, size, places, count, step,
+            (int64_t *)member->values + first, rows, states, rows);
+    case KOHIBLAD_COLUMN_TIMESTAMP_TZ:
+        return kohiblad_take_timestamp_tz_at(bytes, size, places, count, step,
+            (struct kohiblad_timestamp_tz *)member->values + first, rows, states, rows);
+    case KOHIBLAD_COLUMN_INTERVAL:
+        return kohiblad_take_interval_at(bytes, size, places, count, step,
+            (struct kohiblad_interval *)member->values + first, rows, states, rows);
+    default: return unknown;
+    }
+}
+
+/* Adds the answer of a batch of rows, which begins at row `first`, to that of the rows before. */
+static inline void kohiblad_add_taken(struct kohiblad_taken *all, struct kohiblad_taken batch,
+    size_t first) {
+    if (all->unfit == 0 && batch.unfit > 0) all->first_unfit = first + batch.first_unfit;
+    all->unfit += batch.unfit;
+}
+
+static inline uint32_t kohiblad_take_members(const uint8_t *bytes, size_t size,
+    const size_t *offsets, size_t count, const uint8_t *names, size_t names_size, size_t depth,
+    uint32_t fit, struct kohiblad_member *members, size_t wanted, struct kohiblad_place *places,
+    size_t room) {
+    size_t rows = count > 0 ? count - 1 : 0, first = 0;
+    struct kohiblad_taken none = { KOHIBLAD_OK, 0, rows };
+    if (!kohiblad_check(names, names_size, depth)) return KOHIBLAD_INVALID_JSONB;
+    if (kohiblad_kind(names, names_size).count != wanted) return KOHIBLAD_WRONG_LENGTH;
+    if (wanted == 0) return KOHIBLAD_OK;
+    if (room < wanted) return KOHIBLAD_NO_ROOM;
+    for (size_t j = 0; j < wanted; j++) members[j].taken = none;
+    do {
+        size_t batch = rows - first < room / wanted ? rows - first : room / wanted;
+        uint32_t status = kohiblad_locate(bytes, size, offsets + first, count > 0 ? batch + 1 : 0,
+            names, names_size, depth, places, room);
+        if (status != KOHIBLAD_OK) return status;
+        for (size_t j = 0; j < wanted && batch > 0; j++) {
+            struct kohiblad_taken taken = kohiblad_take_batch(bytes, size, places + j,
+                batch * wanted - j, wanted, fit, &members[j], first, batch);
+            if (taken.status != KOHIBLAD_OK) return members[j].taken.status = taken.status;
+            kohiblad_add_taken(&members[j].taken, taken, first);
+        }
+        first += batch;
+    } while (first < rows);
+    return KOHIBLAD_OK;
 }
 static inline struct kohiblad_truth kohiblad_contains(const uint8_t *left, size_t left_size,
     const uint8_t *right, size_t right_size, size_t depth, size_t steps) {
@@ -1991,6 +2832,81 @@ static inline uint32_t kohiblad_top_keys(const uint8_t *bytes, size_t size, size
         return KOHIBLAD_OVERLAP;
     return kohiblad_export_top_keys(kohiblad_in(bytes), size, depth, kohiblad_keys_out(out), room,
         count);
+}
+static inline uint32_t kohiblad_zones_int64(const int64_t *values, size_t values_count,
+    const uint8_t *states, size_t states_count, size_t block_rows, struct kohiblad_int64_zone *out,
+    size_t room, size_t *count) {
+    static const int64_t no_value = 0;
+    static struct kohiblad_int64_zone no_zone;
+    if (!kohiblad_are_apart(out, room * sizeof *out, count, values, values_count * sizeof *values)
+        || !kohiblad_are_apart(out, room * sizeof *out, count, states, states_count))
+        return KOHIBLAD_OVERLAP;
+    return kohiblad_export_zones_int64(values ? values : &no_value, values_count,
+        kohiblad_in(states), states_count, block_rows, out ? out : &no_zone, room, count);
+}
+static inline uint32_t kohiblad_zones_uint64(const uint64_t *values, size_t values_count,
+    const uint8_t *states, size_t states_count, size_t block_rows, struct kohiblad_uint64_zone *out,
+    size_t room, size_t *count) {
+    static const uint64_t no_value = 0;
+    static struct kohiblad_uint64_zone no_zone;
+    if (!kohiblad_are_apart(out, room * sizeof *out, count, values, values_count * sizeof *values)
+        || !kohiblad_are_apart(out, room * sizeof *out, count, states, states_count))
+        return KOHIBLAD_OVERLAP;
+    return kohiblad_export_zones_uint64(values ? values : &no_value, values_count,
+        kohiblad_in(states), states_count, block_rows, out ? out : &no_zone, room, count);
+}
+static inline uint32_t kohiblad_zones_decimal(const struct kohiblad_int128 *values,
+    size_t values_count, const uint8_t *states, size_t states_count, size_t block_rows,
+    struct kohiblad_decimal_zone *out, size_t room, size_t *count) {
+    static const struct kohiblad_int128 no_value = { 0, 0 };
+    static struct kohiblad_decimal_zone no_zone;
+    if (!kohiblad_are_apart(out, room * sizeof *out, count, values, values_count * sizeof *values)
+        || !kohiblad_are_apart(out, room * sizeof *out, count, states, states_count))
+        return KOHIBLAD_OVERLAP;
+    return kohiblad_export_zones_decimal(values ? values : &no_value, values_count,
+        kohiblad_in(states), states_count, block_rows, out ? out : &no_zone, room, count);
+}
+static inline uint32_t kohiblad_zones_date(const int32_t *values, size_t values_count,
+    const uint8_t *states, size_t states_count, size_t block_rows, struct kohiblad_date_zone *out,
+    size_t room, size_t *count) {
+    static const int32_t no_value = 0;
+    static struct kohiblad_date_zone no_zone;
+    if (!kohiblad_are_apart(out, room * sizeof *out, count, values, values_count * sizeof *values)
+        || !kohiblad_are_apart(out, room * sizeof *out, count, states, states_count))
+        return KOHIBLAD_OVERLAP;
+    return kohiblad_export_zones_date(values ? values : &no_value, values_count,
+        kohiblad_in(states), states_count, block_rows, out ? out : &no_zone, room, count);
+}
+static inline uint32_t kohiblad_build_typed_file(const uint8_t *bytes, size_t size,
+    const size_t *offsets, size_t count, const uint8_t *names, size_t names_size,
+    const uint8_t *types, size_t types_size, size_t depth, uint8_t *out, size_t room,
+    size_t *length) {
+    if (!kohiblad_is_room(out, room, length) || !kohiblad_is_apart(out, room, length, bytes, size)
+        || !kohiblad_is_apart(out, room, length, offsets, count * sizeof *offsets)
+        || !kohiblad_is_apart(out, room, length, names, names_size)
+        || !kohiblad_is_apart(out, room, length, types, types_size))
+        return KOHIBLAD_OVERLAP;
+    return kohiblad_export_build_typed_file(kohiblad_in(bytes), size, kohiblad_offsets_in(offsets),
+        count, kohiblad_in(names), names_size, kohiblad_in(types), types_size, depth,
+        kohiblad_out(out), room, length);
+}
+static inline struct kohiblad_typed_file kohiblad_check_typed_file(const uint8_t *bytes,
+    size_t size, size_t depth) {
+    return kohiblad_export_check_typed_file(kohiblad_in(bytes), size, depth);
+}
+static inline uint32_t kohiblad_typed_columns(const uint8_t *bytes, size_t size,
+    struct kohiblad_typed_column *out, size_t room, size_t *count) {
+    static struct kohiblad_typed_column no_column;
+    if (!kohiblad_are_apart(out, room * sizeof *out, count, bytes, size)) return KOHIBLAD_OVERLAP;
+    return kohiblad_export_typed_columns(kohiblad_in(bytes), size, out ? out : &no_column, room,
+        count);
+}
+static inline uint32_t kohiblad_typed_row(const uint8_t *bytes, size_t size, size_t index,
+    size_t depth, uint8_t *out, size_t room, size_t *length) {
+    if (!kohiblad_is_room(out, room, length) || !kohiblad_is_apart(out, room, length, bytes, size))
+        return KOHIBLAD_OVERLAP;
+    return kohiblad_export_typed_row(kohiblad_in(bytes), size, index, depth, kohiblad_out(out),
+        room, length);
 }
 
 /* Words one after another, of which `out` has those for which there is room. */

@@ -34,7 +34,13 @@ enum kohiblad_status {
     KOHIBLAD_PAST_RANGE = 15,
     KOHIBLAD_OVERLAP = 16,
     KOHIBLAD_BAD_NUMBER = 17,
-    KOHIBLAD_TOO_MANY_STEPS = 18
+    KOHIBLAD_TOO_MANY_STEPS = 18,
+    KOHIBLAD_BAD_MAGIC = 19,
+    KOHIBLAD_UNKNOWN_VERSION = 20,
+    KOHIBLAD_TRAILING_DATA = 21,
+    KOHIBLAD_WRONG_LENGTH = 22,
+    KOHIBLAD_OUT_OF_FORM = 23,
+    KOHIBLAD_NOT_READ_BACK = 24
 };
 
 enum kohiblad_expected_class {
@@ -164,10 +170,86 @@ struct kohiblad_int128 {
     int64_t high;
 };
 
+struct kohiblad_timestamp_tz {
+    int64_t value;
+    int32_t seconds;
+};
+
+struct kohiblad_interval {
+    int32_t months;
+    int32_t days;
+    int64_t micros;
+};
+
+struct kohiblad_int64_zone {
+    int64_t least;
+    int64_t greatest;
+    uint64_t has_value;
+};
+
+struct kohiblad_uint64_zone {
+    uint64_t least;
+    uint64_t greatest;
+    uint64_t has_value;
+};
+
+struct kohiblad_decimal_zone {
+    struct kohiblad_int128 least;
+    struct kohiblad_int128 greatest;
+    uint64_t has_value;
+};
+
+struct kohiblad_date_zone {
+    int32_t least;
+    int32_t greatest;
+    uint64_t has_value;
+};
+
+enum kohiblad_column_type {
+    KOHIBLAD_COLUMN_BOOLEAN = 0,
+    KOHIBLAD_COLUMN_INT64 = 1,
+    KOHIBLAD_COLUMN_UINT64 = 2,
+    KOHIBLAD_COLUMN_DECIMAL = 3,
+    KOHIBLAD_COLUMN_TEXT = 4,
+    KOHIBLAD_COLUMN_DATE = 5,
+    KOHIBLAD_COLUMN_TIMESTAMP = 6,
+    KOHIBLAD_COLUMN_TIMESTAMP_TZ = 7,
+    KOHIBLAD_COLUMN_INTERVAL = 8,
+    KOHIBLAD_COLUMN_BINARY = 9
+};
+
+struct kohiblad_typed_file {
+    uint32_t status;
+    uint64_t rows;
+    uint64_t columns;
+};
+
+struct kohiblad_typed_column {
+    uint32_t type;
+    uint32_t scale;
+    uint64_t rows;
+    uint64_t name;
+    uint64_t name_length;
+    uint64_t flags;
+    uint64_t flags_length;
+    uint64_t numbers;
+    uint64_t numbers_length;
+    uint64_t texts;
+    uint64_t texts_length;
+};
+
 struct kohiblad_taken {
     uint32_t status;
     uint64_t unfit;
     uint64_t first_unfit;
+};
+
+struct kohiblad_member {
+    uint32_t type;
+    uint32_t scale;
+    void *values;
+    uint8_t *states;
+    struct kohiblad_taken taken;
 };
 
 struct kohiblad_survey_counts {
@@ -295,6 +377,22 @@ struct kohiblad_taken kohiblad_take_text_unchecked(const uint8_t *bytes, size_t 
     const size_t *offsets, size_t count, const uint8_t *path, size_t path_size, size_t depth,
     uint8_t *out, size_t room, size_t *length, size_t *text_offsets, size_t offsets_room,
     uint8_t *states, size_t states_room);
+struct kohiblad_taken kohiblad_take_text32(const uint8_t *bytes, size_t size, const size_t *offsets,
+    size_t count, const uint8_t *path, size_t path_size, size_t depth, uint8_t *out, size_t room,
+    size_t *length, uint32_t *text_offsets, size_t offsets_room, uint8_t *states,
+    size_t states_room);
+struct kohiblad_taken kohiblad_take_text32_unchecked(const uint8_t *bytes, size_t size,
+    const size_t *offsets, size_t count, const uint8_t *path, size_t path_size, size_t depth,
+    uint8_t *out, size_t room, size_t *length, uint32_t *text_offsets, size_t offsets_room,
+    uint8_t *states, size_t states_room);
+struct kohiblad_taken kohiblad_take_binary(const uint8_t *bytes, size_t size, const size_t *offsets,
+    size_t count, const uint8_t *path, size_t path_size, size_t depth, uint8_t *out, size_t room,
+    size_t *length, size_t *value_offsets, size_t offsets_room, uint8_t *states,
+    size_t states_room);
+struct kohiblad_taken kohiblad_take_binary_unchecked(const uint8_t *bytes, size_t size,
+    const size_t *offsets, size_t count, const uint8_t *path, size_t path_size, size_t depth,
+    uint8_t *out, size_t room, size_t *length, size_t *value_offsets, size_t offsets_room,
+    uint8_t *states, size_t states_room);
 struct kohiblad_taken kohiblad_take_date(const uint8_t *bytes, size_t size, const size_t *offsets,
     size_t count, const uint8_t *path, size_t path_size, size_t depth, int32_t *values, size_t room,
     uint8_t *states, size_t states_room);
@@ -307,6 +405,80 @@ struct kohiblad_taken kohiblad_take_timestamp(const uint8_t *bytes, size_t size,
 struct kohiblad_taken kohiblad_take_timestamp_unchecked(const uint8_t *bytes, size_t size,
     const size_t *offsets, size_t count, const uint8_t *path, size_t path_size, size_t depth,
     int64_t *values, size_t room, uint8_t *states, size_t states_room);
+struct kohiblad_taken kohiblad_take_timestamp_tz(const uint8_t *bytes, size_t size,
+    const size_t *offsets, size_t count, const uint8_t *path, size_t path_size, size_t depth,
+    struct kohiblad_timestamp_tz *values, size_t room, uint8_t *states, size_t states_room);
+struct kohiblad_taken kohiblad_take_timestamp_tz_unchecked(const uint8_t *bytes, size_t size,
+    const size_t *offsets, size_t count, const uint8_t *path, size_t path_size, size_t depth,
+    struct kohiblad_timestamp_tz *values, size_t room, uint8_t *states, size_t states_room);
+struct kohiblad_taken kohiblad_take_interval(const uint8_t *bytes, size_t size,
+    const size_t *offsets, size_t count, const uint8_t *path, size_t path_size, size_t depth,
+    struct kohiblad_interval *values, size_t room, uint8_t *states, size_t states_room);
+struct kohiblad_taken kohiblad_take_interval_unchecked(const uint8_t *bytes, size_t size,
+    const size_t *offsets, size_t count, const uint8_t *path, size_t path_size, size_t depth,
+    struct kohiblad_interval *values, size_t room, uint8_t *states, size_t states_room);
+uint32_t kohiblad_zones_int64(const int64_t *values, size_t values_count, const uint8_t *states,
+    size_t states_count, size_t block_rows, struct kohiblad_int64_zone *out, size_t room,
+    size_t *count);
+uint32_t kohiblad_zones_uint64(const uint64_t *values, size_t values_count, const uint8_t *states,
+    size_t states_count, size_t block_rows, struct kohiblad_uint64_zone *out, size_t room,
+    size_t *count);
+uint32_t kohiblad_zones_decimal(const struct kohiblad_int128 *values, size_t values_count,
+    const uint8_t *states, size_t states_count, size_t block_rows,
+    struct kohiblad_decimal_zone *out, size_t room, size_t *count);
+uint32_t kohiblad_zones_date(const int32_t *values, size_t values_count, const uint8_t *states,
+    size_t states_count, size_t block_rows, struct kohiblad_date_zone *out, size_t room,
+    size_t *count);
+uint32_t kohiblad_build_typed_file(const uint8_t *bytes, size_t size, const size_t *offsets,
+    size_t count, const uint8_t *names, size_t names_size, const uint8_t *types, size_t types_size,
+    size_t depth, uint8_t *out, size_t room, size_t *length);
+struct kohiblad_typed_file kohiblad_check_typed_file(const uint8_t *bytes, size_t size,
+    size_t depth);
+uint32_t kohiblad_typed_columns(const uint8_t *bytes, size_t size,
+    struct kohiblad_typed_column *out, size_t room, size_t *count);
+uint32_t kohiblad_typed_row(const uint8_t *bytes, size_t size, size_t index, size_t depth,
+    uint8_t *out, size_t room, size_t *length);
+uint32_t kohiblad_locate(const uint8_t *bytes, size_t size, const size_t *offsets, size_t count,
+    const uint8_t *names, size_t names_size, size_t depth, struct kohiblad_place *places,
+    size_t room);
+uint32_t kohiblad_locate_unchecked(const uint8_t *bytes, size_t size, const size_t *offsets,
+    size_t count, const uint8_t *names, size_t names_size, size_t depth,
+    struct kohiblad_place *places, size_t room);
+struct kohiblad_taken kohiblad_take_int64_at(const uint8_t *bytes, size_t size,
+    const struct kohiblad_place *places, size_t count, size_t step, uint32_t fit, int64_t *values,
+    size_t room, uint8_t *states, size_t states_room);
+struct kohiblad_taken kohiblad_take_uint64_at(const uint8_t *bytes, size_t size,
+    const struct kohiblad_place *places, size_t count, size_t step, uint32_t fit, uint64_t *values,
+    size_t room, uint8_t *states, size_t states_room);
+struct kohiblad_taken kohiblad_take_decimal_at(const uint8_t *bytes, size_t size,
+    const struct kohiblad_place *places, size_t count, size_t step, uint32_t fit, uint32_t scale,
+    struct kohiblad_int128 *values, size_t room, uint8_t *states, size_t states_room);
+struct kohiblad_taken kohiblad_take_boolean_at(const uint8_t *bytes, size_t size,
+    const struct kohiblad_place *places, size_t count, size_t step, uint8_t *values, size_t room,
+    uint8_t *states, size_t states_room);
+struct kohiblad_taken kohiblad_take_date_at(const uint8_t *bytes, size_t size,
+    const struct kohiblad_place *places, size_t count, size_t step, int32_t *values, size_t room,
+    uint8_t *states, size_t states_room);
+struct kohiblad_taken kohiblad_take_timestamp_at(const uint8_t *bytes, size_t size,
+    const struct kohiblad_place *places, size_t count, size_t step, int64_t *values, size_t room,
+    uint8_t *states, size_t states_room);
+struct kohiblad_taken kohiblad_take_timestamp_tz_at(const uint8_t *bytes, size_t size,
+    const struct kohiblad_place *places, size_t count, size_t step,
+    struct kohiblad_timestamp_tz *values, size_t room, uint8_t *states, size_t states_room);
+struct kohiblad_taken kohiblad_take_interval_at(const uint8_t *bytes, size_t size,
+    const struct kohiblad_place *places, size_t count, size_t step,
+    struct kohiblad_interval *values, size_t room, uint8_t *states, size_t states_room);
+struct kohiblad_taken kohiblad_take_text_at(const uint8_t *bytes, size_t size,
+    const struct kohiblad_place *places, size_t count, size_t step, uint8_t *out, size_t room,
+    size_t *length, size_t *text_offsets, size_t offsets_room, uint8_t *states, size_t states_room);
+struct kohiblad_taken kohiblad_take_text32_at(const uint8_t *bytes, size_t size,
+    const struct kohiblad_place *places, size_t count, size_t step, uint8_t *out, size_t room,
+    size_t *length, uint32_t *text_offsets, size_t offsets_room, uint8_t *states,
+    size_t states_room);
+struct kohiblad_taken kohiblad_take_binary_at(const uint8_t *bytes, size_t size,
+    const struct kohiblad_place *places, size_t count, size_t step, uint8_t *out, size_t room,
+    size_t *length, size_t *value_offsets, size_t offsets_room, uint8_t *states,
+    size_t states_room);
 struct kohiblad_truth kohiblad_contains(const uint8_t *left, size_t left_size, const uint8_t *right,
     size_t right_size, size_t depth, size_t steps);
 struct kohiblad_truth kohiblad_exists(const uint8_t *bytes, size_t size, const uint8_t *key,

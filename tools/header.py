@@ -20,7 +20,10 @@ CROSSES = {
     "Global": [], "&[u8]": ["const uint8_t *", "size_t"], "&mut [u8]": ["uint8_t *", "size_t"],
     "&[usize]": ["const size_t *", "size_t"], "&mut [usize]": ["size_t *", "size_t"],
     "&mut [u64]": ["uint64_t *", "size_t"], "&mut [i64]": ["int64_t *", "size_t"],
-    "&mut [i32]": ["int32_t *", "size_t"],
+    "&mut [u32]": ["uint32_t *", "size_t"],
+    "&mut [i32]": ["int32_t *", "size_t"], "&[u64]": ["const uint64_t *", "size_t"],
+    "&[i64]": ["const int64_t *", "size_t"], "&[i32]": ["const int32_t *", "size_t"],
+    "&[KohibladPlace]": ["const struct kohiblad_place *", "size_t"],
     "&mut usize": ["size_t *"], "usize": ["size_t"], "u32": ["uint32_t"], "u64": ["uint64_t"],
     "i32": ["int32_t"], "i64": ["int64_t"], "bool": ["bool"],
 }
@@ -33,11 +36,20 @@ STRUCTS = {
     "KohibladFault": "struct kohiblad_fault", "KohibladExpected": "struct kohiblad_expected",
     "KohibladSurvey": "struct kohiblad_survey_counts", "KohibladTaken": "struct kohiblad_taken",
     "KohibladInt128": "struct kohiblad_int128",
+    "KohibladTimestampTz": "struct kohiblad_timestamp_tz",
+    "KohibladInterval": "struct kohiblad_interval",
+    "KohibladInt64Zone": "struct kohiblad_int64_zone",
+    "KohibladUInt64Zone": "struct kohiblad_uint64_zone",
+    "KohibladDecimalZone": "struct kohiblad_decimal_zone",
+    "KohibladDateZone": "struct kohiblad_date_zone",
+    "KohibladTypedFile": "struct kohiblad_typed_file",
+    "KohibladTypedColumn": "struct kohiblad_typed_column",
 }
 for rust_name, c_name in STRUCTS.items():
     CROSSES[rust_name] = [c_name]
     CROSSES["&mut " + rust_name] = [c_name + " *"]
     CROSSES[f"&mut [{rust_name}]"] = [c_name + " *", "size_t"]
+    CROSSES[f"&[{rust_name}]"] = [f"const {c_name} *", "size_t"]
 # What the header's first comment says of all calls, and no other comment has to repeat.
 OF_ALL_CALLS = [
     r" A scalar has depth 0, an array or object one more than its deepest child, and at least 1\.",
@@ -61,7 +73,8 @@ WORDS = [
 STACK_GROUP = re.compile(r"^ \* +(\d+) bytes: (.*?)(?=^ \* +\d+ bytes: |^ \*$)", re.M | re.S)
 # The calls that the other figures are for.
 STACK_CALLS = {
-    "LEVEL": ["contains"], "EDIT_LEVEL": ["edit", "concat"], "PATCH_LEVEL": ["merge_patch"],
+    "LEVEL": ["contains"], "EDIT_LEVEL": ["edit", "concat", "build_typed_file", "typed_row"],
+    "PATCH_LEVEL": ["merge_patch"],
 }
 # The rows of the table of stack in docs/C.md.
 STACK_ROWS = re.compile(r"(\| bytes for a level \|.*\n\|[-|]+\n)((?:\| \d.*\n)+)")

@@ -204,6 +204,134 @@ static int64_t three_checked_once(void) { return three(taken, taken_unchecked); 
 
 static int64_t three_unchecked(void) { return three(taken_unchecked, taken_unchecked); }
 
+/* Members in the order of their names, those of whole numbers, found in one walk over each row. */
+static const char *const five[] = { "at", "id", "qty", "score", "tax" };
+static struct kohiblad_place places[10 * BATCH];
+typedef uint32_t Locate(const uint8_t *, size_t, const size_t *, size_t, const uint8_t *, size_t,
+                        size_t, struct kohiblad_place *, size_t);
+
+static int64_t sum_at(Locate *locate, const char *text, size_t wanted) {
+    uint8_t names[128];
+    size_t names_size;
+    int64_t sum = 0;
+    assert(!kohiblad_parse((const uint8_t *)text, strlen(text), DEPTH, 0, names, sizeof names,
+                           &names_size));
+    for (size_t first = 0; first < count; first += BATCH) {
+        size_t many = count - first < BATCH ? count - first : BATCH;
+        assert(!locate(rows, offsets[count], offsets + first, many + 1, names, names_size, DEPTH,
+                       places, 10 * BATCH));
+        for (size_t j = 0; j < wanted; j++) {
+            struct kohiblad_taken answer = kohiblad_take_int64_at(rows, offsets[count], places + j,
+                many * wanted - j, wanted, KOHIBLAD_BY_VALUE, values, BATCH, states, BATCH);
+            assert(answer.status == KOHIBLAD_OK && answer.unfit == 0);
+            for (size_t i = 0; i < many; i++) sum += values[i];
+        }
+    }
+    return sum;
+}
+
+static int64_t three_located(void) {
+    return sum_at(kohiblad_locate, "[\"at\",\"qty\",\"tax\"]", 3);
+}
+
+static int64_t three_located_unchecked(void) {
+    return sum_at(kohiblad_locate_unchecked, "[\"at\",\"qty\",\"tax\"]", 3);
+}
+
+static int64_t five_located_unchecked(void) {
+    return sum_at(kohiblad_locate_unchecked,
+                  "[\"at\",\"id\",\"qty\",\"score\",\"tax\"]", 5);
+}
+
+static int64_t five_unchecked(void) {
+    int64_t sum = 0;
+    for (int i = 0; i < 5; i++) {
+        set_member(five[i]);
+        sum += taken_unchecked();
+    }
+    return sum;
+}
+
+/* All ten members, each as values of its type: whole numbers, texts, truth values and decimals. */
+static const struct { const char *name; char type; } ten[] = {
+    { "at", 'n' }, { "city", 't' }, { "id", 'n' }, { "note", 't' }, { "ok", 'b' },
+    { "price", 'd' }, { "qty", 'n' }, { "score", 'n' }, { "sku", 't' }, { "tax", 'n' },
+};
+static uint8_t letters[16 * BATCH], truths[BATCH];
+static size_t starts[BATCH + 1], letter_count;
+
+static int64_t sum_taken(char type, size_t many) {
+    int64_t sum = type == 't' ? (int64_t)letter_count : 0;
+    for (size_t i = 0; i < many && type != 't'; i++)
+        sum += type == 'n' ? values[i] : type == 'b' ? truths[i] : (int64_t)decimals[i].low;
+    return sum;
+}
+
+static struct kohiblad_taken take_rows(char type, size_t first, size_t many) {
+    const size_t *from = offsets + first;
+    size_t size = offsets[count];
+    switch (type) {
+    case 'n': return kohiblad_take_int64_unchecked(rows, size, from, many + 1, path, path_size,
+        DEPTH, KOHIBLAD_BY_VALUE, values, BATCH, states, BATCH);
+    case 'd': return kohiblad_take_decimal_unchecked(rows, size, from, many + 1, path, path_size,
+        DEPTH, KOHIBLAD_BY_VALUE, 2, decimals, BATCH, states, BATCH);
+    case 'b': return kohiblad_take_boolean_unchecked(rows, size, from, many + 1, path, path_size,
+        DEPTH, truths, BATCH, states, BATCH);
+    default: return kohiblad_take_text_unchecked(rows, size, from, many + 1, path, path_size,
+        DEPTH, letters, sizeof letters, &letter_count, starts, BATCH + 1, states, BATCH);
+    }
+}
+
+static struct kohiblad_taken take_places(char type, size_t j, size_t many) {
+    const struct kohiblad_place *from = places + j;
+    size_t size = offsets[count], left = 10 * many - j;
+    switch (type) {
+    case 'n': return kohiblad_take_int64_at(rows, size, from, left, 10, KOHIBLAD_BY_VALUE, values,
+        BATCH, states, BATCH);
+    case 'd': return kohiblad_take_decimal_at(rows, size, from, left, 10, KOHIBLAD_BY_VALUE, 2,
+        decimals, BATCH, states, BATCH);
+    case 'b': return kohiblad_take_boolean_at(rows, size, from, left, 10, truths, BATCH, states,
+        BATCH);
+    default: return kohiblad_take_text_at(rows, size, from, left, 10, letters, sizeof letters,
+        &letter_count, starts, BATCH + 1, states, BATCH);
+    }
+}
+
+static int64_t ten_unchecked(void) {
+    int64_t sum = 0;
+    for (int j = 0; j < 10; j++) {
+        set_member(ten[j].name);
+        for (size_t first = 0; first < count; first += BATCH) {
+            size_t many = count - first < BATCH ? count - first : BATCH;
+            struct kohiblad_taken answer = take_rows(ten[j].type, first, many);
+            assert(answer.status == KOHIBLAD_OK && answer.unfit == 0);
+            sum += sum_taken(ten[j].type, many);
+        }
+    }
+    return sum;
+}
+
+static int64_t ten_located_unchecked(void) {
+    static const char text[] = "[\"at\",\"city\",\"id\",\"note\",\"ok\",\"price\",\"qty\","
+                               "\"score\",\"sku\",\"tax\"]";
+    uint8_t names[256];
+    size_t names_size;
+    int64_t sum = 0;
+    assert(!kohiblad_parse((const uint8_t *)text, sizeof text - 1, DEPTH, 0, names, sizeof names,
+                           &names_size));
+    for (size_t first = 0; first < count; first += BATCH) {
+        size_t many = count - first < BATCH ? count - first : BATCH;
+        assert(!kohiblad_locate_unchecked(rows, offsets[count], offsets + first, many + 1, names,
+                                          names_size, DEPTH, places, 10 * BATCH));
+        for (size_t j = 0; j < 10; j++) {
+            struct kohiblad_taken answer = take_places(ten[j].type, j, many);
+            assert(answer.status == KOHIBLAD_OK && answer.unfit == 0);
+            sum += sum_taken(ten[j].type, many);
+        }
+    }
+    return sum;
+}
+
 int main(int many, char **words) {
     count = many > 1 ? strtoul(words[1], NULL, 10) : 1000000;
     make_rows();
@@ -220,6 +348,14 @@ int main(int many, char **words) {
     int64_t total = timed("a loop in C that trusts the rows", three_trusting);
     assert(timed("_take_int64, then twice _unchecked", three_checked_once) == total);
     assert(timed("_take_int64_unchecked", three_unchecked) == total);
+    assert(timed("kohiblad_locate and _take_int64_at", three_located) == total);
+    assert(timed("kohiblad_locate_unchecked, the same", three_located_unchecked) == total);
+    printf("five members\n");
+    total = timed("_take_int64_unchecked", five_unchecked);
+    assert(timed("kohiblad_locate_unchecked, _take_int64_at", five_located_unchecked) == total);
+    printf("all ten members, by their types\n");
+    total = timed("_take_int64_unchecked and so on", ten_unchecked);
+    assert(timed("kohiblad_locate_unchecked, _take_int64_at ..", ten_located_unchecked) == total);
     ask("price");
     int64_t prices = timed("kohiblad_take_decimal, scale 2", taken_decimals);
     assert(timed("kohiblad_take_decimal_unchecked", taken_decimals_unchecked) == prices);

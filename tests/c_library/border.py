@@ -141,8 +141,9 @@ def known_answers():
     array = bytes.fromhex("8000000330000000200000025000000e500a4000000110000001100000016b76")
     names = ("Ok InvalidEOF InvalidJsonb InvalidJsonbHeader InvalidJsonbJEntry InvalidJsonbNumber "
              "InvalidJsonbExtension InvalidUtf8 ObjectDuplicateKey InvalidJson OutOfMemory NoRoom "
-             "None TooDeep OtherKind PastRange Overlap BadNumber TooManySteps Unknown").split()
-    assert [name_of(status) for status in range(20)] == names
+             "None TooDeep OtherKind PastRange Overlap BadNumber TooManySteps BadMagic "
+             "UnknownVersion TrailingData WrongLength OutOfForm NotReadBack Unknown").split()
+    assert [name_of(status) for status in range(26)] == names
     for document, answer in (
             ("2000000060000005 10fffffffe", (0, 0x10, -2, 0, 0, 0, 0, 0)),
             ("2000000060000009 200000000000000007", (0, 0x20, 7, 0, 0, 0, 0, 0)),

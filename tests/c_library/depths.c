@@ -18,6 +18,9 @@ static size_t in_size, room, levels;
 /* The document once more, with another innermost number; both in a row; and the array of both. */
 static uint8_t *more, *both, *pair;
 static size_t pair_size;
+/* A file of typed columns, of one row, which is the document, and no columns. */
+static uint8_t *file;
+static size_t file_size;
 /* The ends of a worker's stack. */
 static uint8_t *stack_end, *stack_top;
 static const char *name;
@@ -124,6 +127,12 @@ static void *work(void *unused) {
             != KOHIBLAD_INVALID_JSONB;
         status |= kohiblad_index_keys(in, in_size, 64, NULL, 0, &length) != KOHIBLAD_INVALID_JSONB;
         status |= kohiblad_top_keys(in, in_size, 64, NULL, 0, &length) != KOHIBLAD_INVALID_JSONB;
+        status |= kohiblad_check_typed_file(file, file_size, 64).status != KOHIBLAD_TOO_DEEP;
+        status |= kohiblad_typed_columns(file, file_size, NULL, 0, &length);
+        status |= kohiblad_typed_row(file, file_size, 0, 64, out, room, &length)
+            != KOHIBLAD_TOO_DEEP;
+        status |= kohiblad_build_typed_file(in, in_size, offsets + 1, 2, no_names, 4, NULL, 0, 64,
+                                            out, room, &length) != KOHIBLAD_INVALID_JSONB;
         status |= kohiblad_kind(in, in_size).status;
         status |= kohiblad_find_index(in, in_size, 0).status;
         status |= kohiblad_begin(in, in_size, &cursor);
@@ -225,6 +234,13 @@ static void *work(void *unused) {
     else if (!strcmp(name, "build_object"))
         status = kohiblad_build_object(in, in_size, (size_t[]){ 0, 0, in_size }, 3, levels, out,
                                        room, &length);
+    else if (!strcmp(name, "check_typed_file"))
+        status = kohiblad_check_typed_file(file, file_size, levels).status;
+    else if (!strcmp(name, "typed_row"))
+        status = kohiblad_typed_row(file, file_size, 0, levels, out, room, &length);
+    else if (!strcmp(name, "build_typed_file"))
+        status = kohiblad_build_typed_file(in, in_size, (size_t[]){ 0, in_size }, 2, no_names, 4,
+                                           NULL, 0, levels, out, room, &length);
     else if (!strcmp(name, "parse"))
         status = kohiblad_parse(in, in_size, levels, 0, out, room, &length);
     else if (!strcmp(name, "text_fault"))
@@ -296,6 +312,15 @@ static void make_documents(bool is_object) {
     memcpy(at, both, 2 * in_size);
     free(text);
     name = wanted;
+
+    file = malloc(file_size = 48 + in_size);
+    if (!file) abort();
+    memcpy(file, "KOHITYPE", 8);
+    at = put_word(put_word(file + 8, 1), 0);
+    /* Two offsets, and one document. */
+    const size_t words[] = { 16, 0, in_size, in_size };
+    for (int i = 0; i < 4; i++) at = put_word(put_word(at, 0), (uint32_t)words[i]);
+    memcpy(at, in, in_size);
 }
 
 int main(int argc, char **argv) {

@@ -705,6 +705,69 @@ static void unchecked_column_of(struct block rows, const size_t *where, const ui
     drop(seen); drop(mine);
 }
 
+/* The members "a" and "c" of the same rows in one walk over each: at the places of "a" the same
+ * states and values as the calls that look it up take, in rows of any bytes that are not checked
+ * some. */
+static void located_in(struct block rows, const size_t *where, bool good, size_t depth) {
+    static const uint8_t names[] = { 128, 0, 0, 2, 16, 0, 0, 1, 16, 0, 0, 1, 'a', 'c' };
+    static const uint8_t path[] = { 128, 0, 0, 1, 16, 0, 0, 1, 'a' };
+    struct block found = make(6 * sizeof(struct kohiblad_place));
+    struct block mine = make(3 * sizeof(int64_t)), seen = make(3);
+    struct block its = make(3 * sizeof(int64_t)), states = make(3);
+    struct kohiblad_place *places = (struct kohiblad_place *)(void *)found.at;
+    for (int is_checked = 0; is_checked < 2; is_checked++) {
+        uint32_t status = is_checked
+            ? kohiblad_locate(rows.at, rows.size, where, 4, names, sizeof names, depth, places, 6)
+            : kohiblad_locate_unchecked(rows.at, rows.size, where, 4, names, sizeof names, depth,
+                                        places, 6);
+        assert(status == (!good ? KOHIBLAD_INVALID_EOF : depth < 1 ? KOHIBLAD_INVALID_JSONB
+                                                                   : KOHIBLAD_OK));
+        if (status) continue;
+        for (size_t i = 0; i < 6; i++)
+            assert(places[i].status || (places[i].offset <= rows.size
+                                        && places[i].length <= rows.size - places[i].offset));
+        struct kohiblad_taken one = kohiblad_take_int64_at(rows.at, rows.size, places, 6, 2,
+            KOHIBLAD_BY_VALUE, (int64_t *)(void *)mine.at, 3, seen.at, 3);
+        struct kohiblad_taken other = kohiblad_take_int64(rows.at, rows.size, where, 4, path,
+            sizeof path, depth, KOHIBLAD_BY_VALUE, (int64_t *)(void *)its.at, 3, states.at, 3);
+        assert(one.status == KOHIBLAD_OK && other.status == KOHIBLAD_OK);
+        for (size_t i = 0; i < 3; i++) {
+            assert(seen.at[i] < 5);
+            if (!is_checked && states.at[i] == KOHIBLAD_ROW_NO_DOCUMENT) continue;
+            assert(seen.at[i] == states.at[i]);
+            assert(!memcmp(mine.at + 8 * i, its.at + 8 * i, 8));
+        }
+    }
+    drop(states); drop(its); drop(seen); drop(mine); drop(found);
+}
+
+/* The places of any bytes: nothing beyond the bytes is read. */
+static void taken_at_any(struct block rows) {
+    struct block found = make(3 * sizeof(struct kohiblad_place));
+    struct block values = make(3 * sizeof(int64_t)), states = make(3);
+    struct kohiblad_place *places = (struct kohiblad_place *)(void *)found.at;
+    for (size_t i = 0; i < 3; i++) {
+        places[i].status = below(4) ? KOHIBLAD_OK : (uint32_t)below(20);
+        places[i].type = (uint32_t)below(9) << 28;
+        places[i].offset = below(8) ? below((uint32_t)rows.size + 9) : SIZE_MAX - below(9);
+        places[i].length = below(8) ? below((uint32_t)rows.size + 9) : SIZE_MAX - below(9);
+    }
+    struct kohiblad_taken taken = kohiblad_take_int64_at(rows.at, rows.size, places, 3, below(3),
+        KOHIBLAD_BY_VALUE, (int64_t *)(void *)values.at, 3, states.at, 3);
+    assert(taken.status == KOHIBLAD_OK && taken.unfit <= 3 && taken.first_unfit <= 3);
+    struct block starts = make(4 * sizeof(size_t)), letters = make(3 * rows.size);
+    size_t *offsets = (size_t *)(void *)starts.at, length;
+    for (int is_text = 0; is_text < 2; is_text++) {
+        taken = (is_text ? kohiblad_take_text_at : kohiblad_take_binary_at)(rows.at, rows.size,
+            places, 3, 1, letters.at, letters.size, &length, offsets, 4, states.at, 3);
+        assert(taken.status == KOHIBLAD_OK && offsets[0] == 0 && offsets[3] == length);
+        for (size_t i = 0; i < 3; i++)
+            assert(states.at[i] == KOHIBLAD_ROW_VALUE ? offsets[i] <= offsets[i + 1]
+                                                      : offsets[i] == offsets[i + 1]);
+    }
+    drop(letters); drop(starts); drop(states); drop(values); drop(found);
+}
+
 /* A member of rows of any bytes as a column: of each row the state and the value are what the calls
  * for one document say of it. */
 static void column_of(struct block rows, const size_t *where, bool good, size_t depth) {
@@ -724,6 +787,8 @@ static void column_of(struct block rows, const size_t *where, bool good, size_t 
                                                                     : KOHIBLAD_OK));
     assert(all.status == taken.status && all.rows == (all.status ? 0 : 3));
     unchecked_column_of(rows, where, path, path_size, depth, taken.status, at, states.at);
+    located_in(rows, where, good, depth);
+    taken_at_any(rows);
     uint64_t counts[5] = { 0 };
     for (size_t i = 0; i < 3; i++) {
         uint8_t state = states.at[i];
@@ -755,6 +820,103 @@ static void column_of(struct block rows, const size_t *where, bool good, size_t 
         assert(taken.unfit == counts[3] + counts[4] && taken.first_unfit <= 3);
     }
     drop(states); drop(values);
+}
+
+/* Any bytes as a file of typed columns: that of rows, with some bytes changed. What is told lies
+ * inside it, and the rows of a file that is checked are documents. */
+static void typed_file_of(struct block rows, const size_t *where) {
+    static const uint8_t names[] = { 128, 0, 0, 2, 16, 0, 0, 1, 16, 0, 0, 1, 'a', 'c' };
+    static const uint8_t kinds[] = { KOHIBLAD_COLUMN_INT64, 0, KOHIBLAD_COLUMN_TEXT, 0 };
+    static uint8_t made[4 * ROOM], row[4 * ROOM];
+    size_t length, count, size;
+    uint32_t status = kohiblad_build_typed_file(rows.at, rows.size, where, 2, names, sizeof names,
+        kinds, sizeof kinds, DEPTH, made, sizeof made, &length);
+    if (status) return;
+    struct block file = copy_of(made, below(8) ? length : below((uint32_t)length + 1));
+    for (uint32_t edits = below(4); edits > 0 && file.size > 0; edits--)
+        file.at[below((uint32_t)file.size)] = (uint8_t)below(256);
+    struct kohiblad_typed_file told = kohiblad_check_typed_file(file.at, file.size, DEPTH);
+    assert(!told.status || (!told.rows && !told.columns));
+    struct block lie = make(2 * sizeof(struct kohiblad_typed_column));
+    struct kohiblad_typed_column *columns = (struct kohiblad_typed_column *)(void *)lie.at;
+    status = kohiblad_typed_columns(file.at, file.size, columns, 2, &count);
+    assert(told.status || (!status && count == told.columns));
+    for (size_t i = 0; i < count && !status; i++) {
+        assert(columns[i].name + columns[i].name_length <= file.size);
+        assert(columns[i].flags + columns[i].flags_length <= file.size);
+        assert(columns[i].numbers + columns[i].numbers_length <= file.size);
+        assert(columns[i].texts + columns[i].texts_length <= file.size);
+    }
+    for (size_t i = 0; i < 2; i++) {
+        status = kohiblad_typed_row(file.at, file.size, i, DEPTH, row, sizeof row, &size);
+        if (!status) assert(kohiblad_is_canonical(row, size, DEPTH));
+        if (!told.status) assert(status == (i < told.rows ? KOHIBLAD_OK : KOHIBLAD_NONE));
+    }
+    drop(lie); drop(file);
+}
+
+/* The zone that a block of rows has: by a loop over its values of the state 1. */
+static struct kohiblad_int64_zone zone_of(const int64_t *values, const uint8_t *states,
+                                          size_t from, size_t to) {
+    struct kohiblad_int64_zone zone = { 0, 0, 0 };
+    for (size_t i = from; i < to; i++) {
+        if (states[i] != KOHIBLAD_ROW_VALUE) continue;
+        if (!zone.has_value || values[i] < zone.least) zone.least = values[i];
+        if (!zone.has_value || values[i] > zone.greatest) zone.greatest = values[i];
+        zone.has_value = 1;
+    }
+    return zone;
+}
+
+/* Zone maps of up to nine numbers, as each type has them, in blocks of any size. */
+static void zones_of(void) {
+    size_t rows = below(10), block_rows = below(8) ? below(5) : SIZE_MAX, count = 99;
+    size_t step = block_rows ? block_rows : 1, wanted = rows / step + (rows % step != 0);
+    size_t states_count = below(8) ? rows : below(10), room = below(5) ? wanted : below(10);
+    struct block all = make(rows * sizeof(int64_t)), seen = make(states_count);
+    struct block halves = make(rows * sizeof(struct kohiblad_int128));
+    struct block days = make(rows * sizeof(int32_t));
+    struct block made = make(room * sizeof(struct kohiblad_int64_zone));
+    struct block dates = make(room * sizeof(struct kohiblad_date_zone));
+    struct block wide = make(room * sizeof(struct kohiblad_decimal_zone));
+    int64_t *values = (int64_t *)(void *)all.at;
+    for (size_t i = 0; i < rows; i++) {
+        int64_t value = below(4) ? (int64_t)below(9) - 4 : below(2) ? INT32_MIN : INT32_MAX;
+        /* The high half decides first. */
+        struct kohiblad_int128 half = { (uint64_t)-value, value };
+        values[i] = value;
+        ((int32_t *)(void *)days.at)[i] = (int32_t)value;
+        ((struct kohiblad_int128 *)(void *)halves.at)[i] = half;
+    }
+    for (size_t i = 0; i < states_count; i++) seen.at[i] = (uint8_t)(below(2) ? 1 : below(6));
+    memset(made.at, 0xA5, made.size);
+    struct kohiblad_int64_zone *zones = (struct kohiblad_int64_zone *)(void *)made.at;
+    uint32_t status = kohiblad_zones_int64(values, rows, seen.at, states_count, block_rows, zones,
+                                           room, &count);
+    assert(status == (states_count != rows ? KOHIBLAD_INVALID_EOF : room < wanted
+                                           ? KOHIBLAD_NO_ROOM : KOHIBLAD_OK));
+    assert(count == (status == KOHIBLAD_INVALID_EOF ? 0 : wanted));
+    if (status) wanted = 0;
+    for (size_t i = wanted * sizeof *zones; i < made.size; i++) assert(made.at[i] == 0xA5);
+
+    struct kohiblad_date_zone *of_days = (struct kohiblad_date_zone *)(void *)dates.at;
+    struct kohiblad_decimal_zone *of_halves = (struct kohiblad_decimal_zone *)(void *)wide.at;
+    assert(kohiblad_zones_date((int32_t *)(void *)days.at, rows, seen.at, states_count, block_rows,
+                               of_days, room, &count) == status);
+    assert(kohiblad_zones_decimal((struct kohiblad_int128 *)(void *)halves.at, rows, seen.at,
+                                  states_count, block_rows, of_halves, room, &count) == status);
+    for (size_t i = 0; i < wanted; i++) {
+        size_t from = i * step, to = rows - from < step ? rows : from + step;
+        struct kohiblad_int64_zone zone = zone_of(values, seen.at, from, to);
+        assert(zones[i].has_value == zone.has_value && zones[i].least == zone.least);
+        assert(zones[i].greatest == zone.greatest);
+        assert(of_days[i].has_value == zone.has_value && of_days[i].least == zone.least);
+        assert(of_days[i].greatest == zone.greatest);
+        assert(of_halves[i].has_value == zone.has_value && of_halves[i].least.high == zone.least);
+        assert(of_halves[i].greatest.high == zone.greatest);
+        assert(of_halves[i].greatest.low == (uint64_t)-zone.greatest);
+    }
+    drop(wide); drop(dates); drop(made); drop(days); drop(halves); drop(seen); drop(all);
 }
 
 /* Any bytes as names: the path that they give leads somewhere, or nowhere. */
@@ -948,6 +1110,7 @@ int main(int argc, char **argv) {
     }
     long documents = 0, found = 0, built = 0, sorted = 0, children = 0, numbers_read = 0;
     for (long round = 0; round < rounds; round++) {
+        zones_of();
         uint32_t from = below(count);
         size_t size = below(3) ? sizes[from] : below((uint32_t)sizes[from] + 1);
         struct block b = make(size + (below(4) ? 0 : below(9)));
@@ -1096,6 +1259,7 @@ int main(int argc, char **argv) {
             assert(order_of[0] == 7 && order_of[1] == 7 && order_of[2] == 7);
         }
         column_of(rows, where, good, depth);
+        typed_file_of(rows, where);
         ANSWER(status, out, length,
                kohiblad_build_array(rows.at, rows.size, where, 3, SIZE_MAX, out.at, out.size,
                                     &length));

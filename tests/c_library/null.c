@@ -69,8 +69,67 @@ int main(void) {
                .status == KOHIBLAD_OK);
     assert(kohiblad_take_timestamp_unchecked(NULL, 0, NULL, 0, whole, sizeof whole, 1, NULL, 0,
                                              NULL, 0).status == KOHIBLAD_OK);
+    assert(kohiblad_take_timestamp_tz(NULL, 0, NULL, 0, whole, sizeof whole, 1, NULL, 0, NULL, 0)
+               .status == KOHIBLAD_OK);
+    assert(kohiblad_take_timestamp_tz_unchecked(NULL, 0, NULL, 0, whole, sizeof whole, 1, NULL, 0,
+                                                NULL, 0).status == KOHIBLAD_OK);
+    assert(kohiblad_take_interval(NULL, 0, NULL, 0, whole, sizeof whole, 1, NULL, 0, NULL, 0)
+               .status == KOHIBLAD_OK);
+    assert(kohiblad_take_interval_unchecked(NULL, 0, NULL, 0, whole, sizeof whole, 1, NULL, 0, NULL,
+                                            0).status == KOHIBLAD_OK);
     assert(kohiblad_take_text_unchecked(NULL, 0, NULL, 0, NULL, 0, 1, NULL, 0, &length, NULL, 0,
                                         NULL, 0).status == KOHIBLAD_INVALID_JSONB);
+    assert(kohiblad_zones_int64(NULL, 0, NULL, 0, 0, NULL, 0, &length) == KOHIBLAD_OK);
+    assert(length == 0);
+    assert(kohiblad_zones_uint64(NULL, 0, NULL, 0, 1, NULL, 0, &length) == KOHIBLAD_OK);
+    assert(kohiblad_zones_decimal(NULL, 0, NULL, 0, 1, NULL, 0, &length) == KOHIBLAD_OK);
+    assert(kohiblad_zones_date(NULL, 0, NULL, 0, 1, NULL, 0, &length) == KOHIBLAD_OK);
+    assert(kohiblad_zones_date(NULL, 0, whole, 1, 1, NULL, 0, &length) == KOHIBLAD_INVALID_EOF);
+    assert(length == 0);
+    /* A file of no rows and no columns: the header, an offset, and no documents. */
+    uint8_t empty[40];
+    assert(kohiblad_build_typed_file(NULL, 0, NULL, 0, whole, sizeof whole, NULL, 0, 1, NULL, 0,
+                                     &length) == KOHIBLAD_NO_ROOM);
+    assert(length == sizeof empty);
+    assert(kohiblad_build_typed_file(NULL, 0, NULL, 0, NULL, 0, NULL, 0, 1, NULL, 0, &length)
+           == KOHIBLAD_INVALID_JSONB);
+    assert(length == 0);
+    assert(kohiblad_build_typed_file(NULL, 0, NULL, 0, whole, sizeof whole, NULL, 0, 1, empty,
+                                     sizeof empty, &length) == KOHIBLAD_OK);
+    assert(kohiblad_check_typed_file(empty, length, 0).status == KOHIBLAD_OK);
+    assert(kohiblad_check_typed_file(NULL, 0, 0).status == KOHIBLAD_BAD_MAGIC);
+    assert(kohiblad_typed_columns(empty, sizeof empty, NULL, 0, &length) == KOHIBLAD_OK);
+    assert(kohiblad_typed_columns(NULL, 0, NULL, 0, &length) == KOHIBLAD_BAD_MAGIC && length == 0);
+    assert(kohiblad_typed_row(empty, sizeof empty, 0, 0, NULL, 0, &length) == KOHIBLAD_NONE);
+    assert(kohiblad_typed_row(NULL, 0, 0, 0, NULL, 0, &length) == KOHIBLAD_BAD_MAGIC);
+    /* The names of none, an array without items, are those of `whole`. */
+    assert(kohiblad_locate(NULL, 0, NULL, 0, whole, sizeof whole, 1, NULL, 0) == KOHIBLAD_OK);
+    assert(kohiblad_locate_unchecked(NULL, 0, NULL, 0, whole, sizeof whole, 1, NULL, 0)
+           == KOHIBLAD_OK);
+    assert(kohiblad_locate(NULL, 0, NULL, 0, NULL, 0, 9, NULL, 0) == KOHIBLAD_INVALID_JSONB);
+    assert(kohiblad_take_int64_at(NULL, 0, NULL, 0, 0, KOHIBLAD_EXACT, NULL, 0, NULL, 0).status
+           == KOHIBLAD_OK);
+    assert(kohiblad_take_uint64_at(NULL, 0, NULL, 0, 1, KOHIBLAD_EXACT, NULL, 0, NULL, 0).status
+           == KOHIBLAD_OK);
+    assert(kohiblad_take_decimal_at(NULL, 0, NULL, 0, 1, KOHIBLAD_EXACT, 2, NULL, 0, NULL, 0).status
+           == KOHIBLAD_OK);
+    assert(kohiblad_take_boolean_at(NULL, 0, NULL, 0, 1, NULL, 0, NULL, 0).status == KOHIBLAD_OK);
+    assert(kohiblad_take_date_at(NULL, 0, NULL, 0, 1, NULL, 0, NULL, 0).status == KOHIBLAD_OK);
+    assert(kohiblad_take_timestamp_at(NULL, 0, NULL, 0, 1, NULL, 0, NULL, 0).status
+           == KOHIBLAD_OK);
+    assert(kohiblad_take_timestamp_tz_at(NULL, 0, NULL, 0, 1, NULL, 0, NULL, 0).status
+           == KOHIBLAD_OK);
+    assert(kohiblad_take_interval_at(NULL, 0, NULL, 0, 1, NULL, 0, NULL, 0).status == KOHIBLAD_OK);
+    /* Of no places there is one offset. */
+    assert(kohiblad_take_text_at(NULL, 0, NULL, 0, 1, NULL, 0, &length, NULL, 0, NULL, 0).status
+           == KOHIBLAD_NO_ROOM);
+    assert(length == 0);
+    assert(kohiblad_take_text_at(NULL, 0, NULL, 0, 1, NULL, 0, &length, &key_length, 1, NULL, 0)
+           .status == KOHIBLAD_OK);
+    assert(kohiblad_take_text32_at(NULL, 0, NULL, 0, 1, NULL, 0, &length, NULL, 0, NULL, 0).status
+           == KOHIBLAD_NO_ROOM);
+    assert(kohiblad_take_binary_at(NULL, 0, NULL, 0, 1, NULL, 0, &length, NULL, 0, NULL, 0).status
+           == KOHIBLAD_NO_ROOM);
     /* Also of no rows there is one offset. */
     assert(kohiblad_take_text(NULL, 0, NULL, 0, whole, sizeof whole, 1, NULL, 0, &length, NULL, 0,
                               NULL, 0).status == KOHIBLAD_NO_ROOM);
@@ -78,6 +137,17 @@ int main(void) {
     assert(kohiblad_take_text(NULL, 0, NULL, 0, whole, sizeof whole, 1, NULL, 0, &length,
                               &key_length, 1, NULL, 0).status == KOHIBLAD_OK);
     assert(length == 0 && key_length == 0);
+    uint32_t short_offset = 9;
+    assert(kohiblad_take_text32(NULL, 0, NULL, 0, whole, sizeof whole, 1, NULL, 0, &length, NULL, 0,
+                                NULL, 0).status == KOHIBLAD_NO_ROOM);
+    assert(kohiblad_take_text32_unchecked(NULL, 0, NULL, 0, whole, sizeof whole, 1, NULL, 0,
+                                          &length, &short_offset, 1, NULL, 0).status
+           == KOHIBLAD_OK);
+    assert(length == 0 && short_offset == 0);
+    assert(kohiblad_take_binary(NULL, 0, NULL, 0, whole, sizeof whole, 1, NULL, 0, &length, NULL, 0,
+                                NULL, 0).status == KOHIBLAD_NO_ROOM);
+    assert(kohiblad_take_binary_unchecked(NULL, 0, NULL, 0, NULL, 0, 1, NULL, 0, &length, NULL, 0,
+                                          NULL, 0).status == KOHIBLAD_INVALID_JSONB);
     key_length = 9;
     struct kohiblad_cursor cursor = { 0, 0, 0 };
     struct kohiblad_place value;
@@ -267,12 +337,59 @@ int main(void) {
                                  (uint8_t *)numbers, 4).status == KOHIBLAD_OVERLAP);
     assert(kohiblad_take_uint64(block, 8, numbers, 2, block + 8, 4, 9, 0, (uint64_t *)(numbers + 2),
                                 1, block + 8, 4).status == KOHIBLAD_OVERLAP);
+    struct kohiblad_timestamp_tz zoned[2];
+    assert(kohiblad_take_timestamp_tz(block, 8, numbers, 2, whole, 4, 9, zoned, 1,
+                                      (uint8_t *)&zoned[0].seconds, 1).status == KOHIBLAD_OVERLAP);
+    struct kohiblad_interval spans[2];
+    assert(kohiblad_take_interval((uint8_t *)&spans[1], 8, numbers, 2, whole, 4, 9, spans, 2,
+                                  block, 1).status == KOHIBLAD_OVERLAP);
     assert(kohiblad_take_text(block, 8, numbers, 2, whole, 4, 9, block + 8, 4, &length, &length, 1,
                               block + 12, 1).status == KOHIBLAD_OVERLAP);
+    assert(kohiblad_take_text32(block, 8, numbers, 2, whole, 4, 9, block + 8, 4, &length,
+                                (uint32_t *)&length, 1, block + 12, 1).status
+           == KOHIBLAD_OVERLAP);
+    assert(kohiblad_take_binary(block, 8, numbers, 2, whole, 4, 9, block + 8, 4, &length, &length,
+                                1, block + 12, 1).status == KOHIBLAD_OVERLAP);
+    assert(kohiblad_take_binary_unchecked(block, 8, numbers, 2, whole, 4, 9, block + 8, 4, &length,
+                                          &length, 1, block + 11, 1).status == KOHIBLAD_OVERLAP);
     assert(kohiblad_take_boolean_unchecked(block, 8, numbers, 2, whole, 4, 9, block + 7, 1,
                                            block + 9, 4).status == KOHIBLAD_OVERLAP);
     assert(kohiblad_take_text_unchecked(block, 8, numbers, 2, whole, 4, 9, block + 8, 4, &length,
                                         &length, 1, block + 12, 1).status == KOHIBLAD_OVERLAP);
+    /* Zones and their number that meet each other, the values or the states. */
+    int64_t signed_numbers[8] = { 0 };
+    struct kohiblad_int64_zone *zones = (struct kohiblad_int64_zone *)signed_numbers;
+    assert(kohiblad_zones_int64(signed_numbers + 2, 2, whole, 2, 1, zones, 1, &length)
+           == KOHIBLAD_OVERLAP);
+    assert(kohiblad_zones_int64(signed_numbers + 6, 2, (uint8_t *)zones + 23, 2, 1, zones, 1,
+                                &length) == KOHIBLAD_OVERLAP);
+    assert(kohiblad_zones_int64(signed_numbers + 6, 2, whole, 2, 1, zones, 1, (size_t *)zones)
+           == KOHIBLAD_OVERLAP);
+    assert(kohiblad_zones_int64(signed_numbers + 6, 2, whole, 2, 1, zones, 1,
+                                (size_t *)(signed_numbers + 6)) == KOHIBLAD_OVERLAP);
+    assert(kohiblad_zones_uint64((uint64_t *)zones + 2, 2, whole, 2, 1,
+                                 (struct kohiblad_uint64_zone *)zones, 1, &length)
+           == KOHIBLAD_OVERLAP);
+    assert(kohiblad_zones_decimal((struct kohiblad_int128 *)zones, 2, whole, 2, 1,
+                                  (struct kohiblad_decimal_zone *)zones, 1, &length)
+           == KOHIBLAD_OVERLAP);
+    assert(kohiblad_zones_date((int32_t *)zones + 3, 2, whole, 2, 1,
+                               (struct kohiblad_date_zone *)zones, 1, &length) == KOHIBLAD_OVERLAP);
+    /* A file, its columns and their number that meet each other or what goes in. */
+    struct kohiblad_typed_column columns[2];
+    assert(kohiblad_build_typed_file(block, 8, numbers, 2, whole, 4, null, 2, 9, block, 64, &length)
+           == KOHIBLAD_OVERLAP);
+    assert(kohiblad_build_typed_file(null, 8, numbers, 2, whole, 4, null, 2, 9,
+                                     (uint8_t *)numbers, 8, &length) == KOHIBLAD_OVERLAP);
+    assert(kohiblad_build_typed_file(null, 8, numbers, 2, block, 4, null, 2, 9, block, 64, &length)
+           == KOHIBLAD_OVERLAP);
+    assert(kohiblad_build_typed_file(null, 8, numbers, 2, whole, 4, block, 2, 9, block, 64, &length)
+           == KOHIBLAD_OVERLAP);
+    assert(kohiblad_build_typed_file(null, 8, numbers, 2, whole, 4, null, 2, 9, block, 64,
+                                     (size_t *)(void *)block) == KOHIBLAD_OVERLAP);
+    assert(kohiblad_typed_columns((uint8_t *)columns, 8, columns, 2, &length) == KOHIBLAD_OVERLAP);
+    assert(kohiblad_typed_columns(null, 8, columns, 2, (size_t *)columns) == KOHIBLAD_OVERLAP);
+    assert(kohiblad_typed_row(block, 8, 0, 9, block + 7, 57, &length) == KOHIBLAD_OVERLAP);
     assert(kohiblad_get_member(block, 8, 0, block + 8, 8, &length, block + 12, 8, numbers)
            == KOHIBLAD_OVERLAP);
     assert(kohiblad_get_member(block, 8, 0, block + 8, 8, &length, block + 16, 8, &length)

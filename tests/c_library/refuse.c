@@ -26,13 +26,19 @@ void *__wrap_realloc(void *block, size_t size) {
 
 static const char text[] = "{\"a\":1,\"b\":[true,\"\\u00e9\"],"
                            "\"c\":{\"d\":\"e\",\"f\":-12.5,\"g\":[[],{}]}}";
-enum { ROOM = 1024, CALLS = 52 };
+enum { ROOM = 1024, CALLS = 60 };
 static uint8_t document[ROOM], pairs[ROOM];
 static size_t size, offsets[5], pairs_size, order[4];
 static uint64_t keys[ROOM / 8];
 static struct kohiblad_place places[ROOM / 8];
 static uint8_t path[ROOM], names[ROOM], many[ROOM];
 static size_t path_size, names_size, many_size;
+static const uint8_t file_types[] = { KOHIBLAD_COLUMN_INT64, 0, KOHIBLAD_COLUMN_TEXT, 0 };
+static uint8_t file[ROOM];
+static size_t file_size;
+static struct kohiblad_typed_column columns[ROOM / 88];
+/* The document ["a","c"]. */
+static const uint8_t ascending[] = { 128, 0, 0, 2, 16, 0, 0, 1, 16, 0, 0, 1, 'a', 'c' };
 
 static bool takes_memory(int which) {
     return which < 7 || which == 13 || which == 14 || (which > 16 && which < 22)
@@ -43,7 +49,7 @@ static bool takes_memory(int which) {
  * have. */
 static bool has_no_length(int which) {
     return which == 6 || which == 34 || (which > 37 && which < 41) || which == 43
-        || (which > 44 && which < 47);
+        || (which > 44 && which < 47) || which == 52 || which == 57;
 }
 
 static uint32_t call(int which, uint8_t *out, size_t *length) {
@@ -151,6 +157,29 @@ static uint32_t call(int which, uint8_t *out, size_t *length) {
     case 51:
         return kohiblad_select_within(document, size, (const uint8_t *)"$.c.g[last, 0]", 14, 8,
                                       1000, places, ROOM / 8, length);
+    case 52:
+        return kohiblad_locate(pairs, pairs_size, offsets, 5, ascending, sizeof ascending, 8,
+                               places, ROOM / 8);
+    case 53:
+        return kohiblad_take_binary(pairs, pairs_size, offsets, 4, path, path_size, 8, out,
+                                    ROOM / 2, length, order, 4, out + ROOM / 2, ROOM / 2).status;
+    case 54:
+        return kohiblad_take_binary_unchecked(pairs, pairs_size, offsets, 4, path, path_size, 8,
+                                              out, ROOM / 2, length, order, 4, out + ROOM / 2,
+                                              ROOM / 2)
+            .status;
+    case 55: {
+        struct kohiblad_place none = { KOHIBLAD_NONE, 0, 0, 0 };
+        return kohiblad_take_text_at(pairs, pairs_size, &none, 1, 1, out, ROOM / 2, length, order,
+                                     4, out + ROOM / 2, ROOM / 2).status;
+    }
+    case 56:
+        return kohiblad_build_typed_file(pairs, pairs_size, offsets + 1, 2, ascending,
+                                         sizeof ascending, file_types, sizeof file_types, 8, out,
+                                         ROOM, length);
+    case 57: return kohiblad_check_typed_file(file, file_size, 8).status;
+    case 58: return kohiblad_typed_columns(file, file_size, columns, 2, length);
+    case 59: return kohiblad_typed_row(file, file_size, 0, 8, out, ROOM, length);
     default: return kohiblad_key_cut(document, size, 8, out, ROOM, length);
     }
 }
@@ -177,6 +206,7 @@ int main(void) {
     static const char numbers[] = "[1,2,3,4,5,6,7,8,9,10,11,12,13,14,15,16,17]";
     assert(kohiblad_parse((const uint8_t *)numbers, sizeof numbers - 1, 8, 0, many, ROOM,
                           &many_size) == KOHIBLAD_OK);
+    assert(call(56, file, &file_size) == KOHIBLAD_OK);
     long runs = 0;
     for (int which = 0; which < CALLS; which++) {
         for (long nth = 0;; nth++) {
@@ -184,6 +214,7 @@ int main(void) {
             memset(order, 0xA5, sizeof order);
             memset(keys, 0xA5, sizeof keys);
             memset(places, 0xA5, sizeof places);
+            memset(columns, 0xA5, sizeof columns);
             left = nth;
             refused = false;
             uint32_t status = call(which, out, &length);
@@ -198,6 +229,7 @@ int main(void) {
             assert(takes_memory(which) && status == KOHIBLAD_OUT_OF_MEMORY);
             assert(!memcmp(out, clean, ROOM) && !memcmp(order, clean, sizeof order));
             assert(!memcmp(keys, clean, sizeof keys) && !memcmp(places, clean, ROOM));
+            assert(!memcmp(columns, clean, sizeof columns));
             assert(has_no_length(which) || length == 0);
         }
     }

@@ -34,4 +34,10 @@ pub mod Yielded
 pub mod NamedPathLaws
 pub mod TakingLaws
 pub mod UncheckedLaws
+pub mod LocatedLaws
+pub mod PlacedMemberLaws
+pub mod LocatingLaws
 pub mod TakenTextLaws
+pub mod ZoneWriting
+pub mod TypedFileLaws
+pub mod TypedWritingLaws

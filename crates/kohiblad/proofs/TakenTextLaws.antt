@@ -1,12 +1,24 @@
 -- The texts that are taken so far.
-use Rattle.std.proofs.Common.{◌≡◌, ℕ, ◌+◌, List, [], ◌∷◌, ◌++◌, length, refl, sym, ap, ap₂}
-use Rattle.std.proofs.Common.{◌∙◌, arith, append_assoc, length-append}
+use Rattle.std.proofs.Common.{◌≡◌, ◌<◌, ◌≤◌, ◌%◌, ◌^◌, ◌-◌, ℕ, ◌+◌, List, [], ◌∷◌, ◌++◌}
+use Rattle.std.proofs.Common.{length, map, take, drop, get_or, Result, Ok, Err, inl, inr, refl, sym}
+use Rattle.std.proofs.Common.{subst, ap, ap₂, ◌∙◌, arith, append_assoc, length-append}
+use Rattle.std.specs.Prelude.{slice_set}
 use Rattle.std.specs.List.{AllZip, concat}
-use Rattle.std.proofs.lemmas.List.{append-nil, map-append}
+use Rattle.std.proofs.Math.Nat.{mod-eq_of_lt}
+use Rattle.std.proofs.lemmas.List.{append-nil, length-map, length-take-le, map-append, take_more}
 use Rattle.std.proofs.lemmas.List.Folds.{concat-append}
 use Rattle.std.proofs.lemmas.Slice.Zip.{all_zipped_more}
-use Rattle.kohiblad.specs.Taking.{states_of, values_of}
-use Rattle.kohiblad.specs.TakenTexts.{ends_from, text_offsets}
+use Rattle.jsonb_value.specs.Meaning.{Meaning}
+use Rattle.jsonb_functions.specs.declared.path.Step.{Step}
+use Rattle.kohiblad.specs.OverRows.{OverRows}
+use Rattle.kohiblad.specs.Taking.{values_of}
+use Rattle.kohiblad.specs.TakenTexts.{AreRowTextsTaken, AreTextsMade, AreTextsRefused}
+use Rattle.kohiblad.specs.TakenTexts.{AreTextsTaken, HandingOver, IsTextsOf, TextBuffers}
+use Rattle.kohiblad.specs.TakenTexts.{ends_from, low_half, text_offsets}
+use Rattle.kohiblad.specs.declared.taking.KohibladTaken.{KohibladTaken}
+use Rattle.kohiblad.specs.declared.taken_texts.TakenTexts.{TakenTexts}
+use Rattle.kohiblad.proofs.OverRowsLaws.{not_refused, over_rows}
+use Rattle.kohiblad.proofs.TakingLaws.{one_more_in}
 
 -- One text more ends where all of them do.
 pub one_more_end : (start : ℕ) (texts : List (List ℕ)) (text : List ℕ)
@@ -24,65 +36,167 @@ one_more_end start (first ∷ texts) text =
     ap (λ (xs : List ℕ). next ∷ xs) (one_more_end next texts text)
     ∙ ap (λ (k : ℕ). next ∷ (ends_from next texts ++ k ∷ [])) same
 
-pub record TextsSoFar (IsTaken : List ℕ → List ℕ × ℕ → Type 0) (rows left : List (List ℕ))
-    (texts offsets states : List ℕ) : Type 0 where
-  pub done : List (List ℕ)
+-- The texts of some rows, and one more.
+pub one_more_text : (taken : List (List ℕ × ℕ)) (kept after : TakenTexts) (one : List ℕ × ℕ)
+    → IsTextsOf taken kept → after.texts.items ≡ kept.texts.items ++ one.0
+    → after.offsets.items ≡ kept.offsets.items ++ length after.texts.items ∷ []
+    → after.states.items ≡ kept.states.items ++ one.1 ∷ []
+    → IsTextsOf (taken ++ one ∷ []) after
+one_more_text taken kept after one are more_texts more_offsets more_states =
+    let values : values_of (taken ++ one ∷ []) ≡ values_of taken ++ one.0 ∷ [] =
+    map-append (λ (p : List ℕ × ℕ). p.0) taken (one ∷ []) in
+    let joined : concat (values_of taken ++ one.0 ∷ []) ≡ concat (values_of taken) ++ one.0 =
+    concat-append (values_of taken) (one.0 ∷ [])
+    ∙ ap (λ (xs : List ℕ). concat (values_of taken) ++ xs) (append-nil one.0) in
+    let texts_are : after.texts.items ≡ concat (values_of taken ++ one.0 ∷ []) =
+    more_texts ∙ ap (λ (xs : List ℕ). xs ++ one.0) are.texts ∙ sym joined in
+    let total = length (concat (values_of taken ++ one.0 ∷ [])) in
+    let from_0 : total ≡ 0 + total = omega arith in
+    let offsets_are : after.offsets.items ≡ text_offsets (values_of taken ++ one.0 ∷ []) =
+    more_offsets
+    ∙ ap₂ (λ (xs : List ℕ) (k : ℕ). xs ++ k ∷ []) are.offsets (ap length texts_are)
+    ∙ ap (λ (k : ℕ). text_offsets (values_of taken) ++ k ∷ []) from_0
+    ∙ ap (λ (xs : List ℕ). 0 ∷ xs) (sym (one_more_end 0 (values_of taken) one.0)) in
+    record {
+      texts = texts_are ∙ ap concat (sym values);
+      offsets = offsets_are ∙ ap text_offsets (sym values);
+      states =
+          more_states
+          ∙ ap (λ (xs : List ℕ). xs ++ one.1 ∷ []) are.states
+          ∙ sym (map-append (λ (p : List ℕ × ℕ). p.1) taken (one ∷ []));
+    }
+
+-- The texts of the rows so far.
+pub record TextsSoFar {A : Type 0} (IsTaken : A → List ℕ × ℕ → Type 0) (rows left : List A)
+    (kept : TakenTexts) : Type 0 where
+  pub done : List A
   pub taken : List (List ℕ × ℕ)
   pub whole : rows ≡ done ++ left
   pub each : AllZip IsTaken done taken
-  pub texts_are : texts ≡ concat (values_of taken)
-  pub offsets_are : offsets ≡ text_offsets (values_of taken)
-  pub states_are : states ≡ states_of taken
+  pub are : IsTextsOf taken kept
 
-pub no_texts : (IsTaken : List ℕ → List ℕ × ℕ → Type 0) (rows : List (List ℕ))
-    (texts offsets states : List ℕ) → texts ≡ [] → offsets ≡ 0 ∷ [] → states ≡ []
-    → TextsSoFar IsTaken rows rows texts offsets states
-no_texts IsTaken rows texts offsets states no_text first no_state = record {
+pub no_texts : {A : Type 0} (IsTaken : A → List ℕ × ℕ → Type 0) (rows : List A)
+    (kept : TakenTexts) → IsTextsOf [] kept → TextsSoFar IsTaken rows rows kept
+no_texts IsTaken rows kept are = record {
   done = [];
   taken = [];
   whole = refl;
   each = tt;
-  texts_are = no_text;
-  offsets_are = first;
-  states_are = no_state;
+  are = are;
 }
 
-pub one_more_text : (IsTaken : List ℕ → List ℕ × ℕ → Type 0) (rows left later : List (List ℕ))
-    (row : List ℕ) (texts texts_now offsets offsets_now states states_now : List ℕ)
-    (one : List ℕ × ℕ)
-    → TextsSoFar IsTaken rows left texts offsets states → left ≡ row ∷ later → IsTaken row one
-    → texts_now ≡ texts ++ one.0 → offsets_now ≡ offsets ++ length texts_now ∷ []
-    → states_now ≡ states ++ one.1 ∷ []
-    → TextsSoFar IsTaken rows later texts_now offsets_now states_now
-one_more_text IsTaken rows left later row texts texts_now offsets offsets_now states states_now one
-    so_far cut is more_texts more_offsets more_states =
-    let values : values_of (so_far.taken ++ one ∷ []) ≡ values_of so_far.taken ++ one.0 ∷ [] =
-    map-append (λ (p : List ℕ × ℕ). p.0) so_far.taken (one ∷ []) in
-    let joined : concat (values_of so_far.taken ++ one.0 ∷ [])
-    ≡ concat (values_of so_far.taken) ++ one.0 =
-    concat-append (values_of so_far.taken) (one.0 ∷ [])
-    ∙ ap (λ (xs : List ℕ). concat (values_of so_far.taken) ++ xs) (append-nil one.0) in
-    let texts_are : texts_now ≡ concat (values_of so_far.taken ++ one.0 ∷ []) =
-    more_texts ∙ ap (λ (xs : List ℕ). xs ++ one.0) so_far.texts_are ∙ sym joined in
-    let total = length (concat (values_of so_far.taken ++ one.0 ∷ [])) in
-    let from_0 : total ≡ 0 + total = omega arith in
-    let offsets_are : offsets_now ≡ text_offsets (values_of so_far.taken ++ one.0 ∷ []) =
-    more_offsets
-    ∙ ap₂ (λ (xs : List ℕ) (k : ℕ). xs ++ k ∷ []) so_far.offsets_are (ap length texts_are)
-    ∙ ap (λ (k : ℕ). text_offsets (values_of so_far.taken) ++ k ∷ []) from_0
-    ∙ ap (λ (xs : List ℕ). 0 ∷ xs) (sym (one_more_end 0 (values_of so_far.taken) one.0)) in
-    record {
-      done = so_far.done ++ row ∷ [];
-      taken = so_far.taken ++ one ∷ [];
-      whole =
-          so_far.whole
-          ∙ ap (λ (xs : List (List ℕ)). so_far.done ++ xs) cut
-          ∙ sym (append_assoc so_far.done (row ∷ []) later);
-      each = all_zipped_more IsTaken so_far.done so_far.taken row one so_far.each is;
-      texts_are = texts_are ∙ ap concat (sym values);
-      offsets_are = offsets_are ∙ ap text_offsets (sym values);
-      states_are =
-          more_states
-          ∙ ap (λ (xs : List ℕ). xs ++ one.1 ∷ []) so_far.states_are
-          ∙ sym (map-append (λ (p : List ℕ × ℕ). p.1) so_far.taken (one ∷ []));
-    }
+pub one_more_row : {A : Type 0} (IsTaken : A → List ℕ × ℕ → Type 0) (rows left later : List A)
+    (row : A) (kept after : TakenTexts) (one : List ℕ × ℕ) → TextsSoFar IsTaken rows left kept
+    → left ≡ row ∷ later → IsTaken row one
+    → ((taken : List (List ℕ × ℕ)) → IsTextsOf taken kept → IsTextsOf (taken ++ one ∷ []) after)
+    → TextsSoFar IsTaken rows later after
+one_more_row IsTaken rows left later row kept after one so_far cut is more = record {
+  done = so_far.done ++ row ∷ [];
+  taken = so_far.taken ++ one ∷ [];
+  whole =
+      so_far.whole
+      ∙ ap (λ (xs : List _). so_far.done ++ xs) cut
+      ∙ sym (append_assoc so_far.done (row ∷ []) later);
+  each = all_zipped_more IsTaken so_far.done so_far.taken row one so_far.each is;
+  are = more so_far.taken so_far.are;
+}
+
+pub all_texts : {A : Type 0} (IsTaken : A → List ℕ × ℕ → Type 0) (rows left : List A)
+    (kept : TakenTexts) → TextsSoFar IsTaken rows left kept → left ≡ []
+    → (taken : List (List ℕ × ℕ)) × (AllZip IsTaken rows taken × IsTextsOf taken kept)
+all_texts IsTaken rows left kept so_far none =
+    let whole : rows ≡ so_far.done =
+    so_far.whole ∙ ap (λ (xs : List _). so_far.done ++ xs) none ∙ append-nil so_far.done in (
+      so_far.taken,
+      (
+        subst (λ (xs : List _). AllZip IsTaken xs so_far.taken) (sym whole) so_far.each,
+        so_far.are,
+      ),
+    )
+
+-- The low half of one word more is written behind those of the first ones.
+pub one_more_low : (words old now : List ℕ) (n d : ℕ) → n < length words → n < length old
+    → now ≡ map low_half (take n words) ++ drop n old
+    → slice_set now n (low_half (get_or words n d))
+    ≡ map low_half (take (n + 1) words) ++ drop (n + 1) old
+one_more_low words old now n d some room is =
+    let front = map low_half (take n words) in
+    let long : length front ≡ n =
+    length-map (take n words) low_half ∙ length-take-le n words (omega arith) in
+    let more : map low_half (take (n + 1) words) ≡ front ++ low_half (get_or words n d) ∷ [] =
+    ap (λ (xs : List ℕ). map low_half xs) (take_more words n d some)
+    ∙ map-append low_half (take n words) (get_or words n d ∷ []) in
+    one_more_in front old now n (low_half (get_or words n d)) long room is
+    ∙ ap (λ (xs : List ℕ). xs ++ drop (n + 1) old) (sym more)
+
+-- Of texts that are not too long each offset has 32 bits.
+low_ends : (start : ℕ) (texts : List (List ℕ)) → start + length (concat texts) < 2 ^ 32
+    → map low_half (ends_from start texts) ≡ ends_from start texts
+low_ends start [] short = refl
+low_ends start (text ∷ texts) short =
+    let next = start + length text in
+    let long : length (concat (text ∷ texts)) ≡ length text + length (concat texts) =
+    length-append text (concat texts) in
+    let here : next % (2 ^ 32) ≡ next = mod-eq_of_lt (omega arith) in
+    ap₂ (λ (k : ℕ) (xs : List ℕ). k ∷ xs) here (low_ends next texts (omega arith))
+
+pub short_offsets : (texts : List (List ℕ)) → length (concat texts) ≤ 2 ^ 31 - 1
+    → map low_half (text_offsets texts) ≡ text_offsets texts
+short_offsets texts short =
+    ap (λ (xs : List ℕ). 0 ∷ xs) (low_ends 0 texts (omega arith))
+
+-- Texts that were made, and only the status with which they are refused.
+abbrev made_of : TakenTexts → Result TakenTexts ℕ
+made_of kept = Ok kept
+
+abbrev only_status : ℕ → Result TakenTexts ℕ
+only_status status = Err status
+
+one_status : (status other : ℕ) → only_status status ≡ only_status other → status ≡ other
+one_status status other same = cc
+
+-- What becomes of texts that were made, or refused.
+module _ (AreHandedOver : HandingOver) (IsTaken : List Step → List ℕ → List ℕ × ℕ → Type 0)
+    (bytes offsets : List ℕ) (path : Meaning) (b : TextBuffers) (answer : KohibladTaken) where
+  -- These are made of the rows.
+  abbrev AreMade : Result TakenTexts ℕ → Type 0
+  AreMade made =
+      OverRows (λ status. made ≡ Err status) (λ all steps. AreTextsMade (IsTaken steps) all made)
+      bytes offsets path
+
+  pub made_texts : (kept : TakenTexts) → AreMade (made_of kept)
+      → ((taken : List (List ℕ × ℕ)) → IsTextsOf taken kept → AreHandedOver taken b answer)
+      → AreTextsTaken AreHandedOver IsTaken bytes offsets path b answer
+  made_texts kept made hand =
+      over_rows (λ status. made_of kept ≡ Err status) (λ status. AreTextsRefused status b answer)
+      (λ all steps. AreTextsMade (IsTaken steps) all (made_of kept))
+      (λ all steps. AreRowTextsTaken AreHandedOver (IsTaken steps) all b answer)
+      (λ status both. absurd (not_refused kept status both))
+      (λ all steps is. handed all steps is) bytes offsets path made
+    where
+      handed : (all : List (List ℕ)) (steps : List Step)
+          → AreTextsMade (IsTaken steps) all (made_of kept)
+          → AreRowTextsTaken AreHandedOver (IsTaken steps) all b answer
+      handed all steps (inl (taken, (each, are))) = inl (taken, (each, hand taken are))
+      handed all steps (inr both) = absurd (not_refused kept _ both)
+
+  pub refused_texts : (status : ℕ) → AreMade (only_status status) → AreTextsRefused status b answer
+      → AreTextsTaken AreHandedOver IsTaken bytes offsets path b answer
+  refused_texts status made refused =
+      over_rows (λ other. only_status status ≡ Err other)
+      (λ other. AreTextsRefused other b answer)
+      (λ all steps. AreTextsMade (IsTaken steps) all (only_status status))
+      (λ all steps. AreRowTextsTaken AreHandedOver (IsTaken steps) all b answer)
+      (λ other same. refused_so other same) (λ all steps is. not_made all steps is) bytes offsets
+      path made
+    where
+      refused_so : (other : ℕ) → only_status status ≡ only_status other
+          → AreTextsRefused other b answer
+      refused_so other same =
+          subst (λ (k : ℕ). AreTextsRefused k b answer) (one_status status other same) refused
+
+      not_made : (all : List (List ℕ)) (steps : List Step)
+          → AreTextsMade (IsTaken steps) all (only_status status)
+          → AreRowTextsTaken AreHandedOver (IsTaken steps) all b answer
+      not_made all steps (inl (taken, (each, are))) = absurd are
+      not_made all steps (inr same) = inr (refused_so _ same)

@@ -19,9 +19,9 @@ one_more_in {V} front old now n v long inside is =
     ∙ set-append_seam front (slice_index_or old n v) (drop (n + 1) old) v
     ∙ sym (append_assoc front (v ∷ []) (drop (n + 1) old))
 
-pub record TakenSoFar {V : Type 0} (IsTaken : List ℕ → V × ℕ → Type 0) (rows left : List (List ℕ))
+pub record TakenSoFar {R V : Type 0} (IsTaken : R → V × ℕ → Type 0) (rows left : List R)
     (number : ℕ) (values values_now : List V) (states states_now : List ℕ) : Type 0 where
-  pub done : List (List ℕ)
+  pub done : List R
   pub taken : List (V × ℕ)
   pub whole : rows ≡ done ++ left
   pub each : AllZip IsTaken done taken
@@ -30,7 +30,7 @@ pub record TakenSoFar {V : Type 0} (IsTaken : List ℕ → V × ℕ → Type 0) 
   pub values_are : values_now ≡ values_of taken ++ drop number values
   pub states_are : states_now ≡ states_of taken ++ drop number states
 
-pub none_taken : {V : Type 0} (IsTaken : List ℕ → V × ℕ → Type 0) (rows : List (List ℕ))
+pub none_taken : {R V : Type 0} (IsTaken : R → V × ℕ → Type 0) (rows : List R)
     (values : List V) (states : List ℕ)
     → TakenSoFar IsTaken rows rows 0 values values states states
 none_taken IsTaken rows values states = record {
@@ -44,16 +44,16 @@ none_taken IsTaken rows values states = record {
   states_are = refl;
 }
 
-pub one_more_taken : {V : Type 0} (IsTaken : List ℕ → V × ℕ → Type 0)
-    (rows left later : List (List ℕ)) (row : List ℕ) (number : ℕ) (values values_now : List V)
+pub one_more_taken : {R V : Type 0} (IsTaken : R → V × ℕ → Type 0)
+    (rows left later : List R) (row : R) (number : ℕ) (values values_now : List V)
     (states states_now : List ℕ) (one : V × ℕ)
     → TakenSoFar IsTaken rows left number values values_now states states_now
     → left ≡ row ∷ later → IsTaken row one
     → length rows ≤ length values → length rows ≤ length states
     → TakenSoFar IsTaken rows later (number + 1) values (slice_set values_now number one.0) states
     (slice_set states_now number one.1)
-one_more_taken {V} IsTaken rows left later row number values values_now states states_now one so_far
-    cut is room room_of_states =
+one_more_taken {R} {V} IsTaken rows left later row number values values_now states states_now one
+    so_far cut is room room_of_states =
     let counted = so_far.counted in
     let many = so_far.many in
     let shorter : length left ≡ length later + 1 = ap length cut ∙ omega arith in
@@ -64,7 +64,7 @@ one_more_taken {V} IsTaken rows left later row number values values_now states s
       taken = so_far.taken ++ one ∷ [];
       whole =
           so_far.whole
-          ∙ ap (λ (xs : List (List ℕ)). so_far.done ++ xs) cut
+          ∙ ap (λ (xs : List R). so_far.done ++ xs) cut
           ∙ sym (append_assoc so_far.done (row ∷ []) later);
       each = all_zipped_more IsTaken so_far.done so_far.taken row one so_far.each is;
       many = omega arith;

@@ -20,15 +20,19 @@ use Rattle.jsonb_functions.specs.Found.{found_at, if_there}
 use Rattle.jsonb_functions.specs.declared.path.Step.{Step}
 use Rattle.jsonb_functions.specs.declared.path.Step.TheVariants.{Key}
 use Rattle.jsonb_typed.specs.Surveys.{member_cell}
-use Rattle.jsonb_typed.specs.Types.{IsInt64, IsText, IsUInt64}
+use Rattle.jsonb_typed.specs.Types.{IsBinary, IsInt64, IsText, IsUInt64}
 use Rattle.jsonb_typed.specs.declared.numbers.Fit.{Fit}
 use Rattle.jsonb_typed.proofs.DocumentLaws as typed
 use Rattle.typed_vector.specs.Cells.{value}
 use Rattle.jsonb_functions.specs.PathPlaces.{HoldsFound, path_place_in, whole_place}
 use Rattle.jsonb_functions.proofs.PathPlaceLaws.{place_holds}
+use Rattle.kohiblad.specs.declared.taken_texts.BytesType.{BytesType}
+use Rattle.kohiblad.specs.declared.taken_texts.BytesType.TheVariants as bytes_types
 use Rattle.kohiblad.specs.Places.{IsValuePlace, is_name}
 use Rattle.kohiblad.specs.Taking.{HoldsScalars, IsSomeTaken, IsTakenCell, IsTakenUnchecked}
-use Rattle.kohiblad.specs.Taking.{IsDate, IsInt128, IsTimestamp, IsTruth}
+use Rattle.kohiblad.specs.Taking.{IsDate, IsInt128, IsInterval, IsTimestamp, IsTruth}
+use Rattle.kohiblad.specs.Taking.{IsZonedTimestamp}
+use Rattle.kohiblad.specs.TakenTexts.{IsBytes}
 use Rattle.kohiblad.specs.UncheckedRows.{IsReadAs}
 
 pub no_document : (b : List ℕ) (t : Tree) → Doc b t → b ≡ [] → ⊥
@@ -110,7 +114,7 @@ state_only state = Err state
 
 -- What is taken of the member that was read.
 module _ {V : Type 0} (Stands : V → Tree → Type 0) (blank : V) where
-  some_taken : (o : Option Tree) (taken : V × ℕ)
+  pub some_taken : (o : Option Tree) (taken : V × ℕ)
       → IsTakenCell Stands blank (member_cell o) taken → IsSomeTaken blank taken
   some_taken None taken is = rw is (inr (refl, omega arith))
   some_taken (Some t) taken (inl (stands, state)) = inl state
@@ -144,7 +148,7 @@ module _ {V : Type 0} (Stands : V → Tree → Type 0) (blank : V) where
     ),
   )
 
-  state_found : (o : Option Tree) (state : ℕ) → HoldsScalars Stands → IsReadAs o (Err state)
+  pub state_found : (o : Option Tree) (state : ℕ) → HoldsScalars Stands → IsReadAs o (Err state)
       → IsTakenCell Stands blank (member_cell o) (blank, state)
   state_found (Some t) state scalars (is, container) =
       rw is (unfit_container t container scalars)
@@ -168,9 +172,17 @@ module _ {V : Type 0} (Stands : V → Tree → Type 0) (blank : V) where
       known_state (inr is) = inr (refl, omega (arith, is))
 
 -- No value of a type stands for an array or object.
-pub scalar_texts : HoldsScalars IsText
+scalar_texts : HoldsScalars IsText
 scalar_texts s t is same =
     container_cases (λ (u : Tree). u ≡ trees.text s → ⊥) t is (λ ts other. cc) (λ ps other. cc) same
+
+scalar_binaries : HoldsScalars IsBinary
+scalar_binaries s t is same =
+    container_cases (λ (u : Tree). IsBinary s u → ⊥) t is (λ ts other. cc) (λ ps other. cc) same
+
+pub scalar_bytes : (bytes_type : BytesType) → HoldsScalars (IsBytes bytes_type)
+scalar_bytes bytes_types.Text = scalar_texts
+scalar_bytes bytes_types.Binary = scalar_binaries
 
 pub scalar_int64s : (fit : Fit) → HoldsScalars (λ v t. IsInt64 fit v t)
 scalar_int64s fit v t is stands =
@@ -197,3 +209,12 @@ scalar_dates v t is same =
 pub scalar_timestamps : HoldsScalars IsTimestamp
 scalar_timestamps v t is same =
     container_cases (λ (u : Tree). IsTimestamp v u → ⊥) t is (λ ts other. cc) (λ ps other. cc) same
+
+pub scalar_zoned_timestamps : HoldsScalars IsZonedTimestamp
+scalar_zoned_timestamps v t is same =
+    container_cases (λ (u : Tree). IsZonedTimestamp v u → ⊥) t is (λ ts other. cc)
+    (λ ps other. cc) same
+
+pub scalar_intervals : HoldsScalars IsInterval
+scalar_intervals v t is same =
+    container_cases (λ (u : Tree). IsInterval v u → ⊥) t is (λ ts other. cc) (λ ps other. cc) same

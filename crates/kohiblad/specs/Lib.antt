@@ -25,5 +25,13 @@ pub mod RowCells
 pub mod ColumnSurvey
 pub mod Taking
 pub mod TakenTexts
+pub mod TypedFiles
+pub mod TypedWriting
 pub mod UncheckedRows
+pub mod ZoneStructs
+pub mod Zones
+pub mod Located
+pub mod PlacedMembers
+pub mod RowWalks
+pub mod Locating
 pub mod Words

@@ -35,7 +35,7 @@ no_room = 11
 abbrev pub none : ℕ
 none = 12
 
--- The status of a text that nests too deep.
+-- The status of a text, or of a row in a file, that nests too deep.
 abbrev pub too_deep : ℕ
 too_deep = 13
 
@@ -59,6 +59,30 @@ bad_number = 17
 abbrev pub too_many_steps : ℕ
 too_many_steps = 18
 
+-- The status of bytes that do not begin as a file of typed columns.
+abbrev pub bad_magic : ℕ
+bad_magic = 19
+
+-- The status of a file of typed columns of another version.
+abbrev pub unknown_version : ℕ
+unknown_version = 20
+
+-- The status of bytes that go on after the end of a file.
+abbrev pub trailing_data : ℕ
+trailing_data = 21
+
+-- The status of a file in which a length does not fit the number of rows.
+abbrev pub wrong_length : ℕ
+wrong_length = 22
+
+-- The status of a file whose contents are out of form.
+abbrev pub out_of_form : ℕ
+out_of_form = 23
+
+-- The status of a file that did not give its rows back when it was read again.
+abbrev pub not_read_back : ℕ
+not_read_back = 24
+
 -- The name of a status.
 abbrev pub status_name : ℕ → List ℕ
 status_name status =
@@ -81,6 +105,12 @@ status_name status =
     else if status == overlap then codes "Overlap"
     else if status == bad_number then codes "BadNumber"
     else if status == too_many_steps then codes "TooManySteps"
+    else if status == bad_magic then codes "BadMagic"
+    else if status == unknown_version then codes "UnknownVersion"
+    else if status == trailing_data then codes "TrailingData"
+    else if status == wrong_length then codes "WrongLength"
+    else if status == out_of_form then codes "OutOfForm"
+    else if status == not_read_back then codes "NotReadBack"
     else codes "Unknown"
 
 -- The result was copied to the start of the buffer, and the rest is unchanged.

@@ -1,14 +1,24 @@
--- The members of rows as texts, as C receives them.
-use Rattle.std.specs.Prelude.{◌≡◌, ◌<◌, ◌⊎◌, ◌+◌, ◌∷◌, [], ℕ, List, length}
+-- The members of rows as texts or as binary values, as C receives them.
+use Rattle.std.specs.Prelude.{◌≡◌, ◌<◌, ◌≤◌, ◌⊎◌, ◌+◌, ◌%◌, ◌^◌, ◌∷◌, [], ℕ, List, length}
+use Rattle.std.specs.Prelude.{Result, Err, IsOkAnd}
 use Rattle.std.specs.List.{AllZip, concat}
 use Rattle.jsonb_value.specs.declared.error.Error.TheVariants.{OutOfMemory}
 use Rattle.jsonb_value.specs.Meaning.{Meaning}
+use Rattle.jsonb_value.specs.Tree.{Tree}
 use Rattle.jsonb_functions.specs.declared.path.Step.{Step}
+use Rattle.jsonb_typed.specs.Types.{IsBinary, IsText}
 use Rattle.kohiblad.specs.declared.taking.KohibladTaken.{KohibladTaken}
+use Rattle.kohiblad.specs.declared.taken_texts.BytesType.{BytesType}
+use Rattle.kohiblad.specs.declared.taken_texts.BytesType.TheVariants as bytes_types
 use Rattle.kohiblad.specs.declared.taken_texts.TakenTexts.{TakenTexts}
 use Rattle.kohiblad.specs.OverRows.{OverRows}
 use Rattle.kohiblad.specs.Status.{code, no_room, IsCopied}
 use Rattle.kohiblad.specs.Taking.{not_taken, states_of, taken_answer, values_of}
+
+-- The bytes stand for the member, a text or a binary value.
+abbrev pub IsBytes : BytesType → List ℕ → Tree → Type 0
+IsBytes bytes_types.Text = IsText
+IsBytes bytes_types.Binary = IsBinary
 
 -- Where texts end, the first of which begins at an offset.
 abbrev pub ends_from : ℕ → List (List ℕ) → List ℕ
@@ -55,6 +65,15 @@ AreTextsHandedOver taken b answer =
     × ((AreTextsPut taken b × (answer ≡ taken_answer (states_of taken)))
     ⊎ (IsShortFor taken b × ((answer ≡ not_taken no_room) × AreTextsKept b)))
 
+-- The same if the texts have at most so many bytes; longer ones are refused as if the room for them
+-- were too short.
+abbrev pub AreTextsWithin : ℕ → List (List ℕ × ℕ) → TextBuffers → KohibladTaken → Type 0
+AreTextsWithin most taken b answer =
+    ((length (concat (values_of taken)) ≤ most) × AreTextsHandedOver taken b answer)
+    ⊎ ((most < length (concat (values_of taken)))
+    × ((b.size ≡ length (concat (values_of taken)))
+    × ((answer ≡ not_taken no_room) × AreTextsKept b)))
+
 -- Only this status is returned: the buffers are unchanged, and the length is 0.
 abbrev pub AreTextsRefused : ℕ → TextBuffers → KohibladTaken → Type 0
 AreTextsRefused status b answer = (answer ≡ not_taken status) × ((b.size ≡ 0) × AreTextsKept b)
@@ -65,16 +84,32 @@ pub record IsTextsOf (taken : List (List ℕ × ℕ)) (kept : TakenTexts) : Type
   pub offsets : kept.offsets.items ≡ text_offsets (values_of taken)
   pub states : kept.states.items ≡ states_of taken
 
+-- The texts of the rows are made, each as the relation says; or there is not enough memory.
+abbrev pub AreTextsMade : {A : Type 0} → (A → List ℕ × ℕ → Type 0) → List A
+    → Result TakenTexts ℕ → Type 0
+AreTextsMade IsTaken rows made =
+    ((taken : List (List ℕ × ℕ))
+    × (AllZip IsTaken rows taken × IsOkAnd made (λ kept. IsTextsOf taken kept)))
+    ⊎ (made ≡ Err (code OutOfMemory))
+
+-- How texts are handed over: what is in the buffers then, and the answer.
+abbrev pub HandingOver : Type 1
+HandingOver = List (List ℕ × ℕ) → TextBuffers → KohibladTaken → Type 0
+
 -- The texts of the rows are taken, each as the relation says, and handed over.
-abbrev pub AreRowTextsTaken : (List ℕ → List ℕ × ℕ → Type 0) → List (List ℕ) → TextBuffers
-    → KohibladTaken → Type 0
-AreRowTextsTaken IsTaken rows b answer =
-    ((taken : List (List ℕ × ℕ)) × (AllZip IsTaken rows taken × AreTextsHandedOver taken b answer))
+abbrev pub AreRowTextsTaken : {A : Type 0} → HandingOver → (A → List ℕ × ℕ → Type 0) → List A
+    → TextBuffers → KohibladTaken → Type 0
+AreRowTextsTaken AreHandedOver IsTaken rows b answer =
+    ((taken : List (List ℕ × ℕ)) × (AllZip IsTaken rows taken × AreHandedOver taken b answer))
     ⊎ AreTextsRefused (code OutOfMemory) b answer
 
 -- The members of the rows are taken, at the end of the path and of each row as the relation says.
-abbrev pub AreTextsTaken : (List Step → List ℕ → List ℕ × ℕ → Type 0) → List ℕ → List ℕ → Meaning
-    → TextBuffers → KohibladTaken → Type 0
-AreTextsTaken IsTaken bytes offsets path b answer =
+abbrev pub AreTextsTaken : HandingOver → (List Step → List ℕ → List ℕ × ℕ → Type 0) → List ℕ
+    → List ℕ → Meaning → TextBuffers → KohibladTaken → Type 0
+AreTextsTaken AreHandedOver IsTaken bytes offsets path b answer =
     OverRows (λ status. AreTextsRefused status b answer)
-    (λ rows steps. AreRowTextsTaken (IsTaken steps) rows b answer) bytes offsets path
+    (λ rows steps. AreRowTextsTaken AreHandedOver (IsTaken steps) rows b answer) bytes offsets path
+
+-- The low 32 bits of a word.
+abbrev pub low_half : ℕ → ℕ
+low_half word = word % (2 ^ 32)

@@ -18,7 +18,9 @@ use Rattle.jsonb_typed.specs.declared.numbers.Fit.TheVariants.{ByValue, Exact}
 use Rattle.kohiblad.specs.declared.taking.KohibladTaken.{KohibladTaken}
 use Rattle.kohiblad.specs.declared.taking.Reading.{Reading}
 use Rattle.kohiblad.specs.declared.taking.Reading.TheVariants.{Checked, Unchecked}
+use Rattle.kohiblad.specs.declared.taken_intervals.KohibladInterval.{KohibladInterval}
 use Rattle.kohiblad.specs.declared.taken_types.KohibladInt128.{KohibladInt128}
+use Rattle.kohiblad.specs.declared.taken_zoned_timestamps.KohibladTimestampTz.{KohibladTimestampTz}
 use Rattle.kohiblad.specs.OverRows.{OverRows}
 use Rattle.kohiblad.specs.RowCells.{row_cell}
 use Rattle.kohiblad.specs.Scalars.{from_halves}
@@ -119,13 +121,13 @@ ArePut taken b = (b.values_after ≡ values_of taken ++ drop (length taken) b.va
     × (b.states_after ≡ states_of taken ++ drop (length taken) b.states)
 
 -- Each row is taken, as the relation says, and put into the buffers.
-abbrev pub AreRowsPut : {V : Type 0} → (List ℕ → V × ℕ → Type 0) → List (List ℕ) → Buffers V
+abbrev pub AreRowsPut : {R V : Type 0} → (R → V × ℕ → Type 0) → List R → Buffers V
     → List (V × ℕ) → Type 0
 AreRowsPut IsTaken rows b taken = AllZip IsTaken rows taken × ArePut taken b
 
 -- What is taken of these rows, each as the relation says, is put into the buffers. Too short a
 -- buffer is refused.
-abbrev pub AreRowsTaken : {V : Type 0} → (List ℕ → V × ℕ → Type 0) → List (List ℕ) → Buffers V
+abbrev pub AreRowsTaken : {R V : Type 0} → (R → V × ℕ → Type 0) → List R → Buffers V
     → KohibladTaken → Type 0
 AreRowsTaken {V = V} IsTaken rows b answer =
     (((length b.values < length rows) ⊎ (length b.states < length rows))
@@ -146,9 +148,13 @@ abbrev pub fit_of : ℕ → Fit
 fit_of zero = ByValue
 fit_of (suc n) = Exact
 
+-- The whole number of both halves.
+abbrev pub int128_whole : KohibladInt128 → ℤ
+int128_whole v = from_halves v.high v.low
+
 -- The two halves are those of a value that stands for the member.
 abbrev pub IsInt128 : Fit → ℕ → KohibladInt128 → Tree → Type 0
-IsInt128 fit scale v t = IsDecimal fit scale (from_halves v.high v.low) t
+IsInt128 fit scale v t = IsDecimal fit scale (int128_whole v) t
 
 -- A truth value as a byte.
 abbrev pub truth_byte : Bool → ℕ
@@ -166,3 +172,15 @@ IsDate v t = t ≡ trees.extension (trees.date (record { value = v }))
 -- The number stands for the member, a timestamp without a time zone.
 abbrev pub IsTimestamp : ℤ → Tree → Type 0
 IsTimestamp v t = t ≡ trees.extension (trees.timestamp (record { value = v }))
+
+-- The number and the offset stand for the member, a timestamp with a time zone.
+abbrev pub IsZonedTimestamp : KohibladTimestampTz → Tree → Type 0
+IsZonedTimestamp v t =
+    t ≡ trees.extension (trees.timestamp_tz (record { offset = v.seconds; value = v.value }))
+
+-- The three numbers stand for the member, an interval.
+abbrev pub IsInterval : KohibladInterval → Tree → Type 0
+IsInterval v t =
+    t
+    ≡ trees.extension
+    (trees.interval (record { months = v.months; days = v.days; micros = v.micros }))

@@ -19,7 +19,7 @@ pub const NO_ROOM: u32 = 11;
 /// The status of a value that does not exist.
 pub const NONE: u32 = 12;
 
-/// The status of a text that nests deeper than the given depth.
+/// The status of a text, or of a row in a file, that nests deeper than the given depth.
 pub const TOO_DEEP: u32 = 13;
 
 /// The status of a value of another kind.
@@ -33,6 +33,24 @@ pub const BAD_NUMBER: u32 = 17;
 
 /// The status of a call that took more steps than it may.
 pub const TOO_MANY_STEPS: u32 = 18;
+
+/// The status of bytes that do not begin as a file of typed columns.
+pub const BAD_MAGIC: u32 = 19;
+
+/// The status of a file of typed columns of another version of the format.
+pub const UNKNOWN_VERSION: u32 = 20;
+
+/// The status of bytes that go on after the end of a file.
+pub const TRAILING_DATA: u32 = 21;
+
+/// The status of a file in which a length does not fit the number of rows.
+pub const WRONG_LENGTH: u32 = 22;
+
+/// The status of a file whose contents are out of form.
+pub const OUT_OF_FORM: u32 = 23;
+
+/// The status of a file that did not give its rows back when it was read again.
+pub const NOT_READ_BACK: u32 = 24;
 
 /// The first length that the payload of a scalar may not have.
 pub const PAYLOAD_LIMIT: usize = 1 << 28;
@@ -71,6 +89,12 @@ pub extern "C" fn kohiblad_status_name(status: u32, out: &mut [u8], length: &mut
         16 => "Overlap",
         17 => "BadNumber",
         18 => "TooManySteps",
+        19 => "BadMagic",
+        20 => "UnknownVersion",
+        21 => "TrailingData",
+        22 => "WrongLength",
+        23 => "OutOfForm",
+        24 => "NotReadBack",
         _ => "Unknown",
     };
     hand_over(name.as_bytes(), out, length)

@@ -3,8 +3,8 @@
 //!
 //! - Depth: a scalar has depth 0, an array or object one more than its deepest child, and at least
 //!   1. A call with a depth looks no deeper: to it a document that nests deeper is not a document.
-//! - Results: bytes, hashes and positions are copied to the start of `out` if they fit, and how
-//!   many they are is stored in `length` or `count`. `NO_ROOM` if `out` is shorter; it is then
+//! - Results: bytes, hashes, positions and zones are copied to the start of `out` if they fit, and
+//!   how many they are is stored in `length` or `count`. `NO_ROOM` if `out` is shorter; it is then
 //!   unchanged. With every other status but `OK`, `out` is unchanged, and `length` or `count` is 0.
 //! - Structs: if the status is not `OK`, the other fields are 0.
 //! - Rows: row k begins at `offsets[k]` and ends at `offsets[k + 1]`.
@@ -31,25 +31,40 @@ mod key_parts;
 mod key_sink;
 mod key_tests;
 mod laws;
+mod located;
+mod locating;
 mod member_table;
 mod named_paths;
 mod names;
 mod patch;
 mod paths;
 mod picking;
+mod placed_members;
 mod places;
 mod row_paths;
+mod row_walk;
 mod rows;
 mod scalar;
 mod sort;
 mod strip;
+mod taken_at;
+mod taken_binaries;
 mod taken_dates;
+mod taken_intervals;
 mod taken_texts;
+mod taken_texts32;
 mod taken_timestamps;
 mod taken_types;
+mod taken_zoned_timestamps;
 mod taking;
 mod text_expected;
 mod text_fault;
 mod texts;
+mod texts_at;
+mod typed_files;
+mod typed_writing;
+mod types_at;
 mod unchecked_rows;
 mod unchecked_types;
+mod zone_structs;
+mod zones;

@@ -17,6 +17,7 @@ use jsonb::Error;
 use jsonb::layer::{DocumentBytes, document_text};
 use jsonb_codec::constants::{FALSE_TAG, NULL_TAG, STRING_TAG, TRUE_TAG};
 use jsonb_codec::parts::Part;
+pub use numbers::whole_of;
 use simdutf8::basic;
 
 // The kinds of truth values and of texts, as `kohiblad_kind` returns them.

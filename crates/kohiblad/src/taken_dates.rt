@@ -62,9 +62,9 @@ pub extern "C" fn kohiblad_take_date_unchecked(
     take(alloc, source, &DateNumbers, 0, values, states)
 }
 
-// Dates as their numbers.
+/// Dates as their numbers.
 #[derive(Clone, Copy)]
-struct DateNumbers;
+pub struct DateNumbers;
 
 impl ColumnType for DateNumbers {
     type Value = i32;

@@ -1,12 +1,14 @@
-//! The call that takes the members of rows as texts.
+//! The calls that take the members of rows as texts.
 
-ghost use Rattle.std.specs.Prelude.{◌≡◌, ◌≤◌, [], ℕ, List, IfErr, IfOk, length, option_map};
+ghost use Rattle.std.specs.Prelude.{◌≡◌, ◌≤◌, ◌∷◌, ◌++◌, [], ℕ, Err, List, IfErr, IfOk, OnOk};
+ghost use Rattle.std.specs.Prelude.{MatchOption, length, option_map};
 ghost use Rattle.std.specs.List.{AllZip};
-ghost use Rattle.jsonb_typed.specs.Words.{IsText, member_cell};
+ghost use Rattle.jsonb_typed.specs.Words.{HoldsNoScalar, IsText, member_cell};
+ghost use Rattle.kohiblad.specs.OverRows.{OverRows};
 ghost use Rattle.kohiblad.specs.Status.{IsCopied};
 ghost use Rattle.kohiblad.specs.Taking.{IsReadRow, IsTakenCell, IsTakenRow, IsTakenUnchecked};
-ghost use Rattle.kohiblad.specs.TakenTexts.{AreRowTextsTaken, AreTextsHandedOver, AreTextsTaken};
-ghost use Rattle.kohiblad.specs.TakenTexts.{IsTextsOf};
+ghost use Rattle.kohiblad.specs.TakenTexts.{AreTextsHandedOver, AreTextsMade, AreTextsTaken};
+ghost use Rattle.kohiblad.specs.TakenTexts.{IsBytes, IsTextsOf};
 ghost use Rattle.kohiblad.specs.Words.{meaning_within, node_tree};
 
 use crate::answer::{NO_ROOM, code};
@@ -19,7 +21,7 @@ use crate::taking::{
 use crate::unchecked_rows::unchecked_member;
 use jsonb::{Error, Node, SortKey};
 use jsonb_functions::Step;
-use jsonb_typed::{member_of, opened};
+use jsonb_typed::{binary_of, member_of, opened};
 use std::alloc::Global;
 
 /// Takes the members of rows at the end of a path as texts, and copies them to `out`, one after
@@ -48,7 +50,7 @@ pub extern "C" fn kohiblad_take_text(
     text_offsets: &mut [usize],
     states: &mut [u8],
 ) -> KohibladTaken
-    ensures { AreTextsTaken (IsTakenRow IsText [] depth) bytes.now offsets.now
+    ensures { AreTextsTaken AreTextsHandedOver (IsTakenRow IsText [] depth) bytes.now offsets.now
         (meaning_within depth path.now)
         (record {
           texts = out.old;
@@ -61,7 +63,15 @@ pub extern "C" fn kohiblad_take_text(
         }) result }
 {
     let source = Source::checked(bytes, offsets, path, depth);
-    take_texts(alloc, source, out, length, text_offsets, states)
+    take_texts(
+        alloc,
+        source,
+        BytesType::Text,
+        out,
+        length,
+        text_offsets,
+        states,
+    )
 }
 
 /// Takes the members of rows at the end of a path as texts, without checking the rows. What holds
@@ -79,7 +89,7 @@ pub extern "C" fn kohiblad_take_text_unchecked(
     text_offsets: &mut [usize],
     states: &mut [u8],
 ) -> KohibladTaken
-    ensures { AreTextsTaken (IsTakenUnchecked IsText []) bytes.now offsets.now
+    ensures { AreTextsTaken AreTextsHandedOver (IsTakenUnchecked IsText []) bytes.now offsets.now
         (meaning_within depth path.now)
         (record {
           texts = out.old;
@@ -92,19 +102,37 @@ pub extern "C" fn kohiblad_take_text_unchecked(
         }) result }
 {
     let source = Source::unchecked(bytes, offsets, path, depth);
-    take_texts(alloc, source, out, length, text_offsets, states)
+    take_texts(
+        alloc,
+        source,
+        BytesType::Text,
+        out,
+        length,
+        text_offsets,
+        states,
+    )
 }
 
-// Takes the members of rows at the end of a path as texts.
-fn take_texts(
+/// What the bytes that are taken are.
+#[derive(Clone, Copy)]
+pub enum BytesType {
+    Text,
+    Binary,
+}
+
+/// Takes the members of rows at the end of a path as texts, or as binary values.
+#[tactic(auto, using(crate::proofs::TakenTextLaws::made_texts, crate::proofs::TakenTextLaws::refused_texts))]
+pub fn take_texts(
     alloc: Global,
     source: Source<'_>,
+    bytes_type: BytesType,
     out: &mut [u8],
     size: &mut usize,
     text_offsets: &mut [usize],
     states: &mut [u8],
 ) -> KohibladTaken
-    ensures { AreTextsTaken (IsReadRow IsText [] source.entry.reading)
+    ensures { AreTextsTaken AreTextsHandedOver
+        (IsReadRow (IsBytes bytes_type) [] source.entry.reading)
         source.entry.bytes.now source.entry.offsets.now
         (meaning_within source.entry.depth source.entry.path.now)
         (record {
@@ -118,65 +146,91 @@ fn take_texts(
         }) result }
 {
     *size = 0;
-    let Ok(rows) = Rows::new(source.bytes, source.offsets) else {
-        return not_taken(code(Error::InvalidEOF));
-    };
-    match steps_of(alloc, source.path, source.depth) {
-        Ok(steps) => {
-            take_row_texts(
-                alloc,
-                rows,
-                &steps,
-                source.reading,
-                out,
-                size,
-                text_offsets,
-                states,
-            )
-        }
+    match source_texts(alloc, source, bytes_type) {
+        Ok(taken) => hand_over_texts(&taken, out, size, text_offsets, states),
         Err(status) => not_taken(status),
     }
 }
 
-// Takes the members of the rows as texts.
-fn take_row_texts(
+/// The texts of rows at the end of a path, or the binary values; or the status with which they are
+/// refused.
+pub fn source_texts(
+    alloc: Global,
+    source: Source<'_>,
+    bytes_type: BytesType,
+) -> Result<TakenTexts, u32>
+    ensures { OverRows (λ status. result ≡ Err status)
+        (λ rows path. AreTextsMade (IsReadRow (IsBytes bytes_type) [] source.entry.reading path)
+        rows result)
+        source.entry.bytes.now source.entry.offsets.now
+        (meaning_within source.entry.depth source.entry.path.now) }
+{
+    let Ok(rows) = Rows::new(source.bytes, source.offsets) else {
+        return Err(code(Error::InvalidEOF));
+    };
+    match steps_of(alloc, source.path, source.depth) {
+        Ok(steps) => row_texts(alloc, rows, &steps, source.reading, bytes_type),
+        Err(status) => Err(status),
+    }
+}
+
+// The texts of the rows, or the binary values; or the status of a failed allocation.
+fn row_texts(
     alloc: Global,
     rows: Rows<'_>,
     path: &[Step<'_>],
     reading: Reading,
-    out: &mut [u8],
-    size: &mut usize,
-    text_offsets: &mut [usize],
-    states: &mut [u8],
-) -> KohibladTaken
-    requires { size.old ≡ 0 }
-    ensures { AreRowTextsTaken (IsReadRow IsText [] reading path.now) rows.entry
-        (record {
-          texts = out.old;
-          texts_after = out.new;
-          size = size.new;
-          offsets = text_offsets.old;
-          offsets_after = text_offsets.new;
-          states = states.old;
-          states_after = states.new;
-        }) result }
+    bytes_type: BytesType,
+) -> Result<TakenTexts, u32>
+    ensures { AreTextsMade (IsReadRow (IsBytes bytes_type) [] reading path.now) rows.entry result }
 {
-    match texts_of(alloc, rows, path, reading) {
-        Ok(taken) => hand_over_texts(&taken, out, size, text_offsets, states),
-        Err(error) => not_taken(code(error)),
+    match texts_of(alloc, rows, path, reading, bytes_type) {
+        Ok(taken) => Ok(taken),
+        Err(error) => Err(code(error)),
     }
 }
 
-// The texts of rows, one after another, with their offsets and the states of the rows.
+/// The texts of rows, one after another, with their offsets and the states of the rows.
 #[derive(Drop)]
-struct TakenTexts {
-    texts: Vec<u8>,
-    offsets: Vec<usize>,
-    states: Vec<u8>,
+pub struct TakenTexts {
+    pub texts: Vec<u8>,
+    pub offsets: Vec<usize>,
+    pub states: Vec<u8>,
 }
 
-// Copies out the texts, or says that a buffer is too short.
-fn hand_over_texts(
+impl TakenTexts {
+    /// Those of no rows.
+    pub fn new(alloc: Global) -> Result<Self, Error>
+        ensures ok { IfOk result (IsTextsOf []) }
+        ensures memory { IfErr result (λ e. e ≡ Error.OutOfMemory) }
+    {
+        let texts = Vec::new(alloc);
+        let mut offsets = Vec::with_capacity(alloc, 1)?;
+        offsets.push_reserved(0);
+        let states = Vec::new(alloc);
+        Ok(TakenTexts {
+            texts,
+            offsets,
+            states,
+        })
+    }
+
+    /// Appends the text of a row and the state of the row. After an error nothing is to be read of
+    /// these.
+    pub fn push(&mut self, text: &[u8], state: u8) -> Result<(), Error>
+        ensures pushed { OnOk result ((taken : List (List ℕ × ℕ)) → IsTextsOf taken self.old
+            → IsTextsOf (taken ++ (text.now, state) ∷ []) self.new) }
+        ensures memory { IfErr result (λ e. e ≡ Error.OutOfMemory) }
+    {
+        self.texts.extend_from_slice(text)?;
+        self.offsets.push(self.texts.len())?;
+        self.states.push(state)?;
+        Ok(())
+    }
+}
+
+/// Copies out the texts, or says that a buffer is too short.
+pub fn hand_over_texts(
     taken: &TakenTexts,
     out: &mut [u8],
     size: &mut usize,
@@ -207,8 +261,8 @@ fn hand_over_texts(
     taken_answer(&taken.states)
 }
 
-// Copies the items to the start of the buffer, which has room for them.
-fn copy_in<T: Copy>(items: &[T], out: &mut [T])
+/// Copies the items to the start of the buffer, which has room for them.
+pub fn copy_in<T: Copy>(items: &[T], out: &mut [T])
     requires { length items.now ≤ length out.old }
     ensures { IsCopied items.now out.old out.new }
 {
@@ -216,76 +270,113 @@ fn copy_in<T: Copy>(items: &[T], out: &mut [T])
 }
 
 // The texts of the rows.
+#[tactic(auto, using(crate::proofs::TakenTextLaws::all_texts))]
 fn texts_of(
     alloc: Global,
     rows: Rows<'_>,
     path: &[Step<'_>],
     reading: Reading,
+    bytes_type: BytesType,
 ) -> Result<TakenTexts, Error>
     ensures ok { IfOk result (λ texts. (taken : List (List ℕ × ℕ))
-        × (AllZip (IsReadRow IsText [] reading path.now) rows.entry taken
+        × (AllZip (IsReadRow (IsBytes bytes_type) [] reading path.now) rows.entry taken
         × IsTextsOf taken texts)) }
     ensures memory { IfErr result (λ e. e ≡ Error.OutOfMemory) }
 {
     let mut left = rows;
-    let mut texts = Vec::new(alloc);
-    let mut offsets = Vec::with_capacity(alloc, 1)?;
-    offsets.push_reserved(0);
-    let mut states = Vec::new(alloc);
+    let mut texts = TakenTexts::new(alloc)?;
     while let Some(row) = left.next() {
-        let (text, state) = read_text(row, path, reading);
-        texts.extend_from_slice(text.as_bytes())?;
-        offsets.push(texts.len())?;
-        states.push(state)?;
+        let (text, state) = read_text(row, path, reading, bytes_type);
+        texts.push(text, state)?;
     }
-    Ok(TakenTexts {
-        texts,
-        offsets,
-        states,
-    })
+    Ok(texts)
 }
 
-// The text of a row, or the empty one, and the state of the row.
-fn read_text<'a>(row: &'a [u8], path: &[Step<'_>], reading: Reading) -> (&'a str, u8)
-    ensures { IsReadRow IsText [] reading path.now row.entry.now (result.0.now, result.1) }
+// The bytes of a row, or none, and the state of the row.
+fn read_text<'a>(
+    row: &'a [u8],
+    path: &[Step<'_>],
+    reading: Reading,
+    bytes_type: BytesType,
+) -> (&'a [u8], u8)
+    ensures { IsReadRow (IsBytes bytes_type) [] reading path.now row.entry.now
+        (result.0.now, result.1) }
 {
     match reading {
-        Reading::Checked(depth) => take_text(row, path, depth),
-        Reading::Unchecked => take_unchecked_text(row, path),
+        Reading::Checked(depth) => take_text(row, path, depth, bytes_type),
+        Reading::Unchecked => take_unchecked_text(row, path, bytes_type),
     }
 }
 
 // The same for a row that is checked.
-fn take_text<'a>(row: &'a [u8], path: &[Step<'_>], depth: usize) -> (&'a str, u8)
-    ensures { IsTakenRow IsText [] depth path.now row.entry.now (result.0.now, result.1) }
+fn take_text<'a>(
+    row: &'a [u8],
+    path: &[Step<'_>],
+    depth: usize,
+    bytes_type: BytesType,
+) -> (&'a [u8], u8)
+    ensures { IsTakenRow (IsBytes bytes_type) [] depth path.now row.entry.now
+        (result.0.now, result.1) }
 {
     match SortKey::within(row, depth) {
-        SortKey::Document(document) => take_member_text(member_of(document, path)),
-        SortKey::Other(bytes) => ("", state_of_bytes(bytes)),
+        SortKey::Document(document) => take_member_text(member_of(document, path), bytes_type),
+        SortKey::Other(bytes) => (&[], state_of_bytes(bytes)),
     }
 }
 
 // The same for a row that is not checked.
-#[tactic(auto, using(crate::proofs::UncheckedLaws::taken_member, crate::proofs::UncheckedLaws::taken_state, crate::proofs::UncheckedLaws::scalar_texts))]
-fn take_unchecked_text<'a>(row: &'a [u8], path: &[Step<'_>]) -> (&'a str, u8)
-    ensures { IsTakenUnchecked IsText [] path.now row.entry.now (result.0.now, result.1) }
+#[tactic(auto, using(crate::proofs::UncheckedLaws::taken_member, crate::proofs::UncheckedLaws::taken_state, crate::proofs::UncheckedLaws::scalar_bytes))]
+fn take_unchecked_text<'a>(
+    row: &'a [u8],
+    path: &[Step<'_>],
+    bytes_type: BytesType,
+) -> (&'a [u8], u8)
+    ensures { IsTakenUnchecked (IsBytes bytes_type) [] path.now row.entry.now
+        (result.0.now, result.1) }
 {
     match unchecked_member(row, path) {
-        Ok(member) => take_member_text(member),
-        Err(state) => ("", state),
+        Ok(member) => take_member_text(member, bytes_type),
+        Err(state) => (&[], state),
     }
 }
 
-// The text of a row with this member, and the state of the row.
-fn take_member_text<'a>(member: Option<Node<'a>>) -> (&'a str, u8)
-    ensures { IsTakenCell IsText [] (member_cell (option_map node_tree member.entry))
-        (result.0.now, result.1) }
+/// The bytes of a row with this member, and the state of the row.
+pub fn take_member_text<'a>(member: Option<Node<'a>>, bytes_type: BytesType) -> (&'a [u8], u8)
+    ensures { IsTakenCell (IsBytes bytes_type) []
+        (member_cell (option_map node_tree member.entry)) (result.0.now, result.1) }
 {
     let Some(member) = member else {
-        return ("", ABSENT);
+        return (&[], ABSENT);
     };
-    match opened(member) {
-        Node::String(text) => (text, VALUE),
-        other => ("", state_of(other)),
+    let member = opened(member);
+    match bytes_of(member, bytes_type) {
+        Some(bytes) => (bytes, VALUE),
+        None => (&[], state_of(member)),
+    }
+}
+
+// The bytes of a member of this type. `None` if it is of another.
+fn bytes_of(member: Node<'_>, bytes_type: BytesType) -> Option<&[u8]>
+    requires { HoldsNoScalar member }
+    ensures { MatchOption result
+        ((bytes : List ℕ) → IsBytes bytes_type bytes (node_tree member.entry) → ⊥)
+        (λ bytes. IsBytes bytes_type bytes.now (node_tree member.entry)) }
+{
+    match bytes_type {
+        BytesType::Text => text_of(member),
+        BytesType::Binary => binary_of(member),
+    }
+}
+
+// The UTF-8 of a text. `None` if the member is none.
+fn text_of(member: Node<'_>) -> Option<&[u8]>
+    requires { HoldsNoScalar member }
+    ensures { MatchOption result
+        ((bytes : List ℕ) → IsText bytes (node_tree member.entry) → ⊥)
+        (λ bytes. IsText bytes.now (node_tree member.entry)) }
+{
+    match member {
+        Node::String(text) => Some(text.as_bytes()),
+        _ => None,
     }
 }

@@ -62,9 +62,9 @@ pub extern "C" fn kohiblad_take_timestamp_unchecked(
     take(alloc, source, &TimestampNumbers, 0, values, states)
 }
 
-// Timestamps as their numbers.
+/// Timestamps as their numbers.
 #[derive(Clone, Copy)]
-struct TimestampNumbers;
+pub struct TimestampNumbers;
 
 impl ColumnType for TimestampNumbers {
     type Value = i64;

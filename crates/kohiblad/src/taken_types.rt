@@ -1,16 +1,21 @@
 //! The calls that take the members of rows as numbers and truth values.
 
-ghost use Rattle.std.specs.Prelude.{◌≡◌, ◌<◌, ◌≤◌, ◌^◌, pos};
+ghost use Rattle.std.specs.Prelude.{◌≡◌, ◌<◌, ◌≤◌, ◌^◌, Some, pos, refl};
+ghost use Rattle.std.specs.Cmp.{int_cmp_total, int_eq_equiv, on_equiv, on_per, on_po, on_total};
+ghost use Rattle.std.specs.Cmp.{partial_equiv_from_equiv, signed_po};
+ghost use Rattle.std.specs.Ordering.{int_cmp, int_eq, on};
 ghost use Rattle.jsonb_typed.specs.Words.{IsInt64, IsUInt64, node_tree};
 ghost use Rattle.kohiblad.specs.Taking.{AreKept, AreTaken, IsInt128, IsTakenRow, IsTruth};
-ghost use Rattle.kohiblad.specs.Taking.{fit_of, not_taken};
+ghost use Rattle.kohiblad.specs.Taking.{fit_of, int128_whole, not_taken};
 ghost use Rattle.kohiblad.specs.Words.{Error, code, from_halves, meaning_within};
 
 use crate::answer::code;
+use crate::scalar::whole_of;
 use crate::taking::{KohibladTaken, Source, fit_of, not_taken, take};
 use jsonb::{Error, Node};
 use jsonb_typed::{Boolean, ColumnType, Decimal, Int64, UInt64};
 use std::alloc::Global;
+use std::cmp::Ordering;
 
 /// A whole number of 128 bits: `high` times 2 to the power of 64, plus `low`.
 #[repr(C)]
@@ -18,6 +23,54 @@ use std::alloc::Global;
 pub struct KohibladInt128 {
     pub low: u64,
     pub high: i64,
+}
+
+impl KohibladInt128 {
+    // The whole number.
+    fn whole(&self) -> i128
+        ensures { result ≡ int128_whole self.now }
+    {
+        whole_of(self.high, self.low)
+    }
+}
+
+impl PartialEq for KohibladInt128 {
+    ghost eq = { on int128_whole int_eq };
+
+    ghost laws = { on_per int128_whole (partial_equiv_from_equiv int_eq_equiv) };
+
+    fn eq(&self, other: &Self) -> bool {
+        self.whole() == other.whole()
+    }
+}
+
+impl Eq for KohibladInt128 {
+    ghost laws = { on_equiv int128_whole int_eq_equiv };
+}
+
+impl PartialOrd for KohibladInt128 {
+    ghost partial_cmp = { λ x y. Some (int_cmp (int128_whole x) (int128_whole y)) };
+
+    ghost laws = { on_po int128_whole signed_po };
+
+    fn partial_cmp(&self, other: &Self) -> Option<Ordering> {
+        Some(self.cmp(other))
+    }
+}
+
+impl Ord for KohibladInt128 {
+    ghost cmp = { on int128_whole int_cmp };
+
+    ghost total = { on_total int128_whole int_cmp_total };
+
+    ghost matches_partial_cmp = { λ x y. refl };
+
+    ghost matches_eq = { λ x y. refl };
+
+    /// Compares the whole numbers.
+    fn cmp(&self, other: &Self) -> Ordering {
+        self.whole().cmp(&other.whole())
+    }
 }
 
 /// Takes the members of rows at the end of a path as whole numbers of 64 bits with a sign. For row

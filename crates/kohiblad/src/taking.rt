@@ -249,8 +249,8 @@ fn take_unchecked<T: ColumnType>(
     }
 }
 
-// What is written for a row with this member.
-fn take_member<T: ColumnType>(
+/// What is written for a row with this member.
+pub fn take_member<T: ColumnType>(
     member: Option<Node<'_>>,
     column_type: &T,
     blank: T::Value,

@@ -65,8 +65,8 @@ fn path_end(row: &[u8], path: &[Step<'_>]) -> Result<Option<Entry>, Error>
     }
 }
 
-// The scalar of an entry with this type and payload, or the state of its row.
-fn scalar_at<'a>(type_code: u32, payload: &'a [u8]) -> Result<Option<Node<'a>>, u8>
+/// The scalar of an entry with this type and payload, or the state of its row.
+pub fn scalar_at<'a>(type_code: u32, payload: &'a [u8]) -> Result<Option<Node<'a>>, u8>
     ensures entry { (t : Tree) → IsPayloadOf type_code payload.entry.now t
         → IsReadAs (Some t) result }
     ensures state { IfErr result (λ state. (state ≡ 3) ⊎ (state ≡ 4)) }

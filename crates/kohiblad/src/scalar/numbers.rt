@@ -58,8 +58,8 @@ pub extern "C" fn kohiblad_of_decimal(
     }
 }
 
-// The whole number of two halves.
-fn whole_of(high: i64, low: u64) -> i128
+/// The whole number of two halves.
+pub fn whole_of(high: i64, low: u64) -> i128
     ensures { result ≡ from_halves high low }
 {
     i128::from(high) * (1 << 64) + i128::from(low)

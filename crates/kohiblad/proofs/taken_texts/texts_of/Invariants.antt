@@ -1,13 +1,12 @@
 use Rattle.std.proofs.Common.{[], length}
-use Rattle.jsonb_typed.specs.Types.{IsText}
 use Rattle.kohiblad.specs.Taking.{IsReadRow}
+use Rattle.kohiblad.specs.TakenTexts.{IsBytes}
 use Rattle.kohiblad.proofs.TakenTextLaws.{TextsSoFar}
 use Rattle.kohiblad.proofs.taken_texts.texts_of.Given as goal
 
 abbrev pub invariant-loop-row : goal.invariant-loop-row
 invariant-loop-row l =
-    TextsSoFar (IsReadRow IsText [] l.reading l.path) l.fn.rows l.left l.texts.items
-    l.offsets.items l.states.items
+    TextsSoFar (IsReadRow (IsBytes l.bytes_type) [] l.reading l.path) l.fn.rows l.left l.texts
 
 abbrev pub decreases-loop-row : goal.decreases-loop-row
 decreases-loop-row l = length l.left

@@ -1,0 +1,210 @@
+-- What C receives of files of typed columns.
+use Rattle.std.proofs.Common.{◌≡◌, ◌≢◌, ◌⊎◌, inl, inr, ℕ, ◌<◌, ◌≤◌, ◌-◌, List, [], ◌∷◌, ◌++◌, map}
+use Rattle.std.proofs.Common.{length, take, drop, slice_index_or, get_or, refl, sym, ap, subst}
+use Rattle.std.proofs.Common.{arith, ◌∙◌, append_assoc, Result, Ok, Err}
+use Rattle.std.specs.Prelude.{◌↔◌}
+use Rattle.std.specs.List.{AllZip}
+use Rattle.std.proofs.lemmas.List.{append-nil, take_all}
+use Rattle.jsonb_value.specs.declared.error.Error.{Error}
+use Rattle.jsonb_value.specs.declared.error.Error.TheVariants.{InvalidJsonb, OutOfMemory}
+use Rattle.jsonb_value.specs.Tree.{Tree}
+use Rattle.jsonb_codec.specs.Depth.{IsDocumentWithin}
+use Rattle.jsonb.specs.declared.owned.OwnedJsonb.{OwnedJsonb}
+use Rattle.jsonb.specs.Owned.{result_bytes}
+use Rattle.jsonb_typed_file.specs.declared.error.FileError.{FileError}
+use Rattle.jsonb_typed_file.specs.declared.error.FileError.TheVariants as errors
+use Rattle.jsonb_typed_file.specs.declared.places.ColumnPlaces.{ColumnPlaces}
+use Rattle.jsonb_typed_file.specs.File.{LengthsFit, row_count}
+use Rattle.jsonb_typed_file.specs.Layout.{Contents, HasNoMagic, HasOtherVersion, HasTrailingData}
+use Rattle.jsonb_typed_file.specs.Layout.{IsLayout, Parts, type_bytes}
+use Rattle.jsonb_typed_file.specs.OneRow.{IsRowOf, IsRowWithin}
+use Rattle.jsonb_typed_file.specs.Places.{IsColumnAt}
+use Rattle.jsonb_typed_file.specs.Rows.{IsMade, row_tree}
+use Rattle.kohiblad.specs.declared.typed_files.KohibladTypedColumn.{KohibladTypedColumn}
+use Rattle.kohiblad.specs.Status.{IsAnswered, IsRefused, code, too_deep}
+use Rattle.kohiblad.specs.TypedFiles.{IsColumnPlaced, IsFileRow, IsLayoutRefused}
+use Rattle.kohiblad.specs.TypedFiles.{IsStatusAnswered, column_struct, file_code}
+use Rattle.kohiblad.specs.WithMemory.{WritesWithMemory}
+
+-- The structs of columns lie where the columns do.
+struct_placed : (bytes : List ℕ) (rows : ℕ) (p : Parts) (c : ColumnPlaces)
+    → IsColumnAt bytes rows p c → IsColumnPlaced bytes rows p (column_struct c)
+struct_placed bytes rows p c at = record {
+  type_code = ap (λ t. get_or (type_bytes t) 0 0) at.type;
+  scale = ap (λ t. get_or (type_bytes t) 1 0) at.type;
+  rows_are = at.rows_are;
+  name = at.name;
+  flags = at.flags;
+  numbers = at.numbers;
+  texts = at.texts;
+}
+
+pub structs_placed : (bytes : List ℕ) (rows : ℕ) (ps : List Parts) (cs : List ColumnPlaces)
+    → AllZip (IsColumnAt bytes rows) ps cs
+    → AllZip (IsColumnPlaced bytes rows) ps (map column_struct cs)
+structs_placed bytes rows [] [] all = tt
+structs_placed bytes rows [] (c ∷ cs) all = absurd all
+structs_placed bytes rows (p ∷ ps) [] all = absurd all
+structs_placed bytes rows (p ∷ ps) (c ∷ cs) all =
+    (struct_placed bytes rows p c all.0, structs_placed bytes rows ps cs all.1)
+
+-- One more struct.
+pub structs_push : (before after : List KohibladTypedColumn) (m : KohibladTypedColumn)
+    (left : List ColumnPlaces) (d : ColumnPlaces) (all : List KohibladTypedColumn)
+    → 1 ≤ length left → before ++ map column_struct left ≡ all → after ≡ before ++ m ∷ []
+    → m ≡ column_struct (slice_index_or left 0 d)
+    → after ++ map column_struct (take (length left - 1) (drop 1 left)) ≡ all
+structs_push before after m [] d all some was pushed is = absurd (omega (arith, some))
+structs_push before after m (c ∷ cs) d all some was pushed is =
+    let later : take (length (c ∷ cs) - 1) (drop 1 (c ∷ cs)) ≡ cs =
+    take_all (length (c ∷ cs) - 1) cs (omega arith) in
+    rw (later, pushed)
+    (append_assoc before (m ∷ []) (map column_struct cs)
+    ∙ ap (λ x. before ++ x ∷ map column_struct cs) is
+    ∙ was)
+
+pub structs_end : (made : List KohibladTypedColumn) (left : List ColumnPlaces)
+    (all : List KohibladTypedColumn) → length left < 1 → made ++ map column_struct left ≡ all
+    → made ≡ all
+structs_end made [] all few was = sym (append-nil made) ∙ was
+structs_end made (c ∷ cs) all few was = absurd (omega (arith, few))
+
+-- A row that is made is written.
+made_writes : (t : Tree) (r : Result OwnedJsonb Error) → IsMade t r
+    → WritesWithMemory t (result_bytes r)
+made_writes t (Ok owned) made = (made.limits.fits, made.document)
+made_writes t (Err e) made = refused made.limits.only
+  where
+    named : (f : Error) → e ≡ f → ◌≡◌ {A = Result OwnedJsonb Error} (Err e) (Err f)
+    named f is = ap Err is
+
+    refused : (e ≡ InvalidJsonb) ⊎ (e ≡ OutOfMemory) → WritesWithMemory t (Err e)
+    refused (inl is) =
+        subst (λ x. WritesWithMemory t (Err x)) (sym is) (made.limits.past (named InvalidJsonb is))
+    refused (inr is) = subst (λ x. WritesWithMemory t (Err x)) (sym is) tt
+
+-- A result is handed over, or a status returned.
+pub some_answer : (r : Result (List ℕ) Error) (before after : List ℕ) (size status : ℕ)
+    → IsAnswered r before after size status
+    → (made : Result (List ℕ) ℕ) × IsStatusAnswered made before after size status
+some_answer (Ok answer) before after size status handed = (Ok answer, handed)
+some_answer (Err e) before after size status refused = (Err (code e), refused)
+
+-- The row of a file.
+pub row_handed : (f g : Contents) (index : ℕ) (r : Result OwnedJsonb Error)
+    (before after : List ℕ) (size status : ℕ) → index < row_count f → IsRowOf f index g
+    → IsMade (row_tree g 0) r → IsAnswered (result_bytes r) before after size status
+    → IsFileRow f index before after size status
+row_handed f g index r before after size status low one made handed =
+    inr (inl (
+      low,
+      (
+        result_bytes r,
+        (
+          made_writes (row_tree f index) r (subst (λ t. IsMade t r) one.tree made),
+          handed,
+        ),
+      ),
+    ))
+
+pub no_memory : (f : Contents) (index : ℕ) (e : FileError) (before after : List ℕ)
+    (size status : ℕ) → e ≡ errors.OutOfMemory
+    → IsRefused (file_code e) before after size status
+    → IsFileRow f index before after size status
+no_memory f index e before after size status is refused =
+    inr (inr (subst (λ x. IsRefused (file_code x) before after size status) is refused))
+
+pub has_a_row : (f g : Contents) (index : ℕ) → IsRowOf f index g → row_count g ≤ 0 → ⊥
+has_a_row f g index one few = omega (arith, few, one.count)
+
+-- The row alone nests as deep.
+pub nests_alike : (depth index : ℕ) (f g : Contents) → IsRowOf f index g
+    → IsRowWithin depth g 0 → IsRowWithin depth f index
+nests_alike depth index f g one within low =
+    subst (IsDocumentWithin depth) one.rest (within (omega (arith, one.count)))
+
+-- A row that is none does not nest too deep.
+pub none_within : (depth index : ℕ) (f : Contents) → row_count f ≤ index
+    → IsRowWithin depth f index
+none_within depth index f past low = absurd (omega (arith, past, low))
+
+-- Anything is told of a row that nests too deep and does not.
+pub not_deep : (depth index : ℕ) (f : Contents) (before after : List ℕ) (size status : ℕ)
+    → IsRowWithin depth f index → (IsRowWithin depth f index → ⊥)
+    → IsRefused too_deep before after size status
+    ⊎ IsRefused (code OutOfMemory) before after size status
+not_deep depth index f before after size status within deeper = absurd (deeper within)
+
+-- What is refused of a file whose row nests too deep.
+pub deep_refused : (e : FileError) (before after : List ℕ) (size status : ℕ)
+    → (e ≡ errors.TooDeep) ⊎ (e ≡ errors.OutOfMemory)
+    → IsRefused (file_code e) before after size status
+    → IsRefused too_deep before after size status
+    ⊎ IsRefused (code OutOfMemory) before after size status
+deep_refused e before after size status (inl is) refused =
+    inl (subst (λ x. IsRefused (file_code x) before after size status) is refused)
+deep_refused e before after size status (inr is) refused =
+    inr (subst (λ x. IsRefused (file_code x) before after size status) is refused)
+
+-- Other errors than that of memory.
+abbrev is_memory : FileError → ℕ
+is_memory errors.OutOfMemory = 1
+is_memory e = 0
+
+pub not_memory : (e : FileError) → errors.OutOfMemory ≡ e → is_memory e ≡ 0 → ⊥
+not_memory e is other = omega (arith, ap is_memory is, other)
+
+-- Bytes are refused with the error with which their columns are.
+pub layout_refused : (bytes : List ℕ) (A : Type 0) (e : FileError)
+    → ((f : Contents) → IsLayout f bytes → LengthsFit f → e ≡ errors.OutOfMemory)
+    → (◌≡◌ {A = Result A FileError} (Err e) (Err errors.BadMagic) ↔ HasNoMagic bytes)
+    → (◌≡◌ {A = Result A FileError} (Err e) (Err errors.UnknownVersion)
+    ↔ HasOtherVersion bytes)
+    → (◌≡◌ {A = Result A FileError} (Err e) (Err errors.Cut) → (f : Contents)
+    (front more : List ℕ) → IsLayout f front → bytes ≡ front ++ more → ⊥)
+    → (◌≡◌ {A = Result A FileError} (Err e) (Err errors.TrailingData) → HasTrailingData bytes)
+    → (HasTrailingData bytes → (e ≡ errors.TrailingData) ⊎ (e ≡ errors.OutOfMemory))
+    → (◌≡◌ {A = Result A FileError} (Err e) (Err errors.WrongLength) → (f : Contents)
+    → IsLayout f bytes → LengthsFit f → ⊥)
+    → ((f : Contents) → IsLayout f bytes → (LengthsFit f → ⊥)
+    → (e ≡ errors.WrongLength) ⊎ (e ≡ errors.OutOfMemory))
+    → e ≢ errors.TooDeep
+    → IsLayoutRefused bytes e
+layout_refused bytes A e memory magic version cut trailing more lengths unfit shallow = record {
+  memory = memory;
+  magic = (λ is. magic.0 (ap Err is), λ none. cc (magic.1 none));
+  version = (λ is. version.0 (ap Err is), λ other. cc (version.1 other));
+  cut = λ is. cut (ap Err is);
+  trailing = λ is. trailing (ap Err is);
+  trailing_refused = more;
+  lengths = λ is. lengths (ap Err is);
+  lengths_refused = unfit;
+  shallow = shallow;
+}
+
+-- For want of memory only bytes are refused that are laid out as a file.
+pub memory_refused : (bytes : List ℕ) (A : Type 0) (a : A)
+    → (◌≡◌ {A = Result A FileError} (Ok a) (Err errors.BadMagic) ↔ HasNoMagic bytes)
+    → (◌≡◌ {A = Result A FileError} (Ok a) (Err errors.UnknownVersion)
+    ↔ HasOtherVersion bytes)
+    → IsLayoutRefused bytes errors.OutOfMemory
+memory_refused bytes A a magic version = record {
+  memory = λ f layout fits. refl;
+  magic = (
+    λ is. absurd (not_memory errors.BadMagic is refl),
+    λ none. absurd (no_both (magic.1 none)),
+  );
+  version = (
+    λ is. absurd (not_memory errors.UnknownVersion is refl),
+    λ other. absurd (no_both (version.1 other)),
+  );
+  cut = λ is. absurd (not_memory errors.Cut is refl);
+  trailing = λ is. absurd (not_memory errors.TrailingData is refl);
+  trailing_refused = λ more. inr refl;
+  lengths = λ is. absurd (not_memory errors.WrongLength is refl);
+  lengths_refused = λ f layout unfit. inr refl;
+  shallow = λ is. not_memory errors.TooDeep is refl;
+}
+  where
+    no_both : {e : FileError} → ◌≡◌ {A = Result A FileError} (Ok a) (Err e) → ⊥
+    no_both both = absurd cc

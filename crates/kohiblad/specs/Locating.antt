@@ -1,0 +1,120 @@
+-- The places of several members in rows, as C receives them.
+use Rattle.std.specs.Prelude.{◌≡◌, ◌<◌, ◌≤◌, ◌⊎◌, ◌+◌, ◌*◌, ◌++◌, ◌∷◌, [], ⊤, ℕ, true, false, List}
+use Rattle.std.specs.Prelude.{drop, length, map, Option, None, Some, IfSome, Ok}
+use Rattle.std.specs.Borrow.{Bor}
+use Rattle.std.specs.List.{AllZip, flat_map}
+use Rattle.jsonb_value.specs.Meaning.{Meaning, document, other_bytes}
+use Rattle.jsonb_value.specs.Tree.{Tree}
+use Rattle.jsonb_value.specs.declared.error.Error.TheVariants.{InvalidEOF, InvalidJsonb}
+use Rattle.jsonb_value.specs.declared.error.Error.TheVariants.{OutOfMemory}
+use Rattle.jsonb_codec.specs.Doc.{Doc}
+use Rattle.jsonb.specs.Entry.{IsEntryIn}
+use Rattle.jsonb.specs.Within.{meaning_within}
+use Rattle.jsonb.specs.declared.entries.Entry.{Entry}
+use Rattle.jsonb_functions.specs.Found.{found_at}
+use Rattle.jsonb_functions.specs.PathPlaces.{moved}
+use Rattle.jsonb_functions.specs.declared.path.Step.TheVariants.{Key}
+use Rattle.jsonb_typed.specs.Surveys.{member_cell}
+use Rattle.kohiblad.specs.declared.places.KohibladPlace.{KohibladPlace}
+use Rattle.kohiblad.specs.declared.taking.Reading.{Reading}
+use Rattle.kohiblad.specs.declared.taking.Reading.TheVariants.{Checked, Unchecked}
+use Rattle.kohiblad.specs.Located.{IsPlaceOf}
+use Rattle.kohiblad.specs.Names.{names_in}
+use Rattle.kohiblad.specs.PlacedMembers.{name_place, names_ascend}
+use Rattle.kohiblad.specs.Places.{place_answer}
+use Rattle.kohiblad.specs.RowCells.{row_cell}
+use Rattle.kohiblad.specs.Rows.{are_offsets, rows}
+use Rattle.kohiblad.specs.Status.{code, no_room, other_kind}
+
+-- No place, or one inside the bytes.
+abbrev pub IsSomePlace : List ℕ → KohibladPlace → Type 0
+IsSomePlace bytes place = (place ≡ place_answer (Ok None))
+    ⊎ ((place.status ≡ 0) × (place.offset + place.length ≤ length bytes))
+
+-- The place of the member with a name of a row, by how rows are read: that of what the row has; if
+-- it is not checked, of a document that of its member, of no bytes that there is none, and of other
+-- bytes any.
+abbrev pub IsLocated : Reading → List ℕ → List ℕ → Bor (List ℕ) → KohibladPlace → Type 0
+IsLocated (Checked depth) bytes row name place =
+    IsPlaceOf bytes (row_cell depth (Key name ∷ []) row) place
+IsLocated Unchecked bytes row name place =
+    ((t : Tree) → Doc row t → IsPlaceOf bytes (member_cell (found_at (Key name ∷ []) t)) place)
+    × ((row ≡ [] → place ≡ place_answer (Ok None)) × IsSomePlace bytes place)
+
+-- The places of the members with these names of a row.
+abbrev pub AreNamesLocated : Reading → List ℕ → List (Bor (List ℕ)) → List ℕ
+    → List KohibladPlace → Type 0
+AreNamesLocated reading bytes names row places = AllZip (IsLocated reading bytes row) names places
+
+-- One list after another.
+abbrev pub joined_places : List (List KohibladPlace) → List KohibladPlace
+joined_places = flat_map (λ places. places)
+
+-- The places of each row are at the start of the buffer, one row's after another's, and the rest is
+-- unchanged.
+abbrev pub AreRowsLocated : Reading → List ℕ → List (Bor (List ℕ)) → List (List ℕ)
+    → List KohibladPlace → List KohibladPlace → Type 0
+AreRowsLocated reading bytes names rows before after =
+    (found : List (List KohibladPlace))
+    × (AllZip (AreNamesLocated reading bytes names) rows found
+    × (after ≡ joined_places found ++ drop (length (joined_places found)) before))
+
+-- The places are written, if the buffer has room for those of all rows.
+abbrev pub ArePlacesWritten : Reading → List ℕ → List (Bor (List ℕ)) → List (List ℕ)
+    → List KohibladPlace → List KohibladPlace → ℕ → Type 0
+ArePlacesWritten reading bytes names rows before after status =
+    ((length before < length rows * length names) × ((status ≡ no_room) × (after ≡ before)))
+    ⊎ ((length rows * length names ≤ length before)
+    × ((status ≡ 0) × AreRowsLocated reading bytes names rows before after))
+
+-- The call is done with these names, or refused: there are none, or they do not ascend.
+abbrev pub WithNames : (ℕ → Type 0) → (List (Bor (List ℕ)) → Type 0) → Option (List (List ℕ))
+    → Type 0
+WithNames Refused Done None = Refused other_kind
+WithNames Refused Done (Some texts) =
+    ((names_ascend None texts ≡ false) × Refused other_kind)
+    ⊎ ((names_ascend None texts ≡ true)
+    × ((names : List (Bor (List ℕ))) × ((map (λ name. name.now) names ≡ texts) × Done names)))
+
+-- The call is done with the names that a document gives, or there is not enough memory; bytes that
+-- are not a document are refused.
+abbrev pub WithNamesOf : (ℕ → Type 0) → (List (Bor (List ℕ)) → Type 0) → Meaning → Type 0
+WithNamesOf Refused Done (document t) =
+    WithNames Refused Done (names_in t) ⊎ Refused (code OutOfMemory)
+WithNamesOf Refused Done (other_bytes b) = Refused (code InvalidJsonb)
+
+-- The places of the members that have these names are written for all rows. Offsets that are below
+-- the previous one or beyond the bytes are refused first.
+abbrev pub AreLocated : Reading → List ℕ → List ℕ → Meaning → List KohibladPlace
+    → List KohibladPlace → ℕ → Type 0
+AreLocated reading bytes offsets names before after status =
+    ((are_offsets (length bytes) 0 offsets ≡ false)
+    × ((status ≡ code InvalidEOF) × (after ≡ before)))
+    ⊎ ((are_offsets (length bytes) 0 offsets ≡ true)
+    × WithNamesOf (λ refusal. (status ≡ refusal) × (after ≡ before))
+    (λ names. ArePlacesWritten reading bytes names (rows bytes offsets) before after status) names)
+
+-- The place in all bytes of an entry that was found in a row, which begins at `start`.
+abbrev pub placed_answer : ℕ → Option Entry → KohibladPlace
+placed_answer start None = place_answer (Ok None)
+placed_answer start (Some entry) = place_answer (Ok (Some (moved start entry)))
+
+-- The row is known to be a document, if rows are checked.
+abbrev pub IsKnownRow : Reading → List ℕ → Type 0
+IsKnownRow (Checked depth) row =
+    (t : Tree) × (Doc row t × (meaning_within depth row ≡ document t))
+IsKnownRow Unchecked row = ⊤
+
+-- The place of an entry that was found in a row: of a document that of the value of the name.
+abbrev pub IsMemberPlace : ℕ → List ℕ → Bor (List ℕ) → KohibladPlace → Type 0
+IsMemberPlace start row name place =
+    (found : Option Entry)
+    × ((place ≡ placed_answer start found)
+    × (IfSome found (IsEntryIn row) × ((t : Tree) → Doc row t → found ≡ name_place name.now row)))
+
+-- The places are in the buffer behind so many others, and the rest is unchanged.
+abbrev pub ArePutBehind : ℕ → List KohibladPlace → List KohibladPlace → List KohibladPlace
+    → Type 0
+ArePutBehind at found before after =
+    (front old : List KohibladPlace) → length front ≡ at → before ≡ front ++ drop at old
+    → after ≡ (front ++ found) ++ drop (at + length found) old

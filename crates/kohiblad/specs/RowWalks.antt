@@ -1,0 +1,20 @@
+-- Walks over the members of rows.
+use Rattle.std.specs.Prelude.{◌≡◌, ℕ, List, Option}
+use Rattle.jsonb_value.specs.Tree.{Tree}
+use Rattle.jsonb_codec.specs.Doc.{Doc}
+use Rattle.jsonb.specs.declared.entries.Entry.{Entry}
+use Rattle.kohiblad.specs.declared.row_walk.RowWalk.{RowWalk}
+use Rattle.kohiblad.specs.PlacedMembers.{AreMembersIn, AreWhole, name_place, place_among}
+
+-- The members that a walk has left are in its row, and whole if the row is a document.
+pub record IsWalk (walk : RowWalk) : Type 0 where
+  pub there : AreMembersIn walk.row.now walk.members
+  pub whole : (t : Tree) → Doc walk.row.now t → AreWhole walk.row.now walk.members
+
+-- What was found is the place of the name in the row, if the row is a document.
+abbrev pub IsFoundAs : List ℕ → List ℕ → Option Entry → Type 0
+IsFoundAs row name found = (t : Tree) → Doc row t → found ≡ name_place name row
+
+-- The place of the name is still to be found in the walk.
+abbrev pub IsFoundIn : List ℕ → RowWalk → Type 0
+IsFoundIn name walk = IsFoundAs walk.row.now name (place_among name walk.row.now walk.members)

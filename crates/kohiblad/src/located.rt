@@ -1,0 +1,117 @@
+//! The places of members in rows, and what is read there.
+
+ghost use Rattle.std.specs.Prelude.{◌≡◌, ◌∷◌, ◌⊎◌, ◌+◌, ◌≤◌, [], IfErr, IfSome, List, MatchOption};
+ghost use Rattle.std.specs.Prelude.{drop, length, nat_le, take};
+ghost use Rattle.typed_vector.specs.Cells.{Cell};
+ghost use Rattle.kohiblad.specs.Located.{IsCellRead, IsPlaceOf, each_of};
+ghost use Rattle.kohiblad.specs.Words.{Tree};
+ghost use Rattle.kohiblad.specs.declared.places.KohibladPlace.{KohibladPlace};
+
+use crate::answer::{NONE, OK};
+use crate::places::KohibladPlace;
+use crate::taking::NO_DOCUMENT;
+use crate::unchecked_rows::scalar_at;
+use jsonb::Node;
+use std::marker::Model;
+
+/// The places that are left: the first, and then each that is so many steps after the one before
+/// it. 0 steps count as 1.
+#[derive(Drop)]
+pub struct Places<'a> {
+    left: &'a [KohibladPlace],
+    step: usize,
+}
+
+impl<'a> Model for Places<'a> {
+    ghost Value = { List KohibladPlace };
+
+    ghost view = { λ s. each_of s.step s.left.now };
+}
+
+impl<'a> Places<'a> {
+    /// The first of these places, and then each that is so many steps after the one before it.
+    pub fn new(places: &'a [KohibladPlace], step: usize) -> Self
+        ensures { result ≡ each_of step places.entry.now }
+    {
+        Places { left: places, step }
+    }
+
+    /// The same places once more, for a second walk.
+    pub fn again(&self) -> Self
+        ensures { result ≡ self.now }
+    {
+        Places {
+            left: self.left,
+            step: self.step,
+        }
+    }
+
+    /// The next place. `None` if there is none left.
+    #[tactic(auto, using(crate::proofs::LocatedLaws::next_place))]
+    pub fn next(&mut self) -> Option<KohibladPlace>
+        ensures { MatchOption result ((self.old ≡ []) × (self.new ≡ []))
+            (λ place. self.old ≡ place ∷ self.new) }
+    {
+        let Some((&place, later)) = self.left.split_first() else {
+            return None;
+        };
+        *self = Places {
+            left: places_after(later, self.step.saturating_sub(1)),
+            step: self.step,
+        };
+        Some(place)
+    }
+
+    /// Whether no more places are left than `room`.
+    pub fn fit_in(&self, room: usize) -> bool
+        ensures { result ≡ nat_le (length self.now) room }
+    {
+        let mut left = self.again();
+        let mut room = room;
+        while left.next().is_some() {
+            if room == 0 {
+                return false;
+            }
+            room -= 1;
+        }
+        true
+    }
+}
+
+// The places after so many.
+fn places_after(places: &[KohibladPlace], passed: usize) -> &[KohibladPlace]
+    ensures { result.now ≡ drop passed places.entry.now }
+{
+    &places[passed.min(places.len())..]
+}
+
+/// The member of a row at its place, if it is a scalar; or the state of the row. At any other place
+/// it is some scalar, none, or a state.
+pub fn member_at<'a>(bytes: &'a [u8], place: KohibladPlace) -> Result<Option<Node<'a>>, u8>
+    ensures cell { (cell : Cell Tree) → IsPlaceOf bytes.entry.now cell place
+        → IsCellRead cell result }
+    ensures state { IfErr result (λ state. (state ≡ 3) ⊎ (state ≡ 4)) }
+{
+    match place.status {
+        NONE => Ok(None),
+        OK => match payload_at(bytes, place) {
+            Some(payload) => scalar_at(place.type_code, payload),
+            None => Err(NO_DOCUMENT),
+        },
+        _ => Err(NO_DOCUMENT),
+    }
+}
+
+// The payload at a place. `None` if it is not inside the bytes.
+fn payload_at<'a>(bytes: &'a [u8], place: KohibladPlace) -> Option<&'a [u8]>
+    ensures { MatchOption result (place.offset + place.length ≤ length bytes.entry.now → ⊥)
+        (λ payload. payload.now ≡ take place.length (drop place.offset bytes.entry.now)) }
+{
+    let offset = place.offset as usize;
+    let length = place.length as usize;
+    if bytes.len() < length || bytes.len() - length < offset {
+        None
+    } else {
+        Some(&bytes[offset..offset + length])
+    }
+}

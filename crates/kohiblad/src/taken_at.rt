@@ -1,0 +1,86 @@
+//! Values at the places of members, written to the caller's buffers.
+
+ghost use Rattle.std.specs.Prelude.{◌≡◌, ◌≤◌, ℕ, List, length, map};
+ghost use Rattle.kohiblad.specs.Located.{IsTakenAt};
+ghost use Rattle.kohiblad.specs.Taking.{AreRowsPut, AreRowsTaken, HoldsScalars, taken_answer};
+
+use crate::answer::NO_ROOM;
+use crate::located::{Places, member_at};
+use crate::places::KohibladPlace;
+use crate::taking::{KohibladTaken, not_taken, take_member, taken_answer};
+use jsonb_typed::ColumnType;
+
+/// Takes the members at places as values of a type, and writes them and the states of their rows to
+/// the buffers.
+pub fn take_at<T: ColumnType>(
+    bytes: &[u8],
+    places: Places<'_>,
+    column_type: &T,
+    blank: T::Value,
+    values: &mut [T::Value],
+    states: &mut [u8],
+) -> KohibladTaken
+    requires { HoldsScalars (T.stands column_type.now) }
+    ensures { AreRowsTaken (IsTakenAt (T.stands column_type.now) blank bytes.now) places.entry
+        (record {
+          values = values.old;
+          values_after = values.new;
+          states = states.old;
+          states_after = states.new;
+        }) result }
+{
+    if !places.fit_in(values.len().min(states.len())) {
+        return not_taken(NO_ROOM);
+    }
+    put_places(bytes, places, column_type, blank, values, states)
+}
+
+// Takes the members at the places.
+fn put_places<T: ColumnType>(
+    bytes: &[u8],
+    places: Places<'_>,
+    column_type: &T,
+    blank: T::Value,
+    values: &mut [T::Value],
+    states: &mut [u8],
+) -> KohibladTaken
+    requires values { length places ≤ length values.old }
+    requires states { length places ≤ length states.old }
+    requires scalars { HoldsScalars (T.stands column_type.now) }
+    ensures { (taken : List (T.Value × ℕ))
+        × (AreRowsPut (IsTakenAt (T.stands column_type.now) blank bytes.now) places.entry
+        (record {
+          values = values.old;
+          values_after = values.new;
+          states = states.old;
+          states_after = states.new;
+        }) taken
+        × (result ≡ taken_answer (map (λ row. row.1) taken))) }
+{
+    let mut left = places;
+    let mut number = 0;
+    while let Some(place) = left.next() {
+        let (value, state) = take_place(bytes, place, column_type, blank);
+        values[number] = value;
+        states[number] = state;
+        number += 1;
+    }
+    taken_answer(&states[..number])
+}
+
+// What is written for the member at a place: its value, or the blank one, and the state of its row.
+#[tactic(auto, using(crate::proofs::LocatedLaws::taken_member, crate::proofs::LocatedLaws::taken_state))]
+fn take_place<T: ColumnType>(
+    bytes: &[u8],
+    place: KohibladPlace,
+    column_type: &T,
+    blank: T::Value,
+) -> (T::Value, u8)
+    requires { HoldsScalars (T.stands column_type.now) }
+    ensures { IsTakenAt (T.stands column_type.now) blank bytes.now place result }
+{
+    match member_at(bytes, place) {
+        Ok(member) => take_member(member, column_type, blank),
+        Err(state) => (blank, state),
+    }
+}
