@@ -33,6 +33,12 @@ def words(address, layout):
     return layout.unpack(ctypes.string_at(address, layout.size))
 
 
+def children_of(given):
+    """The addresses of so many structs, which are there."""
+    count, address = given
+    return struct.unpack(f"={count}Q", ctypes.string_at(address, 8 * count))
+
+
 class Consumer:
     """Takes the struct of an array, as a library does, and reads it."""
 
@@ -41,13 +47,17 @@ class Consumer:
         form, _, metadata, self.flags, *_ = words(pointer_of(schema, b"arrow_schema"), SCHEMA)
         self.format = ctypes.string_at(form)
         self.pairs = self.texts(metadata) if metadata else {}
-        address = pointer_of(given, b"arrow_array")
+        self.take(pointer_of(given, b"arrow_array"))
+
+    def take(self, address):
+        """Moves the struct of an array from there."""
         self.taken = ctypes.create_string_buffer(ctypes.string_at(address, ARRAY.size))
         # What is moved is marked as released where it was.
         ctypes.memset(address + RELEASE_AT, 0, 8)
-        (self.length, self.null_count, self.offset, count, _, buffers, _, _, self.release_address,
-         _) = words(ctypes.addressof(self.taken), ARRAY)
+        (self.length, self.null_count, self.offset, count, below, buffers, children, _,
+         self.release_address, _) = words(ctypes.addressof(self.taken), ARRAY)
         self.buffers = struct.unpack(f"={count}Q", ctypes.string_at(buffers, 8 * count))
+        self.children = children_of((below, children))
 
     @staticmethod
     def texts(metadata):

@@ -5,11 +5,11 @@ import subprocess
 import sys
 import tempfile
 import unittest
-from datetime import date, datetime
+from datetime import date, datetime, timedelta, timezone
 from importlib.util import find_spec
 
 import kohiblad
-from kohiblad import Date, Document, Timestamp
+from kohiblad import Date, Document, Interval, Timestamp, TimestampTz
 
 HAS_NUMPY = find_spec("numpy") is not None
 LINES = ['{"id":3,"town":"Oslo","at":1.50}', '{"id":1,"town":"Bergen"}', '[2]', '{"id":3.0}']
@@ -225,6 +225,9 @@ class CommandTest(unittest.TestCase):
         self.assertEqual(run("extract", "$.a", "least", given=small)[1],
                          b'row,"$.a"\n0,0.' + 37 * b"0" + b"1\n")
         self.assertEqual(run("extract", "$.a", "int64")[1], b'row,"$.a"\n')
+        binary = stored_documents(map(Document.of, ([b"\0\xff"], [b""], [None], ["ff"])))
+        self.assertEqual(run("extract", "$[0]", "binary", given=binary)[1],
+                         b'row,"$[0]"\n0,00ff\n1,""\n2,\n3,\n')
 
     def test_extract_refuses(self):
         source = self.path("rows", stored(*self.ROWS))
@@ -235,7 +238,7 @@ class CommandTest(unittest.TestCase):
                       ["$.a", "decimal 256"]):
             self.assertEqual(run("extract", *words)[:2], (2, b""), words)
         self.assertEqual(run("survey", "a.b")[:2], (2, b""))
-        for words in (["a", "int64"], ["$.a", "interval"], ["$.price", "text"]):
+        for words in (["a", "int64"], ["$.a", "intervals"], ["$.price", "text"]):
             status, output, _ = run("extract", "$.price", "int64", source, "--and", *words)
             self.assertEqual((status, output), (1, b""), words)
         status, _, message = run("extract", "$.a", "int64", given=stored("1")[:-1])
@@ -254,6 +257,13 @@ class CommandTest(unittest.TestCase):
                 'row,"$[0]","$[1]"', "0,2026-11-28,2026-11-28T12:30:00",
                 f"1,{2**31 - 1},{-2**63}", "2,,"]))
             self.assertIn("in 1 of 3 rows", message)
+        rows = [[datetime(2026, 11, 28, 12, 30, tzinfo=timezone(timedelta(hours=-3))),
+                 Interval(14, -31, 10**6)], [TimestampTz(-2**63, 7), 5]]
+        output = run("extract", "$[0]", "least", "--and", "$[1]", "interval",
+                     given=stored_documents(map(Document.of, rows)))[1]
+        self.assertEqual(output.decode().splitlines(), [
+            'row,"$[0]","$[1]"', "0,2026-11-28T12:30:00-03:00,14 -31 1000000",
+            f"1,{-2**63} 7,"])
 
     def test_extract_counts_the_documents(self):
         given = stored("[7]") * 300_000
@@ -293,6 +303,11 @@ class CommandTest(unittest.TestCase):
                                  "-o", one)
         self.assertEqual(status, 1)
         self.assertIn("one array for 2 members", message)
+        binary = self.path("binary", stored_documents([Document.of([b"\xff"])]))
+        self.assertEqual(run("extract", "$[0]", "binary", binary, "-o", one), (0, b"", ""))
+        self.assertEqual(numpy.load(one).tolist(), [b"\xff"])
+        binary = self.path("binary", stored_documents([Document.of([b"a\0"])]))
+        self.assertEqual(run("extract", "$[0]", "binary", binary, "-o", one)[0], 1)
         zero = self.path("zero", stored(r'["a\u0000"]'))
         self.assertEqual(run("extract", "$[0]", "text", zero, "-o", one)[0], 1)
 

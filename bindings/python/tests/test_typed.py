@@ -20,10 +20,10 @@ from importlib.util import find_spec
 from unittest import mock
 
 from kohiblad import (Date, Document, Interval, InvalidDocumentError, InvalidTextError, Timestamp,
-                      UnfitError, _capsules, _typed)
+                      TimestampTz, UnfitError, _capsules, _typed)
 from kohiblad.arrow import Column, Survey, Typed
-from test_arrow import (ARRAY, RELEASE, RELEASE_AT, SCHEMA, Consumer, Given, Producer, new_capsule,
-                        pointer_of, words)
+from test_arrow import (ARRAY, RELEASE, RELEASE_AT, SCHEMA, SCHEMA_RELEASE_AT, Consumer, Given,
+                        Producer, children_of, new_capsule, pointer_of, words)
 
 HAS_NUMPY = find_spec("numpy") is not None
 ABSENT, VALUE, NULL, UNFIT, NO_DOCUMENT = range(5)
@@ -34,7 +34,7 @@ NUMBERS = ["0", "5", "-5", "2.0", "1.5", "1.50", "-0.25", "9223372036854775807",
            "0." + 37 * "0" + "1", "100.00"]
 OTHERS = ["null", "true", "false", '"a"', '""', '"\u00e9\u20ac"', "[5]", '{"a":5}', "[]", None]
 TYPES = ["int64", "uint64", "decimal 0", "decimal 1", "decimal 2", "decimal 38", "decimal 255",
-         "boolean", "text", "date", "timestamp", "nothing", "mixed"]
+         "boolean", "text", "date", "timestamp", "timestamp_tz", "interval", "nothing", "mixed"]
 EPOCH = datetime(1970, 1, 1)
 # By the type that they fit.
 MOMENTS = {
@@ -42,6 +42,14 @@ MOMENTS = {
              Date(-2**31)],
     "timestamp": [EPOCH, datetime(2026, 11, 28, 12, 30, 15, 123456), datetime.min, datetime.max,
                   Timestamp(2**63 - 1), Timestamp(-2**63)],
+    "timestamp_tz": [EPOCH.replace(tzinfo=timezone.utc),
+                     datetime(2026, 11, 28, 12, 30, 15, 123456, timezone(timedelta(hours=5.75))),
+                     datetime(1, 1, 1, tzinfo=timezone(timedelta(hours=-3))),
+                     datetime(9999, 12, 31, 23, 59, 59, 999999, timezone(timedelta(seconds=-1))),
+                     TimestampTz(2**63 - 1, 2**31 - 1), TimestampTz(-2**63, -2**31)],
+    "interval": [Interval(0, 0, 0), Interval(14, -31, 10**6), Interval(-1, 2, -3),
+                 Interval(1, 0, 0), Interval(2**31 - 1, 2**31 - 1, 2**63 // 1000),
+                 Interval(-2**31, -2**31, -2**63 // 1000 + 1)],
 }
 
 
@@ -90,20 +98,24 @@ def expected(member, name, exact):
     return (UNFIT if value is None else VALUE), value
 
 
-def number_of(moment):
-    """What a date or a timestamp is stored as."""
-    if isinstance(moment, (Date, Timestamp)):
-        return moment[0]
-    if isinstance(moment, datetime):
-        return (moment - EPOCH) // timedelta(microseconds=1)
-    return (moment - EPOCH.date()).days
+def numbers_of(moment):
+    """The numbers that a moment is stored as."""
+    if isinstance(moment, (Date, Timestamp, TimestampTz, Interval)):
+        return tuple(moment)
+    if not isinstance(moment, datetime):
+        return ((moment - EPOCH.date()).days,)
+    micros = (moment.replace(tzinfo=None) - EPOCH) // timedelta(microseconds=1)
+    if not moment.tzinfo:
+        return (micros,)
+    seconds = moment.utcoffset() // timedelta(seconds=1)
+    return micros - seconds * 10**6, seconds
 
 
 def column_of_moments(name):
     """Moments that fit a type and others, with their states and the values of the type."""
     fitting = MOMENTS[name]
     others = [it for other, moments in MOMENTS.items() if other != name for it in moments]
-    others += [7, "2026-11-28", datetime(2026, 1, 2, tzinfo=timezone.utc), Interval(1, 2, 3)]
+    others += [7, "2026-11-28"]
     rows = [{"a": it} for it in (*fitting, *others, None)] + [{}]
     states = [VALUE] * len(fitting) + [UNFIT] * len(others) + [NULL, ABSENT]
     return (Column.of(map(Document.of, rows)), states,
@@ -204,7 +216,7 @@ class TypedTest(unittest.TestCase):
                 (InvalidTextError, ["\ud800"], None, "rest"),
                 *((ValueError, ["a"], [name], "rest") for name in (
                     "", "int", "INT64", "decimal", "decimal ", "decimal 256", "decimal -1",
-                    "decimal 1 ", "decimal \u0661", "decimal 1.5", "interval", "text 1"))):
+                    "decimal 1 ", "decimal \u0661", "decimal 1.5", "intervals", "text 1"))):
             with self.subTest(paths=paths, types=types), self.assertRaises(error):
                 column.extract(paths, types, unfit=unfit)
         self.assertEqual(column.extract(["a"], ["decimal 02"])[0].type, "decimal 2")
@@ -238,24 +250,40 @@ class TypedTest(unittest.TestCase):
                             is_held(member, it, is_exact) for member in members)]
                         self.assertEqual(name, held[0])
 
-    def test_least_types_without_columns(self):
-        for value, name in ((datetime(2026, 1, 2, tzinfo=timezone.utc), "timestamp_tz"),
-                            (Interval(1, 2, 3), "interval"), (b"bytes", "mixed")):
-            column = Column.of([Document.of({"a": value}), Document.of({"a": None})])
-            self.assertEqual(column.least_type("a"), name)
-            typed, = column.extract(["a"])
-            self.assertEqual((typed.type, typed.to_list(), typed.rest),
-                             ("mixed", [None, None], [(0, Document.of(value))]))
+    def test_binary_values(self):
+        values = [b"", b"\0\xff\n", "\u00e9".encode(), bytes(range(256)) * 20] * 700
+        others = ["a", 5, date(2026, 11, 28), [b"x"]]
+        rows = [{"a": it} for it in (*values, *others, None)] + [{}]
+        column = Column.of(map(Document.of, rows))
+        typed, = column.extract(["a"], ["binary"])
+        self.assertEqual((typed.type, typed.to_list()), ("binary", values + 6 * [None]))
+        self.assertEqual(typed.states.tolist(),
+                         [VALUE] * len(values) + [UNFIT] * 4 + [NULL, ABSENT])
+        self.assertEqual((typed[1], typed[2:4], typed[-1]), (values[1], values[2:4], None))
+        self.assertEqual([it for _, it in typed.rest], list(map(Document.of, others)))
+        self.assertEqual((typed.values.format, bytes(typed.values), bytes(typed.texts)),
+                         ("B", b"".join(values), b""))
+        self.assertEqual(typed.offsets.tolist()[:5], [0, 0, 3, 5, 5125])
+        self.assertEqual((column.least_type("a"), column[:2800].least_type("a")),
+                         ("mixed", "binary"))
+        least, = column[1:2800].extract(["a"])
+        self.assertEqual((least.type, least.to_list()), ("binary", values[1:]))
+        self.assertEqual(column.extract(["a"], ["text"])[0].to_list(),
+                         len(values) * [None] + ["a"] + 5 * [None])
 
     def test_dates_and_timestamps(self):
-        for name, code in (("date", "i"), ("timestamp", "q")):
+        for name, layout in (("date", "i"), ("timestamp", "q"), ("timestamp_tz", "qi4x"),
+                             ("interval", "iiq")):
             column, states, values, others = column_of_moments(name)
             typed, = column.extract(["a"], [name])
             self.assertEqual((typed.type, typed.states.tolist()), (name, states))
             self.assertEqual(list(map(repr, typed.to_list())), list(map(repr, values)))
             self.assertEqual(typed[:], typed.to_list())
-            numbers = [0 if it is None else number_of(it) for it in values]
-            self.assertEqual((typed.values.format, typed.values.tolist()), (code, numbers))
+            blank = struct.pack(f"={layout}", *[0] * len(numbers_of(values[0])))
+            self.assertEqual(typed.values.format, "i" if name == "date" else "q")
+            self.assertEqual(bytes(typed.values), b"".join(
+                blank if it is None else struct.pack(f"={layout}", *numbers_of(it))
+                for it in values))
             self.assertEqual([it for _, it in typed.rest], list(map(Document.of, others)))
             for rows in (column[:6], column[:3], column[-2:]):
                 least = name if len(rows) > 2 else "nothing"
@@ -276,21 +304,25 @@ class TypedTest(unittest.TestCase):
         good = Document.of({"a": 5, "b": 6})
         rows = Producer([bytes(good)] * 3, b"Z")
         others = Producer([bytes(good)] * 3, b"Z")
-        bad = Producer([bytes(good), b"no"], b"Z")
+        bad, worse = (Producer([bytes(good), b"no"], b"Z") for _ in range(2))
         for column, paths, types, wanted, states in (
-                (Column.of([good, None, good]), ["a", "b"], ["int64"] * 2, [1, 1], [1, 0, 1]),
+                (Column.of([good, None, good]), ["a", "b"], ["int64"] * 2, [1], [1, 0, 1]),
                 (Column.of([good, None])[:1], ["a"], ["int64"], [1], [1]),
-                (Column.of([good, Foreign()]), ["a", "b"], ["int64"] * 2, [0, 0], [1, 4]),
-                (Column.from_arrow(rows), ["a", "b", "a"], ["int64"] * 3, [0, 1, 1], [1, 1, 1]),
+                (Column.of([good, Foreign()]), ["a", "b"], ["int64"] * 2, [0], [1, 4]),
+                (Column.from_arrow(rows), ["a", "b", "a"], ["int64"] * 3, [0], [1, 1, 1]),
                 (Column.from_arrow(others), ["a", "b"], None, [0, 1], [1, 1, 1]),
-                (Column.from_arrow(bad), ["a", "b"], ["int64"] * 2, [0, 0], [1, 4])):
+                (Column.from_arrow(bad), ["a", "b"], ["int64"] * 2, [0], [1, 4]),
+                (Column.from_arrow(worse), ["a", "a"], ["int64"] * 2, [0, 0], [1, 4])):
             calls = []
 
             def counted(is_known, call):
                 return lambda *arguments: calls.append(is_known) or call(*arguments)
 
-            taking = tuple(map(counted, (0, 1), _typed.library.take_int64))
-            with mock.patch.object(_typed.library, "take_int64", taking):
+            *taking, at = _typed.library.take_int64
+            taking = (*map(counted, (0, 1), taking), at)
+            locating = tuple(map(counted, (0, 1), _typed.library.locate))
+            with mock.patch.object(_typed.library, "take_int64", taking), \
+                    mock.patch.object(_typed.library, "locate", locating):
                 columns = column.extract(paths, types)
             self.assertEqual(calls, wanted)
             self.assertEqual([it.states.tolist() for it in columns], [states] * len(paths))
@@ -301,6 +333,33 @@ class TypedTest(unittest.TestCase):
         with mock.patch.object(_typed.library, "take_decimal", (None, unchecked)):
             self.assertEqual(prices.extract(["a"])[0].to_list(), [Decimal("1.5"), Decimal("2.0")])
         self.assertEqual(unchecked.call_count, 1)
+
+    def test_several_members_are_those_of_single_paths(self):
+        texts = ['{"a":5,"b":"x","c":1.5,"é":true}', '{"b":"yé","c":2,"é":null}', "{}", "[1]",
+                 '{"a":-7,"b":9,"c":"z","d":[1],"é":false}', '{"a":6,"b":"","c":0.25,"é":true}']
+        rows = [Document.parse(text) for text in texts * 700]
+        pairs = [("é", "boolean"), ("b", "text"), ("a", "int64"), ("c", "decimal 2"),
+                 ("a", "uint64"), ("b", "binary"), ("none", "interval"), ("d", "mixed"),
+                 (["c"], "timestamp_tz"), ("c", None), (0, "int64"), ("c", "date")]
+        paths, types = zip(*pairs)
+        source = Producer([bytes(row) for row in rows[:9]] + [b"no", b""], b"Z")
+        for column in (Column.of(rows), Column.from_arrow(source)):
+            for exact in (False, True):
+                for path, name, found in zip(paths, types,
+                                             column.extract(paths, types, exact=exact)):
+                    alone, = column.extract([path], [name], exact=exact)
+                    self.assertEqual((found.type, found.states, found.values, found.offsets,
+                                      found.texts, found.unfit, found.rest, found.to_list()),
+                                     (alone.type, alone.states, alone.values, alone.offsets,
+                                      alone.texts, alone.unfit, alone.rest, alone.to_list()), path)
+        # The first path with a member that does not fit is refused, not the first row.
+        with self.assertRaises(UnfitError) as refused:
+            Column.of(rows).extract(["b", "c"], ["text", "decimal 2"], unfit="error")
+        self.assertEqual(refused.exception.row, 4)
+        with self.assertRaises(UnfitError) as refused:
+            Column.of([*rows[:3], *rows[4:5]]).extract(["a", "b"], ["uint64", "text"],
+                                                       unfit="error")
+        self.assertEqual(refused.exception.row, 3)
 
     def test_each_type_without_a_check(self):
         """What documents have is the same by the calls that check rows, which Arrow's need."""
@@ -480,16 +539,19 @@ class TypedConsumer(Consumer):
         data = ctypes.string_at(address, (self.length + 7) // 8)
         return [bool(data[row // 8] >> row % 8 & 1) for row in range(self.length)]
 
-    def all_values(self, first, texts=None):
+    def all_values(self, first, data=None):
         if self.format == b"b":
             return self.bits(first)
-        if self.format == b"U":
+        if self.format in (b"U", b"Z"):
             ends = struct.unpack(f"={self.length + 1}q",
                                  ctypes.string_at(first, 8 * self.length + 8))
-            return [ctypes.string_at(texts + start, end - start).decode()
-                    for start, end in zip(ends, ends[1:])]
-        if self.format in (b"l", b"L", b"tdD", b"tsu:"):
-            form = {b"l": "q", b"L": "Q", b"tdD": "i", b"tsu:": "q"}[self.format]
+            found = [ctypes.string_at(data + start, end - start)
+                     for start, end in zip(ends, ends[1:])]
+            return found if self.format == b"Z" else list(map(bytes.decode, found))
+        if self.format == b"tin":
+            return list(struct.iter_unpack("=iiq", ctypes.string_at(first, 16 * self.length)))
+        if self.format in (b"l", b"L", b"i", b"tdD", b"tsu:", b"tsu:UTC"):
+            form = {b"L": "Q", b"i": "i", b"tdD": "i"}.get(self.format, "q")
             layout = struct.Struct(f"={self.length}{form}")
             return list(layout.unpack(ctypes.string_at(first, layout.size)))
         kind, digits, scale = re.fullmatch(b"(d):([0-9]+),([0-9]+)", self.format).groups()
@@ -498,6 +560,20 @@ class TypedConsumer(Consumer):
         numbers = [int.from_bytes(data[at:at + 16], "little", signed=True)
                    for at in range(0, len(data), 16)]
         return [Decimal(f"{it}e-{int(scale)}") for it in numbers]
+
+
+class ChildConsumer(TypedConsumer):
+    """Takes the struct of a child, which it moves out of its parent."""
+
+    def __init__(self, form, address):
+        self.format = form
+        self.take(address)
+
+
+def schemas_at(addresses):
+    """The formats, names and flags of the children of a schema."""
+    found = [words(it, SCHEMA) for it in addresses]
+    return [(ctypes.string_at(it[0]), ctypes.string_at(it[1]), it[3]) for it in found]
 
 
 class Streamed:
@@ -573,10 +649,94 @@ class InterfaceTest(unittest.TestCase):
             typed, = column.extract(["a"], [name])
             read = TypedConsumer(typed)
             self.assertEqual((read.format, read.null_count), (form, values.count(None)))
-            self.assertEqual(read.values(), [None if it is None else number_of(it)
+            self.assertEqual(read.values(), [None if it is None else numbers_of(it)[0]
                                              for it in values])
             self.assertEqual(read.buffers[1], typed.values.obj.buffer_info()[0])
             read.release()
+        self.assert_all_released()
+
+    def test_binary_values(self):
+        for values in ([], [None], [b""], [b"\0\xff", None, b"", "\u00e9".encode()] * 600):
+            column = Column.of(Document.of({"a": it}) for it in values)
+            typed, = column.extract(["a"], ["binary"])
+            read = TypedConsumer(typed)
+            self.assertEqual((read.format, read.length, read.null_count, len(read.buffers)),
+                             (b"Z", len(values), values.count(None), 3))
+            self.assertEqual(read.values(), values)
+            read.release()
+        self.assert_all_released()
+
+    def test_intervals(self):
+        column, _, values, _ = column_of_moments("interval")
+        read = TypedConsumer(column.extract(["a"], ["interval"])[0])
+        self.assertEqual((read.format, read.null_count), (b"tin", values.count(None)))
+        self.assertEqual(read.values(), [None if it is None else (it.months, it.days,
+                                                                  1000 * it.micros)
+                                         for it in values])
+        read.release()
+        for micros in (2**63 // 1000 + 1, 2**63 - 1, -2**63 // 1000, -2**63):
+            rows = [{"a": Interval(0, 0, 1)}, {}, {"a": Interval(5, 6, micros)}]
+            typed, = Column.of(map(Document.of, rows)).extract(["a"])
+            self.assertEqual(typed.to_list(), [it.get("a") for it in rows])
+            for call in (typed.__arrow_c_array__, typed.__arrow_c_stream__):
+                with self.assertRaisesRegex(ValueError, f"^row 2: .* {micros} microseconds$"):
+                    call()
+        read = TypedConsumer(Column.of([]).extract(["a"], ["interval"])[0])
+        self.assertEqual((read.values(), len(read.buffers)), ([], 2))
+        read.release()
+        self.assert_all_released()
+
+    def test_timestamps_with_a_zone(self):
+        column, states, values, _ = column_of_moments("timestamp_tz")
+        numbers = [(0, 0) if it is None else numbers_of(it) for it in values]
+        for moved in ((), (0,), (0, 1)):
+            freed = []
+            typed, = column.extract(["a"], ["timestamp_tz"])
+            weakref.finalize(typed, freed.append, moved)
+            schema, read = typed.__arrow_c_schema__(), TypedConsumer(typed)
+            flags = [it == VALUE for it in states]
+            self.assertEqual((read.format, read.null_count, len(read.buffers)),
+                             (b"+s", values.count(None), 1))
+            self.assertEqual(read.bits(read.buffers[0]), flags)
+            self.assertEqual(schemas_at(children_of(words(pointer_of(schema, b"arrow_schema"),
+                                                          SCHEMA)[4:6])),
+                             [(b"tsu:UTC", b"timestamp", 2), (b"i", b"offset_seconds", 2)])
+            taken = []
+            for row, form in enumerate((b"tsu:UTC", b"i")):
+                it = words(read.children[row], ARRAY)
+                self.assertEqual((it[:5], bool(it[-2])), ((len(values), 0, 0, 2, 0), True))
+                if row in moved:
+                    taken.append(ChildConsumer(form, read.children[row]))
+                    self.assertEqual(taken[-1].values(), [it[row] for it in numbers])
+            del typed, schema
+            read.release()
+            _capsules.release_unused()
+            gc.collect()
+            # A child that was moved outlives its parent.
+            self.assertEqual(freed, [] if moved else [()])
+            for row, it in zip(moved, taken):
+                self.assertEqual(it.values(), [it[row] for it in numbers])
+                it.release()
+            gc.collect()
+            self.assertEqual(freed, [moved])
+            self.assert_all_released()
+        read = TypedConsumer(Column.of([]).extract(["a"], ["timestamp_tz"])[0])
+        self.assertEqual((read.length, len(read.children)), (0, 2))
+        read.release()
+        self.assert_all_released()
+
+    def test_the_parts_of_a_schema_that_are_moved(self):
+        typed, = Column.of([]).extract(["a"], ["timestamp_tz"])
+        schema = typed.__arrow_c_schema__()
+        address = children_of(words(pointer_of(schema, b"arrow_schema"), SCHEMA)[4:6])[1]
+        taken = ctypes.create_string_buffer(ctypes.string_at(address, SCHEMA.size))
+        ctypes.memset(address + SCHEMA_RELEASE_AT, 0, 8)
+        del schema
+        _capsules.release_unused()
+        self.assertEqual(len(_capsules._exported), len(self.before) + 1)
+        at = ctypes.addressof(taken)
+        self.assertEqual(schemas_at([at]), [(b"i", b"offset_seconds", 2)])
+        RELEASE(words(at, SCHEMA)[-2])(at)
         self.assert_all_released()
 
     def test_columns_without_nulls_need_no_bits(self):
@@ -746,6 +906,31 @@ class NumpyTest(unittest.TestCase):
         least, = Column.of([Document.of({"a": Timestamp(-2**63)})]).extract(["a"])
         self.assertTrue(self.numpy.isnat(least.numpy[0]))
 
+    def test_structs(self):
+        moments = MOMENTS["timestamp_tz"]
+        utc = [(it.astimezone(timezone.utc).replace(tzinfo=None), it.utcoffset().total_seconds())
+               for it in moments[:2]]
+        spans = list(map(tuple, MOMENTS["interval"]))
+        for name, some, values, dtype in (
+                ("timestamp_tz", moments[:2], utc, [("timestamp", "<M8[us]", 0),
+                                                    ("offset_seconds", "<i4", 8)]),
+                ("interval", MOMENTS["interval"], spans, [
+                    ("months", "<i4", 0), ("days", "<i4", 4), ("micros", "<i8", 8)])):
+            column = Column.of(Document.of({"a": it}) for it in (*some, None, 5))
+            typed, = column.extract(["a"], [name])
+            found = typed.numpy
+            self.assertEqual((found.dtype.itemsize, [
+                (field, found.dtype[field].str, found.dtype.fields[field][1])
+                for field in found.dtype.names]), (16, dtype))
+            self.assertEqual(found[:-2].tolist(), values)
+            at = self.numpy.asarray(typed.values).__array_interface__["data"][0]
+            self.assertEqual(found.__array_interface__["data"][0], at)
+            self.assertFalse(found.flags.writeable)
+            first = dtype[0][0]
+            self.assertEqual(typed.masked[first].tolist(), [it[0] for it in values] + [None] * 2)
+            empty, = Column.of([]).extract(["a"], [name])
+            self.assertEqual((empty.numpy.tolist(), empty.masked.tolist()), ([], []))
+
     def test_what_is_copied(self):
         column = Column.of(map(row_of, [str(2**64), "-1", "null", '"a"', str(-2**127)]))
         decimals, texts = column.extract(["a", "a"], ["decimal 0", "text"])
@@ -753,6 +938,8 @@ class NumpyTest(unittest.TestCase):
                          ("object", [2**64, -1, 0, 0, -2**127]))
         self.assertEqual(decimals.masked.tolist(), [2**64, -1, None, None, -2**127])
         self.assertEqual(texts.numpy.tolist(), [None, None, None, "a", None])
+        column = Column.of(Document.of({"a": it}) for it in (b"\0", b"", 5))
+        self.assertEqual(column.extract(["a"], ["binary"])[0].numpy.tolist(), [b"\0", b"", None])
 
     def test_sums(self):
         rng = random.Random(4)

@@ -51,6 +51,18 @@ pub enum Error {
     PastRange,
     /// The call took more steps than it may.
     TooManySteps,
+    /// The bytes do not begin as a file of typed columns.
+    BadMagic,
+    /// The file of typed columns has another version of the format.
+    UnknownVersion,
+    /// There are bytes after the end of the file.
+    TrailingData,
+    /// A length in the file does not fit the number of rows.
+    WrongLength,
+    /// What is in the file is out of form.
+    OutOfForm,
+    /// The file did not give its rows back when it was read again.
+    NotReadBack,
     /// A status that this version of the crate does not know.
     Unknown(u32),
 }
@@ -79,6 +91,12 @@ impl Error {
             15 => Error::PastRange,
             17 => Error::BadNumber { offset },
             18 => Error::TooManySteps,
+            19 => Error::BadMagic,
+            20 => Error::UnknownVersion,
+            21 => Error::TrailingData,
+            22 => Error::WrongLength,
+            23 => Error::OutOfForm,
+            24 => Error::NotReadBack,
             _ => Error::Unknown(status),
         }
     }
@@ -106,6 +124,12 @@ impl Error {
             Error::OtherKind => "OtherKind",
             Error::PastRange => "PastRange",
             Error::TooManySteps => "TooManySteps",
+            Error::BadMagic => "BadMagic",
+            Error::UnknownVersion => "UnknownVersion",
+            Error::TrailingData => "TrailingData",
+            Error::WrongLength => "WrongLength",
+            Error::OutOfForm => "OutOfForm",
+            Error::NotReadBack => "NotReadBack",
             Error::Unknown(_) => "Unknown",
         }
     }
@@ -133,6 +157,12 @@ impl Error {
             Error::OtherKind => "it is of another kind than the call takes",
             Error::PastRange => "the number is no whole one of 64 bits",
             Error::TooManySteps => "the call took more steps than it may",
+            Error::BadMagic => "the bytes do not begin as a file of typed columns",
+            Error::UnknownVersion => "the file has another version of the format",
+            Error::TrailingData => "there are bytes after the end of the file",
+            Error::WrongLength => "a length does not fit the number of rows",
+            Error::OutOfForm => "what is in the file is out of form",
+            Error::NotReadBack => "the file did not give its rows back",
             Error::Unknown(_) => "the status is unknown",
         }
     }
@@ -181,7 +211,7 @@ mod tests {
 
     #[test]
     fn names_are_those_of_the_library() {
-        for status in 1..=20 {
+        for status in 1..=25 {
             let error = Error::of_status(status);
             if !matches!(error, Error::Unknown(_)) {
                 assert_eq!(error.name(), ffi::status_name(status));
@@ -192,7 +222,7 @@ mod tests {
 
     #[test]
     fn only_three_statuses_are_no_errors() {
-        let others: Vec<_> = (1..=18)
+        let others: Vec<_> = (1..=24)
             .filter(|&status| matches!(Error::of_status(status), Error::Unknown(_)))
             .map(ffi::status_name)
             .collect();

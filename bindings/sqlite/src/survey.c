@@ -238,7 +238,8 @@ static const char *least_type(const struct survey *survey, char *room, int size)
     if (counts->dates == members) return "date";
     if (counts->timestamps == members) return "timestamp";
     if (counts->zoned_timestamps == members) return "timestamp_tz";
-    return counts->intervals == members ? "interval" : "mixed";
+    if (counts->intervals == members) return "interval";
+    return counts->binaries == members ? "binary" : "mixed";
 }
 
 static struct bytes bytes_of_name(const char *name)

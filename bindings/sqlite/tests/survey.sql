@@ -48,7 +48,7 @@ SELECT jb_value(jb_survey(jb(column2), '$'), '$.type'), count(*) FROM (VALUES
 SELECT jb_text(jb_survey(x'20000000600000051000000001', '$'));
 --> {"date":1,"rows":1,"type":"date"}
 SELECT jb_text(jb_survey(jb_binary(x'00'), '$'));
---> {"binary":1,"rows":1,"type":"mixed"}
+--> {"binary":1,"rows":1,"type":"binary"}
 
 -- A path is that of each row.
 WITH RECURSIVE n(i) AS (VALUES (0) UNION ALL SELECT i + 1 FROM n WHERE i < 6)

@@ -7,7 +7,8 @@ import errno
 import itertools
 import sys
 from ctypes import POINTER, c_char_p, c_int, c_int64, c_void_p
-from typing import Any, Callable, Dict, List, Optional, Protocol, Sequence, Tuple, Type, Union
+from typing import (Any, Callable, Dict, List, NamedTuple, Optional, Protocol, Sequence, Tuple,
+                    Type, Union)
 
 from . import _library as library
 
@@ -29,11 +30,11 @@ class Array(ctypes.Structure):
 
 Release = ctypes.CFUNCTYPE(None, c_void_p)
 Schema._fields_ = [("format", c_char_p), ("name", c_char_p), ("metadata", c_void_p),
-                   ("flags", c_int64), ("n_children", c_int64), ("children", c_void_p),
+                   ("flags", c_int64), ("n_children", c_int64), ("children", POINTER(c_void_p)),
                    ("dictionary", c_void_p), ("release", Release), ("private_data", c_void_p)]
 Array._fields_ = [("length", c_int64), ("null_count", c_int64), ("offset", c_int64),
                   ("n_buffers", c_int64), ("n_children", c_int64), ("buffers", POINTER(c_void_p)),
-                  ("children", c_void_p), ("dictionary", c_void_p), ("release", Release),
+                  ("children", POINTER(c_void_p)), ("dictionary", c_void_p), ("release", Release),
                   ("private_data", c_void_p)]
 
 
@@ -53,9 +54,14 @@ _numbers = itertools.count(1)
 
 
 def _releaser(struct: _Struct) -> Any:
-    """A C function that ends the use of a struct, and marks it."""
+    """A C function that ends the use of a struct and of its children, and marks it."""
     def release(address: int) -> None:
         it = struct.from_address(address)
+        for row in range(getattr(it, "n_children", 0)):
+            child = struct.from_address(it.children[row])
+            # One that was moved is released where it is now.
+            if child.release:
+                child.release(it.children[row])
         _exported.pop(it.private_data or 0, None)
         it.release = Release(0)
     return _kept(Release(release))
@@ -108,22 +114,48 @@ def release_some() -> None:
         release_unused()
 
 
-def schema_capsule(form: bytes, metadata: bytes = b"") -> Any:
+class Child(NamedTuple):
+    """A part of each value of a struct of Arrow, which none is without: its name and its format."""
+    name: bytes
+    form: bytes
+
+
+def schema_capsule(form: bytes, metadata: bytes = b"", children: Sequence[Child] = ()) -> Any:
     """A capsule of the type that a format names, whose values may be missing."""
-    number, pairs = next(_numbers), ctypes.create_string_buffer(metadata)
-    it = Schema(form, b"", ctypes.addressof(pairs) if metadata else None, _NULLABLE, 0, None, None,
-                _release_schema, number)
-    _exported[number] = (form, pairs)
-    return _capsule(it, SCHEMA_NAME)
+    return _capsule(_schema(form, b"", metadata, [_schema(it.form, it.name, b"", ())
+                                                  for it in children]), SCHEMA_NAME)
+
+
+def _schema(form: bytes, name: bytes, metadata: bytes, children: Sequence[Any]) -> Any:
+    number, pairs, parts = next(_numbers), ctypes.create_string_buffer(metadata), _parts(children)
+    it = Schema(form, name, ctypes.addressof(pairs) if metadata else None, _NULLABLE,
+                len(children), parts, None, _release_schema, number)
+    _exported[number] = (form, name, pairs, children, parts)
+    return it
+
+
+def _parts(children: Sequence[Any]) -> Any:
+    """The addresses of structs, which their parent keeps."""
+    return (c_void_p * len(children))(*map(ctypes.addressof, children)) if children else None
 
 
 def array_capsule(length: int, nulls: int, first: int, addresses: Sequence[Optional[int]],
-                  owner: Any) -> Any:
-    """A capsule of an array, whose buffers the owner keeps."""
+                  owner: Any, children: Sequence[int] = ()) -> Any:
+    """A capsule of an array, whose buffers the owner keeps; and of its children, each of which has
+    values at an address."""
+    return _capsule(_array(length, nulls, first, addresses, owner,
+                           [_array(length, 0, first, (None, it), owner, ()) for it in children]),
+                    ARRAY_NAME)
+
+
+def _array(length: int, nulls: int, first: int, addresses: Sequence[Optional[int]], owner: Any,
+           children: Sequence[Any]) -> Any:
     number, buffers = next(_numbers), (c_void_p * len(addresses))(*addresses)
-    it = Array(length, nulls, first, len(addresses), 0, buffers, None, None, _release_array, number)
-    _exported[number] = (owner, buffers)
-    return _capsule(it, ARRAY_NAME)
+    parts = _parts(children)
+    it = Array(length, nulls, first, len(addresses), len(children), buffers, parts, None,
+               _release_array, number)
+    _exported[number] = (owner, buffers, children, parts)
+    return it
 
 
 class HasCapsules(Protocol):

@@ -36,6 +36,12 @@ TOO_DEEP = 13
 OTHER_KIND = 14
 BAD_NUMBER = 17
 TOO_MANY_STEPS = 18
+BAD_MAGIC = 19
+UNKNOWN_VERSION = 20
+TRAILING_DATA = 21
+WRONG_LENGTH = 22
+OUT_OF_FORM = 23
+NOT_READ_BACK = 24
 
 # What `edit` does at the end of a path.
 PUT = 0
@@ -97,6 +103,12 @@ _ERRORS: Dict[int, Type[KohibladError]] = {
     OTHER_KIND: PathError,
     BAD_NUMBER: InvalidTextError,
     TOO_MANY_STEPS: TooManyStepsError,
+    BAD_MAGIC: InvalidDocumentError,
+    UNKNOWN_VERSION: InvalidDocumentError,
+    TRAILING_DATA: InvalidDocumentError,
+    WRONG_LENGTH: InvalidDocumentError,
+    OUT_OF_FORM: InvalidDocumentError,
+    NOT_READ_BACK: InvalidDocumentError,
 }
 
 
@@ -133,6 +145,19 @@ class Number(ctypes.Structure):
 class Taken(ctypes.Structure):
     """How many rows of a column have no value of its type but null, and the first of them."""
     _fields_ = [("status", c_uint32), ("unfit", c_uint64), ("first_unfit", c_uint64)]
+
+
+class TypedFileTold(ctypes.Structure):
+    """How many rows and columns a file of typed columns has."""
+    _fields_ = [("status", c_uint32), ("rows", c_uint64), ("columns", c_uint64)]
+
+
+class TypedColumn(ctypes.Structure):
+    """A column of a file, and where its name and its buffers lie."""
+    _fields_ = [("type", c_uint32), ("scale", c_uint32), ("rows", c_uint64), ("name", c_uint64),
+                ("name_length", c_uint64), ("flags", c_uint64), ("flags_length", c_uint64),
+                ("numbers", c_uint64), ("numbers_length", c_uint64), ("texts", c_uint64),
+                ("texts_length", c_uint64)]
 
 
 class SurveyCounts(ctypes.Structure):
@@ -255,10 +280,17 @@ _COLUMN = (c_void_p, c_size_t, c_void_p, c_size_t)
 survey = _export("survey", SurveyCounts, *_MEMBERS)
 
 
-def _take(name: str, *parameters: Any) -> Tuple[Callable[..., Any], Callable[..., Any]]:
-    """The call that takes the members of rows, and the one that does not check the rows."""
+# Of bytes, places and the step from one to the next.
+_PLACES = (c_void_p, c_size_t, c_void_p, c_size_t, c_size_t)
+Takes = Tuple[Callable[..., Any], Callable[..., Any], Callable[..., Any]]
+
+
+def _take(name: str, *parameters: Any) -> Takes:
+    """The call that takes the members of rows, the one that does not check the rows, and the one
+    that takes them at places."""
     return (_export(name, Taken, *_MEMBERS, *parameters),
-            _export(f"{name}_unchecked", Taken, *_MEMBERS, *parameters))
+            _export(f"{name}_unchecked", Taken, *_MEMBERS, *parameters),
+            _export(f"{name}_at", Taken, *_PLACES, *parameters))
 
 
 take_int64 = _take("take_int64", c_uint32, *_COLUMN)
@@ -266,8 +298,27 @@ take_uint64 = _take("take_uint64", c_uint32, *_COLUMN)
 take_decimal = _take("take_decimal", c_uint32, c_uint32, *_COLUMN)
 take_boolean = _take("take_boolean", *_COLUMN)
 take_text = _take("take_text", *_OUT, *_COLUMN)
+take_binary = _take("take_binary", *_OUT, *_COLUMN)
 take_date = _take("take_date", *_COLUMN)
 take_timestamp = _take("take_timestamp", *_COLUMN)
+take_timestamp_tz = _take("take_timestamp_tz", *_COLUMN)
+take_interval = _take("take_interval", *_COLUMN)
+# Of names in place of a path, and of the places of their members by their address.
+locate = (_export("locate", c_uint32, *_MEMBERS, c_void_p, c_size_t),
+          _export("locate_unchecked", c_uint32, *_MEMBERS, c_void_p, c_size_t))
+PLACE_SIZE = ctypes.sizeof(Place)
+# Of values and states by their addresses.
+_ZONES = (*_COLUMN, c_size_t, *_OUT)
+zones_int64 = _export("zones_int64", c_uint32, *_ZONES)
+zones_uint64 = _export("zones_uint64", c_uint32, *_ZONES)
+zones_decimal = _export("zones_decimal", c_uint32, *_ZONES)
+zones_date = _export("zones_date", c_uint32, *_ZONES)
+build_typed_file = _export("build_typed_file", c_uint32, *_ROWS, *_BYTES, *_BYTES, c_size_t, *_OUT)
+# Of a file by its address.
+_FILE = (c_void_p, c_size_t)
+check_typed_file = _export("check_typed_file", TypedFileTold, *_FILE, c_size_t)
+typed_columns = _export("typed_columns", c_uint32, *_FILE, *_OUT)
+typed_row = _export("typed_row", c_uint32, *_FILE, c_size_t, c_size_t, *_OUT)
 _begin = _export("begin", c_uint32, *_BYTES, c_void_p)
 _next = _export("next", c_uint32, *_BYTES, c_void_p, c_void_p, c_void_p)
 # The same of a document inside another, by its address.

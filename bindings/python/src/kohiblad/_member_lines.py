@@ -12,7 +12,7 @@ from ._document import Document
 from ._encode import bytes_of_text
 from ._errors import KohibladError, PathError
 from ._expected import quoted_path
-from ._scalars import Date, Timestamp
+from ._scalars import Date, Interval, Timestamp, TimestampTz
 from ._typed import type_of
 from .arrow import Column, Survey, Typed
 
@@ -41,8 +41,9 @@ def add_survey_options(command: argparse.ArgumentParser) -> None:
 def add_extract_options(command: argparse.ArgumentParser) -> None:
     _add_path(command)
     command.add_argument("type", metavar="TYPE", type=_type,
-                         help="boolean, int64, uint64, text, date, timestamp, decimal with a scale, "
-                              "as 'decimal 2', or least: the first of these that holds all members")
+                         help="boolean, int64, uint64, text, date, timestamp, timestamp_tz, "
+                              "interval, binary, decimal with a scale, as 'decimal 2', or least: "
+                              "the first of these that holds all members")
     command.add_argument("--and", dest="others", metavar=("PATH", "TYPE"), nargs=2,
                          action="append", default=[],
                          help="another member, after FILE; may be repeated")
@@ -128,7 +129,8 @@ def is_numpy(path: str) -> bool:
 
 
 def csv_lines(columns: Dict[str, Typed]) -> Iterator[bytes]:
-    """A line for each row: its number from 0, and its values, of which a text is quoted."""
+    """A line for each row: its number from 0, and its values, of which a text is quoted and bytes
+    are in hexadecimal, quoted if there are none."""
     yield _line(["row", *map(_quoted, columns)])
     cells = [map(_writer(it.type), it.to_list()) for it in columns.values()]
     for row, values in enumerate(zip(*cells)):
@@ -150,10 +152,12 @@ def _writer(type_: str) -> Callable[[Any], str]:
             return ""
         if isinstance(value, str):
             return _quoted(value)
+        if isinstance(value, bytes):
+            return value.hex() or _quoted("")
         if isinstance(value, date):
             return value.isoformat()
-        if isinstance(value, (Date, Timestamp)):
-            return str(value[0])
+        if isinstance(value, (Date, Timestamp, TimestampTz, Interval)):
+            return " ".join(map(str, value))
         # A Decimal has no exponent so.
         return format(value, "f") if isinstance(value, Decimal) else str(value)
 
@@ -196,6 +200,11 @@ def _array(np: Any, name: str, typed: Typed) -> Any:
         if any(it.endswith("\0") for it in texts):
             raise MemberError(f"{name}: a text ends with a zero character, which numpy drops")
         return np.array(texts, dtype=str)
+    if typed.type == "binary":
+        values = [it or b"" for it in typed.to_list()]
+        if any(it.endswith(b"\0") for it in values):
+            raise MemberError(f"{name}: a binary value ends with a zero, which numpy drops")
+        return np.array(values, dtype=bytes)
     found = typed.numpy
     if found.dtype == object:
         raise MemberError(f"{name}: a number is past 64 bits without its point")

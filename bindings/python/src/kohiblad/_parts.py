@@ -5,6 +5,7 @@ scalars. Of the layout this file knows the words alone: a header is one, and aft
 one, the items of an array, or the keys of an object and then its values.
 """
 import json
+import re
 from typing import Iterator, NamedTuple, Optional
 
 from . import _library as library
@@ -16,6 +17,10 @@ KINDS = {library.TYPE_NULL: "null", library.TYPE_FALSE: "boolean", library.TYPE_
 EXTENSIONS = {0x00: "binary", 0x10: "date", 0x20: "timestamp", 0x30: "timestamp with time zone",
               0x40: "interval"}
 _MOST_SHOWN = 60
+# Control characters, separators of lines, and what changes the direction or the look of the text
+# around it. The program `kohiblad` has the same.
+_ESCAPED = re.compile(r"[\0-\x1f\x7f-\x9f\xad\u061c\u180e\u200b-\u200f\u2028-\u202e"
+                      r"\u2060-\u206f\ufeff\U000e0000-\U000e0fff]")
 
 
 class Part(NamedTuple):
@@ -48,8 +53,7 @@ def counted(count: int, unit: str) -> str:
 
 def _printable(text: str) -> str:
     """The text with escapes, as JSON has them, for what a terminal might take for a command."""
-    if not text.isprintable():
-        text = "".join(it if it.isprintable() else json.dumps(it)[1:-1] for it in text)
+    text = _ESCAPED.sub(lambda it: json.dumps(it[0])[1:-1], text)
     if len(text) <= _MOST_SHOWN:
         return text
     return text[:_MOST_SHOWN - 1] + "…"

@@ -100,7 +100,7 @@ def extension_of(tag: int, value: int, months: int, days: int, seconds: int,
     if tag == _TIMESTAMP:
         return timestamp_of(value)
     if tag == _TIMESTAMP_TZ:
-        return _timestamp_tz_of(value, seconds)
+        return timestamp_tz_of(value, seconds)
     if tag == _INTERVAL:
         return Interval(months, days, value)
     return data if tag == _BINARY else Opaque(tag, data)
@@ -122,7 +122,8 @@ def timestamp_of(micros: int) -> Union[datetime, Timestamp]:
         return Timestamp(micros)
 
 
-def _timestamp_tz_of(micros: int, offset: int) -> Union[datetime, TimestampTz]:
+def timestamp_tz_of(micros: int, offset: int) -> Union[datetime, TimestampTz]:
+    """The timestamp so many microseconds from 1970-01-01 00:00 UTC, in the zone of an offset."""
     try:
         zone = timezone(timedelta(seconds=offset))
         local = _EPOCH + timedelta(microseconds=micros + offset * 10**6)

@@ -16,7 +16,8 @@ from ._changes import Step, document_of_path
 from ._document import Document
 from ._encode import DEPTH
 from ._errors import KohibladError, UnfitError
-from ._scalars import date_of, decimal_of, decimals_of, timestamp_of
+from ._scalars import Interval, date_of, decimal_of, decimals_of, timestamp_of, timestamp_tz_of
+from ._zones import Zones, zones_of
 
 BATCH = 2048
 
@@ -25,11 +26,18 @@ _MOST_SHOWN = 70
 # Of a decimal of Arrow with 128 bits.
 _MOST_DIGITS = 38
 _FORMATS = {"int64": b"l", "uint64": b"L", "boolean": b"b", "text": b"U", "date": b"tdD",
-            "timestamp": b"tsu:", "nothing": b"n", "mixed": b"n"}
+            "timestamp": b"tsu:", "timestamp_tz": b"+s", "interval": b"tin", "binary": b"Z",
+            "nothing": b"n", "mixed": b"n"}
+# The children of a timestamp with a zone, which Arrow has for a whole column alone.
+_ZONED = (capsules.Child(b"timestamp", b"tsu:UTC"), capsules.Child(b"offset_seconds", b"i"))
 _NO_VALUES = ("nothing", "mixed")
-_WITHOUT_SCALE = ("boolean", "int64", "uint64", "text", "date", "timestamp", *_NO_VALUES)
-# The library takes no values of these.
-_WITHOUT_CALLS = ("timestamp_tz", "interval")
+# Their values have as many bytes each as they like.
+_OF_BYTES = ("text", "binary")
+# Values of two words, each a struct of the library: with the fields of numpy's, by their offsets.
+_STRUCTS = {"timestamp_tz": (("timestamp", "datetime64[us]", 0), ("offset_seconds", "int32", 8)),
+            "interval": (("months", "int32", 0), ("days", "int32", 4), ("micros", "int64", 8))}
+_WITHOUT_SCALE = ("boolean", "int64", "uint64", "text", "date", "timestamp", *_STRUCTS, "binary",
+                  *_NO_VALUES)
 # What makes Python values of the values of these types.
 _MAKERS: Dict[str, Callable[[Any], Any]] = {"boolean": bool, "date": date_of,
                                             "timestamp": timestamp_of}
@@ -134,25 +142,26 @@ def possible_types(survey: Survey) -> List[str]:
         return ["int64", "uint64", f"decimal {survey.greatest_scale}", "mixed"]
     counts = {"nothing": 0, "boolean": survey.booleans, "text": survey.texts, "date": survey.dates,
               "timestamp": survey.timestamps, "timestamp_tz": survey.zoned_timestamps,
-              "interval": survey.intervals}
+              "interval": survey.intervals, "binary": survey.binaries}
     return [next((name for name, count in counts.items() if count == members), "mixed")]
 
 
 class Typed(Sequence[Any]):
     """The member of each row as a value of one type, and None where a row has none.
 
-    It is a sequence of Python values: int, Decimal, bool, str, date or datetime, and Date or
-    Timestamp where Python has no such date. Its buffers can be read without a copy, also by numpy:
-    ``states``, a byte for each row, ``values``, where a row without a value has 0, and of texts
-    ``offsets`` and ``texts``.
+    It is a sequence of Python values: int, Decimal, bool, str, date, datetime, Interval and bytes,
+    and Date, Timestamp or TimestampTz where Python has no such date. Its buffers can be read
+    without a copy, also by numpy: ``states``, a byte for each row, ``values``, where a row without
+    a value has 0, of texts ``offsets`` and ``texts``, and of binary values ``offsets`` and
+    ``values``.
 
     The state of a row is 0 if it has no such member, 1 if it has a value, 2 if the member is null,
     3 if it is another that does not fit, and 4 if the row is not a document.
     """
     __slots__ = ("type", "scale", "path", "unfit", "states", "values", "offsets", "texts", "_rows",
                  "__weakref__")
-    # As docs/TYPED.md names them: boolean, int64, uint64, decimal 2, text, date, timestamp, nothing
-    # or mixed.
+    # As docs/TYPED.md names them: boolean, int64, uint64, decimal 2, text, date, timestamp,
+    # timestamp_tz, interval, binary, nothing or mixed.
     type: str
     # How many digits come after the point.
     scale: int
@@ -162,10 +171,13 @@ class Typed(Sequence[Any]):
     states: memoryview
     # Of the format q or Q, of booleans B; of dates i, the days from 1970-01-01, and of timestamps q,
     # the microseconds. A decimal has two words of the format Q, the low one first, as Arrow's
-    # decimal128. Texts, nothing and mixed have none.
+    # decimal128. A timestamp with a zone has two of the format q, the microseconds in UTC, and the
+    # offset in seconds in the low half of the second; an interval too, in the first the months in
+    # the low half and the days in the high one, and the microseconds. Of binary values B, all their
+    # bytes. Texts, nothing and mixed have none.
     values: memoryview
     # Of the format q, one more than there are rows: the text of row k goes from offsets[k] to
-    # offsets[k + 1] in the UTF-8 that is `texts`.
+    # offsets[k + 1] in the UTF-8 that is `texts`, and so does a binary value in `values`.
     offsets: memoryview
     texts: memoryview
     _rows: Optional[Rows]
@@ -191,8 +203,12 @@ class Typed(Sequence[Any]):
             return None
         if self.type == "text":
             return str(self.texts[self.offsets[row]:self.offsets[row + 1]], "utf-8")
+        if self.type == "binary":
+            return bytes(self.values[self.offsets[row]:self.offsets[row + 1]])
         if self.type.startswith("decimal"):
             return decimal_of(_int128(*self.values[2 * row:2 * row + 2]), self.scale)
+        if self.type in _STRUCTS:
+            return next(_of_structs(self.type, self.values[2 * row:2 * row + 2]))
         value = self.values[row]
         return _MAKERS[self.type](value) if self.type in _MAKERS else value
 
@@ -207,10 +223,15 @@ class Typed(Sequence[Any]):
         if self.type == "text":
             values = (str(self.texts[start:end], "utf-8")
                       for start, end in zip(self.offsets, self.offsets[1:]))
+        elif self.type == "binary":
+            values = (bytes(self.values[start:end])
+                      for start, end in zip(self.offsets, self.offsets[1:]))
         elif self.type in _MAKERS:
             values = map(_MAKERS[self.type], self.values)
         elif self.type.startswith("decimal"):
             values = decimals_of(map(_int128, self.values[::2], self.values[1::2]), self.scale)
+        elif self.type in _STRUCTS:
+            values = _of_structs(self.type, self.values)
         return [value if state == library.ROW_VALUE else None
                 for value, state in zip(values, self.states)]
 
@@ -234,21 +255,26 @@ class Typed(Sequence[Any]):
 
         It has the memory of ``values``, and cannot be written to. Decimals are whole numbers
         without their point, of 64 bits where all fit, and else Python's in a copy. Timestamps are
-        of the type datetime64[us], to which the least of 64 bits is not a time. Dates are a copy of
-        the type datetime64[D], and texts a copy with None where a row has none. ImportError: there
-        is no numpy.
+        of the type datetime64[us], to which the least of 64 bits is not a time. With a zone they
+        are structs with the fields timestamp, in UTC, and offset_seconds; intervals have months,
+        days and micros. Dates are a copy of the type datetime64[D], and texts and binary values a
+        copy with None where a row has none. ImportError: there is no numpy.
         """
         np = import_module("numpy")
-        if self.type == "text":
-            texts = np.empty(len(self), dtype=object)
-            texts[:] = self.to_list()
-            return texts
+        if self.type in _OF_BYTES:
+            objects = np.empty(len(self), dtype=object)
+            objects[:] = self.to_list()
+            return objects
         if self.type == "boolean":
             return np.asarray(self.values).view(bool)
         if self.type == "date":
             return np.asarray(self.values).astype("datetime64[D]")
         if self.type == "timestamp":
             return np.asarray(self.values).view("datetime64[us]")
+        if self.type in _STRUCTS:
+            names, formats, offsets = map(list, zip(*_STRUCTS[self.type]))
+            return np.asarray(self.values).view(np.dtype({
+                "names": names, "formats": formats, "offsets": offsets, "itemsize": 16}))
         if not self.type.startswith("decimal"):
             return np.asarray(self.values)
         words = np.asarray(self.values).view("int64")
@@ -263,35 +289,53 @@ class Typed(Sequence[Any]):
         np = import_module("numpy")
         return np.ma.MaskedArray(self.numpy, np.asarray(self.states) != library.ROW_VALUE)
 
+    def zones(self, block_rows: int = 4096) -> Zones:
+        """The least and the greatest value of each block of so many rows; the last may have fewer.
+
+        TypeError: the values are booleans, texts or bytes, or the type has none. ValueError: a
+        block has no row.
+        """
+        return zones_of(self.type, self.scale, self.values, self.states, block_rows)
+
     def __arrow_c_schema__(self) -> Any:
-        """A capsule of the type: integers of 64 bits, Decimal128, Boolean, LargeUtf8, Date32,
-        Timestamp in microseconds without a zone, or Null."""
+        """A capsule of the type: integers of 64 bits, Decimal128, Boolean, LargeUtf8, LargeBinary,
+        Date32, Timestamp in microseconds without a zone, or Null. A timestamp with a zone is a
+        struct of a Timestamp in UTC and the offset as Int32, and an interval one of months, days
+        and nanoseconds."""
         if self.type.startswith("decimal"):
             return capsules.schema_capsule(f"d:{_MOST_DIGITS},{self.scale}".encode())
-        return capsules.schema_capsule(_FORMATS[self.type])
+        return capsules.schema_capsule(_FORMATS[self.type],
+                                       children=_ZONED if self.type == "timestamp_tz" else ())
 
     def __arrow_c_array__(self, requested_schema: Any = None) -> Tuple[Any, Any]:
         """Capsules of the type and of the array, which has the memory of ``values`` or ``texts``.
 
-        A row without a value is null. Of booleans a copy with a bit for each row is handed out. A
-        schema that is requested is not looked at, as the interface allows. ValueError: a decimal
-        has more than the 38 digits that Arrow's have.
+        A row without a value is null. Of booleans a copy with a bit for each row is handed out, and
+        a copy of timestamps with a zone and of intervals. A schema that is requested is not looked
+        at, as the interface allows. ValueError: a decimal has more than the 38 digits that Arrow's
+        have, or an interval more nanoseconds than 64 bits hold.
         """
         nulls = len(self) - bytes(self.states).count(library.ROW_VALUE)
         buffers: List[Any] = [_bits_of(self.states) if nulls else None]
+        children: List[Any] = []
         if self.type in _NO_VALUES:
             buffers = []
-        elif self.type == "text":
-            buffers += [self.offsets.obj, self.texts.obj]
+        elif self.type in _OF_BYTES:
+            data = self.texts if self.type == "text" else self.values
+            buffers += [self.offsets.obj, data.obj]
         elif self.type == "boolean":
             buffers.append(_bits_of(self.values))
+        elif self.type == "timestamp_tz":
+            children = [array.array("q", self.values[::2].tobytes()), _halves(self.values)[2::4]]
+        elif self.type == "interval":
+            buffers.append(self._intervals_of_arrow())
         else:
             if self.type.startswith("decimal"):
                 self._expect_few_digits()
             buffers.append(self.values.obj)
-        addresses = list(map(_address_of, buffers))
-        return self.__arrow_c_schema__(), capsules.array_capsule(len(self), nulls, 0, addresses,
-                                                                 (self, buffers))
+        addresses, below = list(map(_address_of, buffers)), list(map(_address_of, children))
+        return self.__arrow_c_schema__(), capsules.array_capsule(
+            len(self), nulls, 0, addresses, (self, buffers, children), below)
 
     def __arrow_c_stream__(self, requested_schema: Any = None) -> Any:
         """A capsule of a stream that has the array of ``__arrow_c_array__`` alone."""
@@ -308,8 +352,33 @@ class Typed(Sequence[Any]):
                 raise ValueError(f"row {row}: Arrow's decimals have {_MOST_DIGITS} digits at most, "
                                  f"not those of {number}")
 
+    def _intervals_of_arrow(self) -> Any:
+        """The intervals with nanoseconds in place of microseconds."""
+        words = array.array("q", self.values.tobytes())
+        try:
+            words[1::2] = array.array("q", [1000 * it for it in words[1::2]])
+        except OverflowError:
+            row, micros = next(it for it in enumerate(words[1::2])
+                               if not -1 << 63 <= 1000 * it[1] < 1 << 63)
+            raise ValueError(f"row {row}: Arrow's intervals have nanoseconds of 64 bits, not those "
+                             f"of {micros} microseconds") from None
+        return words
+
     def __repr__(self) -> str:
         return f"<Typed {self.type}, {len(self):,} rows>"
+
+
+def _halves(words: memoryview) -> Any:
+    """The halves of words of 64 bits, the low ones first."""
+    return array.array("i", words.tobytes())
+
+
+def _of_structs(name: str, words: memoryview) -> Iterator[Any]:
+    """What values of a type that are structs stand for, each of two words."""
+    halves = _halves(words)
+    if name == "timestamp_tz":
+        return map(timestamp_tz_of, words[::2], halves[2::4])
+    return map(Interval, halves[::4], halves[1::4], words[1::2])
 
 
 def _bits_of(flags: memoryview) -> bytearray:
@@ -364,6 +433,30 @@ def names_of(types: Iterable[Optional[str]]) -> List[Optional[str]]:
     return [None if it is None else type_of(it)[0] for it in types]
 
 
+class _Places:
+    """Where the members of some names are in the rows of a batch."""
+
+    def __init__(self, names: List[str]) -> None:
+        self._numbers = {name: number for number, name in enumerate(names)}
+        self._names = document_of_path(tuple(names))
+        self._room = ctypes.create_string_buffer(library.PLACE_SIZE * len(names) * BATCH)
+
+    def locate(self, batch: Batch, is_known: bool) -> None:
+        """Finds the members in a batch. Rows that are known to be documents are not checked."""
+        status = library.locate[is_known](
+            batch.data, batch.end, batch.offsets, batch.length + 1, self._names, len(self._names),
+            DEPTH, ctypes.addressof(self._room), len(self._numbers) * batch.length)
+        if status != library.OK:
+            raise library.error_of(status)
+
+    def of(self, name: str, batch: Batch) -> Tuple[int, int, int]:
+        """The address of the first place of a name, how many places there are from there on, and
+        the step from one to the next."""
+        number, step = self._numbers[name], len(self._numbers)
+        return (ctypes.addressof(self._room) + library.PLACE_SIZE * number,
+                step * batch.length - number, step)
+
+
 class _Filled:
     """The buffers of a column of one type, which are filled batch by batch."""
 
@@ -374,17 +467,18 @@ class _Filled:
         code, self._words, self._calls, self._options = self._layout(
             library.EXACT if exact else library.BY_VALUE)
         self._call = self._calls[0]
+        # Where the members of the batch are, if they are taken at places.
+        self._places: Optional[Tuple[int, int, int]] = None
         self.values = array.array(code, [0]) * (self._words * length)
         self.offsets, self.texts = array.array("q", [0]), bytearray()
         self.unfit = 0
-        # The library writes texts and their offsets of one batch here.
+        # The library writes texts, or binary values, and their offsets of one batch here.
         self._room = ctypes.create_string_buffer(1)
         self._ends = array.array("Q", [0]) * (BATCH + 1)
 
-    def _layout(self, fit: int) -> Tuple[str, int, Tuple[Callable[..., Any], ...],
-                                         Tuple[int, ...]]:
+    def _layout(self, fit: int) -> Tuple[str, int, library.Takes, Tuple[int, ...]]:
         """The format of the values, how many words each has, the calls that take them, with a check
-        of the rows and without, and what these take of their own."""
+        of the rows, without and at places, and what these take of their own."""
         if self.name.startswith("decimal"):
             return "Q", 2, library.take_decimal, (fit, self.scale)
         code, words, calls, has_fit = {
@@ -393,11 +487,16 @@ class _Filled:
             "text": ("Q", 0, library.take_text, False),
             "date": ("i", 1, library.take_date, False),
             "timestamp": ("q", 1, library.take_timestamp, False),
+            "timestamp_tz": ("q", 2, library.take_timestamp_tz, False),
+            "interval": ("q", 2, library.take_interval, False),
+            "binary": ("B", 0, library.take_binary, False),
             "boolean": ("B", 1, library.take_boolean, False),
         }.get(self.name, ("B", 0, library.take_boolean, False))
         return code, words, calls, (fit,) if has_fit else ()
 
     def _members(self, batch: Batch) -> Tuple[Any, ...]:
+        if self._places is not None:
+            return (batch.data, batch.end, *self._places)
         return (batch.data, batch.end, batch.offsets, batch.length + 1, self._path, len(self._path),
                 DEPTH)
 
@@ -406,7 +505,7 @@ class _Filled:
 
     def _take(self, batch: Batch) -> Any:
         """What the library says of a batch, which it took."""
-        if self.name == "text":
+        if self.name in _OF_BYTES:
             return self._take_texts(batch)
         if self.name in _NO_VALUES:
             return self._take_none(batch)
@@ -415,7 +514,7 @@ class _Filled:
                           *self._states_at(batch))
 
     def _take_texts(self, batch: Batch) -> Any:
-        # No text is longer than its row.
+        # No text or binary value is longer than its row.
         room = batch.end - batch.begin
         if room > len(self._room):
             self._room = ctypes.create_string_buffer(room)
@@ -460,6 +559,15 @@ class _Filled:
                 self.refuse_first(rows)
         return True
 
+    def fill_at(self, batch: Batch, places: _Places) -> None:
+        """Takes the rows of a batch, whose members are at places."""
+        self._call = self._calls[2]
+        self._places = places.of(str(self.steps[0]), batch)
+        taken = self._take(batch)
+        if taken.status != library.OK:
+            raise library.error_of(taken.status)
+        self.unfit += taken.unfit
+
     def refuse_first(self, rows: Rows) -> NoReturn:
         """UnfitError, InvalidDocumentError: the first row that does not fit."""
         states = self.states.tobytes()
@@ -488,12 +596,18 @@ class _Filled:
     def typed(self, rows: Rows, unfit: str) -> Typed:
         it = Typed.__new__(Typed)
         states = self.states
+        if self.name == "timestamp_tz" and states:
+            # The padding after an offset may hold any bytes.
+            unused = memoryview(self.values).cast("B").cast("i")[3::4]
+            unused[:] = memoryview(array.array("i", [0]) * len(unused))
         if unfit == "null" and self.unfit:
             states = array.array("B", states.tobytes().translate(_UNFIT_AS_NULL))
         it.type, it.scale, it.path, it.unfit = self.name, self.scale, self.steps, self.unfit
         it.states, it.values = memoryview(states).toreadonly(), memoryview(self.values).toreadonly()
         it.offsets, it.texts = (memoryview(self.offsets).toreadonly(),
                                 memoryview(self.texts).toreadonly())
+        if self.name == "binary":
+            it.values, it.texts = it.texts, it.values
         it._rows = rows if unfit == "rest" and self.unfit else None
         return it
 
@@ -507,12 +621,38 @@ def least_type(rows: Rows, steps: Tuple[Step, ...], exact: bool) -> str:
 def extract(rows: Rows, members: Iterable[Tuple[Tuple[Step, ...], Optional[str]]], unfit: str,
             exact: bool) -> List[Typed]:
     """For each path the column of a type, or of the least one if none is named."""
-    columns, is_known = [], rows._are_documents
-    for steps, name in members:
-        column = _filled(rows, steps, name, unfit == "error", exact, is_known)
+    wanted, is_known = list(members), rows._are_documents
+    located = _located(rows, wanted, exact, is_known)
+    columns = []
+    for number, (steps, name) in enumerate(wanted):
+        column = located.get(number)
+        if column is None:
+            column = _filled(rows, steps, name, unfit == "error", exact, is_known)
+        elif unfit == "error" and column.unfit:
+            column.refuse_first(rows)
         # Rows that were checked for one member are not checked again for the next ones.
         is_known = is_known or column.shows_documents()
         columns.append(column.typed(rows, unfit))
+    return columns
+
+
+def _located(rows: Rows, members: List[Tuple[Tuple[Step, ...], Optional[str]]], exact: bool,
+             is_known: bool) -> Dict[int, _Filled]:
+    """The columns of the members of a type that have a name alone as their path, by their numbers,
+    if there are several names: each row is walked once for all of them."""
+    named = {number: (steps, name) for number, (steps, name) in enumerate(members)
+             if name is not None and len(steps) == 1 and isinstance(steps[0], str)}
+    # In the order of their bytes, which is that of their characters.
+    names = sorted({str(steps[0]) for steps, _ in named.values()})
+    if len(names) < 2:
+        return {}
+    columns = {number: _Filled(name, steps, exact, len(rows))
+               for number, (steps, name) in named.items()}
+    places = _Places(names)
+    for batch in rows._batches():
+        places.locate(batch, is_known)
+        for column in columns.values():
+            column.fill_at(batch, places)
     return columns
 
 
@@ -523,7 +663,7 @@ def _filled(rows: Rows, steps: Tuple[Step, ...], name: Optional[str], refuses: b
     if found is None:
         found, is_known = _of_least_type(rows, steps, exact, is_known)
     if isinstance(found, str):
-        column = _Filled("mixed" if found in _WITHOUT_CALLS else found, steps, exact, len(rows))
+        column = _Filled(found, steps, exact, len(rows))
         column.fill(rows, is_known=is_known, is_trial=False, refuses=refuses)
         return column
     if refuses and found.unfit:
@@ -537,7 +677,7 @@ def _of_least_type(rows: Rows, steps: Tuple[Step, ...], exact: bool,
     are known to be documents by then."""
     # If the first rows have some values of such a type, and it holds all members, it is the least.
     guess = possible_types(survey_of(islice(rows._batches(), 1), steps))[0]
-    if guess in ("boolean", "int64", "text", "date", "timestamp"):
+    if guess in ("boolean", "int64", "text", "date", "timestamp", *_STRUCTS, "binary"):
         column = _Filled(guess, steps, exact, len(rows))
         if column.fill(rows, is_known=is_known, is_trial=True):
             return column, is_known

@@ -14,7 +14,8 @@
 ``pyarrow.array``, and each other library that knows ``__arrow_c_array__``, takes a ``Column``: as
 LargeBinary, of the extension type ``kohiblad``. ``Column.from_arrow`` takes what such a library has
 of the types Binary and LargeBinary, also a slice. A column of the members of all rows, which
-``Column.extract`` takes, is handed out in the same way, as integers, decimals, booleans or texts.
+``Column.extract`` takes, is handed out in the same way, as integers, decimals, booleans, texts,
+dates, timestamps or intervals.
 """
 import array
 import ctypes
@@ -33,8 +34,9 @@ from ._changes import DocumentPath, steps_of
 from ._document import Document
 from ._encode import DEPTH
 from ._typed import Survey, Typed
+from ._zones import Zones
 
-__all__ = ["Column", "Survey", "Typed"]
+__all__ = ["Column", "Survey", "Typed", "Zones"]
 
 EXTENSION_NAME = b"kohiblad"
 _LARGE_BINARY, _BINARY = b"Z", b"z"
@@ -219,8 +221,8 @@ class Column(Sequence[Optional[Document]]):
         'int64'
 
         It is nothing, boolean, int64, uint64, decimal with the greatest scale, as decimal 2, text,
-        date, timestamp, timestamp_tz, interval or mixed, which are tried in this order. Null is
-        held by each, and rows that are no documents do not count.
+        date, timestamp, timestamp_tz, interval, binary or mixed, which are tried in this order.
+        Null is held by each, and rows that are no documents do not count.
         """
         return typed.least_type(self, steps_of(path), exact)
 
@@ -238,10 +240,10 @@ class Column(Sequence[Optional[Document]]):
         ('text', [None, None, 'k7', None])
 
         A path is one as for ``Document.set``, so a str is a key. A type is boolean, int64, uint64,
-        text, date, timestamp, decimal with a scale, as decimal 2, or nothing or mixed, which have
-        no values. Where none is named it is the ``least_type``, and mixed in place of timestamps
-        with a zone and of intervals, of which there are no columns. A number fits if it equals a
-        value of the type, or, if it is ``exact``, if the value gives its kind and digits back.
+        text, date, timestamp, timestamp_tz, interval, binary, decimal with a scale, as decimal 2,
+        or nothing or mixed, which have no values. Where none is named it is the ``least_type``. A
+        number fits if it equals a value of the type, or, if it is ``exact``, if the value gives its
+        kind and digits back.
 
         The rows of a column that was made of documents are not checked again, nor are those of
         Arrow for the second path and the later ones, unless one of them is not a document.

@@ -6,14 +6,17 @@
 struct arrow_schema {
     const char *format, *name, *metadata;
     int64_t flags, n_children;
-    void *children, *dictionary;
+    struct arrow_schema **children;
+    void *dictionary;
     void (*release)(struct arrow_schema *);
     void *private_data;
 };
 
 struct arrow_array {
     int64_t length, null_count, offset, n_buffers, n_children;
-    void *buffers, *children, *dictionary;
+    void *buffers;
+    struct arrow_array **children;
+    void *dictionary;
     void (*release)(struct arrow_array *);
     void *private_data;
 };
@@ -43,15 +46,21 @@ static void let_go(void *number)
     PyGILState_Release(lock);
 }
 
+/* A child that was moved is released where it is now. What the children are in is freed with Python,
+ * so after its end they are not read. */
 static void release_schema(struct arrow_schema *it)
 {
     it->release = NULL;
+    for (int64_t i = 0; Py_IsInitialized() && i < it->n_children; i++)
+        if (it->children[i]->release) it->children[i]->release(it->children[i]);
     let_go(it->private_data);
 }
 
 static void release_array(struct arrow_array *it)
 {
     it->release = NULL;
+    for (int64_t i = 0; Py_IsInitialized() && i < it->n_children; i++)
+        if (it->children[i]->release) it->children[i]->release(it->children[i]);
     let_go(it->private_data);
 }
 

@@ -1,0 +1,285 @@
+"""Files of typed columns: rows in which chosen members stand in typed buffers.
+
+    >>> from kohiblad import Document
+    >>> from kohiblad.typed_file import TypedFile
+    >>> rows = [Document.parse('{"at": 5, "price": 1.50, "sku": "k7"}'), Document.of({"at": None})]
+    >>> file = TypedFile(TypedFile.build(rows, {"at": "int64", "price": "decimal 2"}))
+    >>> file.column("price")[0], list(file.column("at")), file[0]
+    (Decimal('1.50'), [5, None], <ObjectDocument {"at":5,"price":1.50,"sku":"k7"}>)
+
+docs/TYPED.md has the format, and says which members stand in a column.
+"""
+import ctypes
+from typing import (Any, Callable, Dict, Iterable, Iterator, List, Mapping, Sequence, Union,
+                    overload)
+
+from . import _library as library
+from ._document import Document
+from ._encode import DEPTH
+from ._files import File, target_of
+from ._scalars import Interval, date_of, decimal_of, timestamp_of, timestamp_tz_of
+
+_TYPES = ("boolean", "int64", "uint64", "decimal", "text", "date", "timestamp", "timestamp_tz",
+          "interval", "binary")
+_MOST_SCALE = 255
+# How many bytes the number of a row has.
+_SIZES = {"boolean": 1, "int64": 8, "uint64": 8, "decimal": 16, "text": 8, "date": 4,
+          "timestamp": 8, "timestamp_tz": 12, "interval": 16, "binary": 8}
+# Their values have as many bytes each as they like.
+_OF_BYTES = ("text", "binary")
+
+
+def _signed(data: memoryview) -> int:
+    return int.from_bytes(data, "big", signed=True)
+
+
+def _unsigned(data: memoryview) -> int:
+    return int.from_bytes(data, "big")
+
+
+# What makes Python values of the numbers of rows.
+_MAKERS: Dict[str, Callable[[memoryview], Any]] = {
+    "boolean": lambda it: it[0] != 0,
+    "int64": _signed,
+    "uint64": _unsigned,
+    "date": lambda it: date_of(_signed(it)),
+    "timestamp": lambda it: timestamp_of(_signed(it)),
+    "timestamp_tz": lambda it: timestamp_tz_of(_signed(it[:8]), _signed(it[8:])),
+    "interval": lambda it: Interval(_signed(it[:4]), _signed(it[4:8]), _signed(it[8:])),
+}
+# The types that numpy has for the numbers of rows; it has no dates of 32 bits.
+_KINDS: Dict[str, Any] = {
+    "boolean": "u1", "int64": ">i8", "uint64": ">u8", "date": ">i4", "timestamp": ">M8[us]",
+    "timestamp_tz": [("timestamp", ">M8[us]"), ("offset_seconds", ">i4")],
+    "interval": [("months", ">i4"), ("days", ">i4"), ("micros", ">i8")],
+}
+# Those of which numpy makes a copy.
+_COPIES = {"boolean": "bool", "date": "datetime64[D]"}
+
+
+def _bytes_of_type(name: str) -> bytes:
+    """The two bytes that the library has for a type. ValueError: there is no such type."""
+    word, space, scale = name.partition(" ")
+    if word not in _TYPES or bool(space) != (word == "decimal"):
+        raise ValueError(f"no type of a stored column: {name!r}")
+    if not space:
+        return bytes([_TYPES.index(word), 0])
+    if not scale.isdecimal() or not scale.isascii() or int(scale) > _MOST_SCALE:
+        raise ValueError(f"no scale from 0 to {_MOST_SCALE}: {name!r}")
+    return bytes([_TYPES.index(word), int(scale)])
+
+
+class _PyBuffer(ctypes.Structure):
+    """What Python tells of the memory of an object."""
+    _fields_ = [("buf", ctypes.c_void_p), ("obj", ctypes.c_void_p), ("len", ctypes.c_ssize_t),
+                ("itemsize", ctypes.c_ssize_t), ("readonly", ctypes.c_int),
+                ("ndim", ctypes.c_int), ("format", ctypes.c_char_p),
+                ("shape", ctypes.c_void_p), ("strides", ctypes.c_void_p),
+                ("suboffsets", ctypes.c_void_p), ("internal", ctypes.c_void_p)]
+
+
+def _address_of(view: memoryview) -> int:
+    """Where the bytes are, which stay there as long as the view is used."""
+    told = _PyBuffer()
+    ctypes.pythonapi.PyObject_GetBuffer(ctypes.py_object(view), ctypes.byref(told), 0)
+    address = told.buf or 0
+    ctypes.pythonapi.PyBuffer_Release(ctypes.byref(told))
+    return address
+
+
+class StoredColumn(Sequence[Any]):
+    """A column of a file: its values, and its buffers where they lie in the file.
+
+    A value is a bool, an int, a Decimal or a str, of the types date, timestamp, timestamp_tz,
+    interval and binary what ``Document.value`` makes of such a value, and None where a row has none
+    in the column. ``flags`` has a bit for each row, the first of eight in the lowest; ``numbers``
+    is what docs/TYPED.md says for the type, the highest byte first, and of texts and binary values
+    offsets, one more than there are rows; ``texts`` has their bytes.
+    """
+    __slots__ = ("name", "type", "flags", "numbers", "texts", "_length", "_word", "_scale")
+
+    def __init__(self, told: library.TypedColumn, file: memoryview, length: int) -> None:
+        def cut(at: int, size: int) -> memoryview:
+            return file[at:at + size]
+        self.name = str(cut(told.name, told.name_length), "utf-8")
+        self._word, self._scale = _TYPES[told.type], told.scale
+        self.type = f"decimal {told.scale}" if self._word == "decimal" else self._word
+        self.flags = cut(told.flags, told.flags_length)
+        self.numbers = cut(told.numbers, told.numbers_length)
+        self.texts = cut(told.texts, told.texts_length)
+        self._length = length
+
+    def __len__(self) -> int:
+        return self._length
+
+    @overload
+    def __getitem__(self, row: int) -> Any: ...
+    @overload
+    def __getitem__(self, row: slice) -> List[Any]: ...
+
+    def __getitem__(self, row: Union[int, slice]) -> Any:
+        if isinstance(row, slice):
+            return [self._value(it) for it in range(*row.indices(self._length))]
+        index = library.int_of(row)
+        if not -self._length <= index < self._length:
+            raise IndexError("row out of range")
+        return self._value(index % self._length)
+
+    def __iter__(self) -> Iterator[Any]:
+        return map(self._value, range(self._length))
+
+    def _number(self, row: int) -> memoryview:
+        size = _SIZES[self._word]
+        return self.numbers[size * row:size * (row + 1)]
+
+    def _bytes_at(self, row: int) -> memoryview:
+        return self.texts[_unsigned(self._number(row)):_unsigned(self._number(row + 1))]
+
+    def _value(self, row: int) -> Any:
+        if not self.flags[row // 8] >> row % 8 & 1:
+            return None
+        if self._word in _OF_BYTES:
+            data = self._bytes_at(row)
+            return bytes(data) if self._word == "binary" else str(data, "utf-8")
+        if self._word == "decimal":
+            return decimal_of(_signed(self._number(row)), self._scale)
+        return _MAKERS[self._word](self._number(row))
+
+    @property
+    def numpy(self) -> Any:
+        """The numbers as an array of numpy, in the file's memory.
+
+        Booleans and dates are a copy, of the types bool and datetime64[D]. Timestamps are of the
+        type datetime64[us], to which the least of 64 bits is not a time; with a zone they are
+        structs with the fields timestamp, in UTC, and offset_seconds; intervals have months, days
+        and micros. TypeError: they are decimals, texts or binary values.
+        """
+        if self._word not in _KINDS:
+            raise TypeError(f"numpy has no type for {self.type}")
+        import numpy
+        numbers = numpy.frombuffer(self.numbers, _KINDS[self._word])
+        return numbers.astype(_COPIES[self._word]) if self._word in _COPIES else numbers
+
+    @property
+    def is_set(self) -> Any:
+        """Which rows have a value, as an array of numpy."""
+        import numpy
+        return numpy.unpackbits(numpy.frombuffer(self.flags, "u1"), count=self._length,
+                                bitorder="little").astype(bool)
+
+    def __repr__(self) -> str:
+        return f"<StoredColumn {self.name!r} of {self._length:,} rows, {self.type}>"
+
+
+class TypedFile(Sequence[Document]):
+    """The rows of a file of typed columns, which are read where they lie.
+
+    ``data`` is any object with bytes, as ``bytes`` or an ``mmap.mmap``; it is used as long as the
+    file is, and nothing of it is copied. All of it is checked, unless ``check`` is false: then only
+    lengths are, if there is a column, and a row is checked when it is read. InvalidDocumentError:
+    the bytes are no such file; ``name`` says why. TooDeepError: the rest of a row nests too deep.
+    TypeError: the object has no bytes.
+    """
+    __slots__ = ("_view", "_at", "_size", "_length", "_columns")
+
+    def __init__(self, data: Any, *, check: bool = True) -> None:
+        self._view = memoryview(data).cast("B")
+        self._at, self._size = _address_of(self._view), len(self._view)
+        told = self._told()
+        if check or not told:
+            checked = library.check_typed_file(self._at, self._size, DEPTH)
+            if checked.status != library.OK:
+                raise library.error_of(checked.status)
+            self._length = checked.rows
+        else:
+            self._length = told[0].rows
+        columns = (StoredColumn(it, self._view, self._length) for it in told)
+        self._columns: Dict[str, StoredColumn] = {it.name: it for it in columns}
+
+    def _told(self) -> Any:
+        """The columns as the library tells them."""
+        count = ctypes.c_size_t()
+        told: Any = (library.TypedColumn * 0)()
+        while True:
+            status = library.typed_columns(self._at, self._size, ctypes.addressof(told),
+                                           len(told), ctypes.addressof(count))
+            if status != library.NO_ROOM:
+                break
+            told = (library.TypedColumn * count.value)()
+        if status != library.OK:
+            raise library.error_of(status)
+        return told
+
+    @staticmethod
+    def build(documents: Iterable[Any], types: Mapping[str, str]) -> bytes:
+        """The bytes of a file of rows, with a column for the members at each key of ``types``.
+
+        ``documents`` are documents or Python values, as for ``Document.of``. A type is boolean,
+        int64, uint64, text, date, timestamp, timestamp_tz, interval, binary, or decimal with a
+        scale, as decimal 2. A member stands in its column if it is a value of the type with its
+        kind and its digits, and else in the rest of its row. ValueError: there is no such type.
+        InvalidDocumentError: a row exceeds a limit of the format.
+        """
+        names = sorted(types, key=str.encode)
+        kinds = b"".join(_bytes_of_type(types[name]) for name in names)
+        listed = bytes(Document.of(names))
+        rows = [bytes(it if isinstance(it, Document) else Document.of(it)) for it in documents]
+        offsets = (ctypes.c_size_t * (len(rows) + 1))()
+        end = 0
+        for index, row in enumerate(rows, 1):
+            end += len(row)
+            offsets[index] = end
+        # Each column has at most 16 bytes and a bit for a row.
+        guess = 2 * end + len(rows) * (17 * len(names) + 8) + 64 * len(names) + 64
+        return library.result_of(library.build_typed_file, guess, b"".join(rows), end,
+                                 ctypes.addressof(offsets), len(offsets), listed, len(listed),
+                                 kinds, len(kinds), DEPTH)
+
+    @classmethod
+    def write(cls, file: File, documents: Iterable[Any], types: Mapping[str, str]) -> int:
+        """Writes the file that ``build`` makes, and returns how many bytes it has.
+
+        ``file`` is a path, or a file that is open for bytes. At a path the file is there once all
+        of it was written.
+        """
+        data = cls.build(documents, types)
+        with target_of(file) as target:
+            target.write(data)
+        return len(data)
+
+    def __len__(self) -> int:
+        return self._length
+
+    @overload
+    def __getitem__(self, row: int) -> Document: ...
+    @overload
+    def __getitem__(self, row: slice) -> List[Document]: ...
+
+    def __getitem__(self, row: Union[int, slice]) -> Any:
+        if isinstance(row, slice):
+            return [self.row(it) for it in range(*row.indices(self._length))]
+        index = library.int_of(row)
+        if not -self._length <= index < self._length:
+            raise IndexError("row out of range")
+        return self.row(index % self._length)
+
+    def row(self, index: int) -> Document:
+        """The canonical document of a row, counted from 0: its rest with the members that stand in
+        columns. InvalidDocumentError: the row is out of form. TooDeepError: its rest nests too
+        deep. IndexError: there is no such row."""
+        if not 0 <= index < self._length:
+            raise IndexError("row out of range")
+        return Document(library.result_of(library.typed_row, 0, self._at, self._size, index,
+                                          DEPTH))
+
+    @property
+    def columns(self) -> List[StoredColumn]:
+        """The columns, in the order of their names."""
+        return list(self._columns.values())
+
+    def column(self, name: str) -> StoredColumn:
+        """The column of this name. KeyError: there is none."""
+        return self._columns[name]
+
+    def __repr__(self) -> str:
+        return f"<TypedFile of {self._length:,} rows and {len(self._columns):,} columns>"
