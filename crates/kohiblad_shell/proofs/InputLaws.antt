@@ -12,7 +12,7 @@ use Rattle.std.specs.Prelude.{Option, Some, None, IfSome, OnSome}
 use Rattle.std.specs.Io.BufRead.{take_through, drop_through, ends_with_byte, strip_last}
 use Rattle.answer_lines.specs.Lines.{IsLine}
 use Rattle.std.specs.Int.{w64, to_be_bytes, from_be_bytes}
-use Rattle.std.specs.Io.KnownBytes.{Consumes, IsAtEnd}
+use Rattle.std.specs.Io.KnownBytes.{Consumes, IsAtEnd, Keeps}
 use Rattle.std.proofs.KnownBytes.{Consumes-trans}
 use Rattle.std.proofs.Math.Seq.{drop-append_seam}
 use Rattle.std.proofs.lemmas.Nat.{from_be_bytes-to_be_bytes_8}
@@ -21,7 +21,8 @@ use Rattle.jsonb_column.specs.Storage.{row_bytes}
 use Rattle.jsonb_column.proofs.StorageLaws.{length-row_bytes}
 use Rattle.kohiblad_shell.specs.declared.input.Form.TheVariants.{Documents}
 use Rattle.kohiblad_shell.specs.declared.input.Found.TheVariants.{Row, Cut}
-use Rattle.kohiblad_shell.specs.Inputs.{AppendsHeld, IsNextLine, ReadsLine, ReadsPart, ReadsRow}
+use Rattle.kohiblad_shell.specs.Inputs.{AppendsHeld, AppendsHeldLine, IsNextLine, ReadsLine}
+use Rattle.kohiblad_shell.specs.Inputs.{ReadsPart, ReadsRow}
 
 abbrev no_feed : ℕ → Type 0
 no_feed b = b ≢ 10
@@ -101,13 +102,28 @@ next_line bytes taken is some = by (lined bytes)
         let same : strip_last 10 taken ≡ bytes = ap (strip_last 10) whole ∙ strip_none bytes one in
         rw (same, left) (one, inr (refl, (subst (λ l. 0 < length l) whole some, refl)))
 
-pub reads_line : (old new : Option (List ℕ)) (taken line : List ℕ)
+reads_line : (old new : Option (List ℕ)) (taken line : List ℕ)
     → IfSome old (λ bytes. taken ≡ take_through 10 bytes)
     → IfSome old (λ bytes. new ≡ Some (drop_through 10 bytes)) → 0 < length taken
     → line ≡ strip_last 10 taken → ReadsLine old new line true
 reads_line None new taken line is left some stripped = tt
 reads_line (Some bytes) new taken line is left some stripped =
     rw (left, stripped) (next_line bytes taken is some)
+
+pub nothing_held : (old new : Option (List ℕ)) (before after : List ℕ) (is_held : Bool)
+    → is_held ≡ false → AppendsHeldLine old new before after is_held
+    → (after ≡ before) × Keeps old new
+nothing_held old new before after is_held e h = rw e at h
+
+-- the same after a look at what the reader holds
+pub reads_line_later : (old mid new : Option (List ℕ)) (taken line : List ℕ) → Keeps old mid
+    → IfSome mid (λ bytes. taken ≡ take_through 10 bytes)
+    → IfSome mid (λ bytes. new ≡ Some (drop_through 10 bytes)) → 0 < length taken
+    → line ≡ strip_last 10 taken → ReadsLine old new line true
+reads_line_later None mid new taken line kept is left some stripped = tt
+reads_line_later (Some bytes) None new taken line kept is left some stripped = absurd kept
+reads_line_later (Some bytes) (Some same) new taken line kept is left some stripped =
+    reads_line (Some bytes) new taken line (rw kept at is) (rw kept at left) some stripped
 
 -- ---- a part of so many bytes
 

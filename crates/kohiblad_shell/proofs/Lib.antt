@@ -2,6 +2,7 @@ pub mod InputLaws
 pub mod RunLaws
 pub mod SurveyLaws
 pub mod ValueLaws
+pub mod ShowLaws
 pub mod SortLaws
 pub mod KeyLaws
 pub mod RemovalLaws
@@ -9,3 +10,9 @@ pub mod ExtractLaws
 pub mod ArgumentLaws
 pub mod MergeLaws
 pub mod MergeSteps
+pub mod FirstLaws
+mod OrderLaws
+mod SizeLaws
+mod SortedRunLaws
+mod SortedRunSteps
+mod SortedRunEnds

@@ -1,11 +1,16 @@
 -- What commands read of their arguments.
-use Rattle.std.specs.Prelude.{◌≡◌, ℕ, Bool, true, false, List, [], Option, None, Some, codes}
-use Rattle.std.specs.Prelude.{option_map}
+use Rattle.std.specs.Prelude.{◌≡◌, ◌&&◌, ◌||◌, ℕ, Bool, true, false, List, [], Option, None, Some}
+use Rattle.std.specs.Prelude.{◌++◌, ◌∷◌, ◌*◌, ◌+◌, ◌-◌, ◌<◌, ◌^◌, codes, length, option_map}
+use Rattle.std.specs.Prelude.{if◌then◌else◌}
+use Rattle.std.specs.Char.{is_ascii_digit}
 use Rattle.std.specs.Str.{bytes_eq}
 use Rattle.clap.specs.Matches.{first_value, found_of, matched_of, one_text, raw_values}
 use Rattle.clap.specs.declared.parser.matches.ArgMatches.{ArgMatches}
+use Rattle.jsonb_value.specs.declared.parser.number.Exponents.{Exponents}
+use Rattle.jsonb_value.specs.declared.parser.number.Exponents.TheVariants.{Forbidden, Allowed}
 use Rattle.kohiblad_shell.specs.declared.input.Form.{Form}
 use Rattle.kohiblad_shell.specs.declared.input.Form.TheVariants.{Lines, Documents}
+use Rattle.kohiblad_shell.specs.declared.input.Reading.{Reading}
 use Rattle.kohiblad_shell.specs.declared.operation.TextLayout.{TextLayout}
 use Rattle.kohiblad_shell.specs.declared.operation.TextLayout.TheVariants.{Compact, Pretty}
 use Rattle.kohiblad_shell.specs.declared.operation.Style.{Style}
@@ -19,6 +24,44 @@ text_or_empty (Some text) = text
 -- The first value of an argument as text, or the empty one.
 abbrev pub value_of : ArgMatches → List ℕ → List ℕ
 value_of arguments id = text_or_empty (first_value (found_of arguments) id)
+
+-- A text, or another one if there is none.
+abbrev pub text_or : List ℕ → Option (List ℕ) → List ℕ
+text_or other None = other
+text_or other (Some text) = text
+
+-- The number that digits spell after a number, or none if they are no digits.
+abbrev pub digits_value : ℕ → List ℕ → Option ℕ
+digits_value n [] = Some n
+digits_value n (b ∷ bs) = if is_ascii_digit b then digits_value (n * 10 + (b - 48)) bs else None
+
+-- What a unit says: one, or so many times 1,024.
+pub data IsUnit : List ℕ → ℕ → Type 0 where
+  bytes : IsUnit [] 1
+  kilobytes : IsUnit (codes "K") (2 ^ 10)
+  megabytes : IsUnit (codes "M") (2 ^ 20)
+  gigabytes : IsUnit (codes "G") (2 ^ 30)
+
+-- The number of these digits, of which there are some, times a factor.
+pub record IsScaled (digits : List ℕ) (factor size : ℕ) : Type 0 where
+  pub number : ℕ
+  pub some : 0 < length digits
+  pub spells : digits_value 0 digits ≡ Some number
+  pub is : size ≡ number * factor
+
+-- The text says a size: the number of its digits, times its unit.
+pub record IsSize (text : List ℕ) (size : ℕ) : Type 0 where
+  pub digits : List ℕ
+  pub unit : List ℕ
+  pub factor : ℕ
+  pub parts : text ≡ digits ++ unit
+  pub means : IsUnit unit factor
+  pub scaled : IsScaled digits factor size
+
+-- The size of memory that a text says, or 1 GiB if there is none.
+abbrev pub IsMemory : Option (List ℕ) → ℕ → Type 0
+IsMemory None size = size ≡ 2 ^ 30
+IsMemory (Some text) size = IsSize text size
 
 -- All values of an argument, if it has any.
 abbrev pub values_of : ArgMatches → List ℕ → Option (List (List ℕ))
@@ -38,10 +81,20 @@ abbrev pub is_raw : Style → Bool
 is_raw Raw = true
 is_raw Json = false
 
+-- Whether numbers of lines may have exponents, by the word for it, or if there is none they may.
+abbrev pub exponents_of : Option (List ℕ) → Exponents
+exponents_of None = Allowed
+exponents_of (Some word) = if bytes_eq word (codes "refuse") then Forbidden else Allowed
+
+-- The form of rows that are documents, or of lines that are read so.
+abbrev pub form_of : Bool → Reading → Form
+form_of true reading = Documents
+form_of false reading = Lines reading
+
 -- Whether rows are documents.
 abbrev pub are_documents : Form → Bool
 are_documents Documents = true
-are_documents Lines = false
+are_documents (Lines reading) = false
 
 -- Whether each item and member has a line of its own.
 abbrev pub is_pretty : TextLayout → Bool
@@ -52,3 +105,18 @@ is_pretty Compact = false
 abbrev pub stops_of : Option (List ℕ) → Bool → Bool
 stops_of None usual = usual
 stops_of (Some word) usual = bytes_eq word (codes "stop")
+
+-- Whether a line says how far a run is, by the word for it: `always`, `never`, or as is usual.
+abbrev pub shows_of : Option (List ℕ) → Bool → Bool
+shows_of None usual = usual
+shows_of (Some word) usual =
+    if bytes_eq word (codes "always") then true
+    else if bytes_eq word (codes "never") then false
+    else usual
+
+-- Whether words have colors: as their word says, or if it is `auto` or there is none, if a terminal
+-- shows them.
+abbrev pub colors_of : Option (List ℕ) → Bool → Bool
+colors_of None is_terminal = is_terminal
+colors_of (Some word) is_terminal =
+    bytes_eq word (codes "always") || (bytes_eq word (codes "auto") && is_terminal)

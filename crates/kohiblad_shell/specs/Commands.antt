@@ -12,10 +12,11 @@ use Rattle.kohiblad_shell.specs.declared.operation.Operation.{Operation}
 use Rattle.kohiblad_shell.specs.declared.operation.Operation.TheVariants as operations
 use Rattle.kohiblad_shell.specs.declared.operation.Style.{Style}
 
--- The operation of a command that is given nothing besides its files.
+-- The operation of a command that is given nothing besides its files. `fault` writes what `check`
+-- reports.
 abbrev pub plain_operation : List ℕ → Option Operation
 plain_operation name =
-    if bytes_eq name (codes "check") then Some operations.Check
+    if bytes_eq name (codes "check") || bytes_eq name (codes "fault") then Some operations.Check
     else if bytes_eq name (codes "canonical") then Some operations.Canonical
     else if bytes_eq name (codes "strip-nulls") then Some (operations.Change changes.StripNulls)
     else if bytes_eq name (codes "encode") then Some operations.Encode
@@ -64,3 +65,5 @@ operation_of name (given.Range range) =
     if bytes_eq name (codes "range") then Some (operations.Range range) else None
 operation_of name (given.Columns columns) =
     if bytes_eq name (codes "extract") then Some (operations.Extract columns) else None
+operation_of name (given.Look look) =
+    if bytes_eq name (codes "show") then Some (operations.Show look) else None

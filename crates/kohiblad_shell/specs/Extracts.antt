@@ -19,6 +19,7 @@ use Rattle.kohiblad_shell.specs.declared.outcome.Reason.TheVariants.{NotOfType}
 use Rattle.kohiblad_shell.specs.declared.outcome.LineFault.{LineFault}
 use Rattle.kohiblad_shell.specs.declared.outcome.Unanswered.{Unanswered}
 use Rattle.kohiblad_shell.specs.declared.outcome.Unanswered.TheVariants.{Wrong}
+use Rattle.kohiblad_shell.specs.Faults.{plain_fault}
 use Rattle.kohiblad_shell.specs.Outcomes.{Outcome}
 use Rattle.kohiblad_shell.specs.Removals.{begins_path}
 
@@ -50,6 +51,7 @@ value_text types.Date d = extension_text (trees.date d)
 value_text types.Timestamp t = extension_text (trees.timestamp t)
 value_text types.ZonedTimestamp t = extension_text (trees.timestamp_tz t)
 value_text types.Interval i = extension_text (trees.interval i)
+value_text types.Binary bytes = csv_text (extension_text (trees.binary bytes))
 value_text types.Mixed v = []
 
 -- The field is the text of a value that stands for the tree; there is none if no value does.
@@ -86,7 +88,7 @@ IsCsvLine columns t (Some line) = (fields : List (List ℕ))
 
 -- The fault of a row that has no line.
 abbrev pub not_of_type : LineFault
-not_of_type = record { offset = 0; reason = NotOfType }
+not_of_type = plain_fault 0 NotOfType
 
 -- What a row gives: its line, or the fault that it has none.
 abbrev pub IsExtracted : List TypedPath → Tree → Outcome → Type 0

@@ -1,6 +1,7 @@
 -- Faults of lines, and the lines that report them.
 use Rattle.std.specs.Prelude.{ℕ, suc, Bool, true, false, List, [], ◌∷◌, ◌++◌, codes, length}
 use Rattle.std.specs.Fmt.{decimal}
+use Rattle.kohiblad_shell.specs.Expected.{expected_text}
 use Rattle.kohiblad_shell.specs.declared.outcome.LineFault.{LineFault}
 use Rattle.kohiblad_shell.specs.declared.outcome.Reason.{Reason}
 use Rattle.kohiblad_shell.specs.declared.outcome.Reason.TheVariants.{BadUtf8, BadSyntax, BadNumber}
@@ -25,16 +26,24 @@ abbrev pub is_cut : Reason → Bool
 is_cut Cut = true
 is_cut reason = false
 
+-- The fault after so many bytes of a row of which nothing is said that could have come there.
+abbrev pub plain_fault : ℕ → Reason → LineFault
+plain_fault offset reason = record { offset = offset; reason = reason; expected = 0 }
+
 -- The fault of a row of documents that is no document, or nests too deep.
 abbrev pub bad_document : LineFault
-bad_document = record { offset = 0; reason = BadDocument }
+bad_document = plain_fault 0 BadDocument
 
 -- The fault of a row that is cut off after these bytes.
 abbrev pub cut_after : List ℕ → LineFault
-cut_after part = record { offset = length part; reason = Cut }
+cut_after part = plain_fault (length part) Cut
+
+-- The reason of a fault, and what could have come there, if that is said.
+unfoldable pub reason_text : LineFault → List ℕ
+reason_text fault = reason_name fault.reason ++ expected_text fault.expected
 
 -- The line that reports a fault, with its line feed: the name of the input, the number of the line
--- and of the byte, both counted from 1, and the reason.
+-- and of the byte, both counted from 1, the reason, and what could have come, if that is said.
 abbrev pub fault_line : List ℕ → ℕ → LineFault → List ℕ
 fault_line name number fault = name ++ codes ":" ++ decimal number ++ codes ":"
-    ++ decimal (suc fault.offset) ++ codes ": " ++ reason_name fault.reason ++ 10 ∷ []
+    ++ decimal (suc fault.offset) ++ codes ": " ++ reason_text fault ++ 10 ∷ []

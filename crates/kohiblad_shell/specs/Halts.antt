@@ -1,5 +1,5 @@
 -- Why a run ended early, and the status of the program.
-use Rattle.std.specs.Prelude.{◌≡◌, ◌⊎◌, ◌==◌, ◌||◌, ℕ, List, codes, Result, Ok}
+use Rattle.std.specs.Prelude.{◌≡◌, ◌⊎◌, ◌==◌, ◌||◌, ℕ, false, List, codes, Result, Ok}
 use Rattle.std.specs.Prelude.{◌+◌, ◌-◌, ◌^◌, Err, if◌then◌else◌, min}
 use Rattle.std.specs.declared.io.ErrorKind.{ErrorKind}
 use Rattle.std.specs.declared.io.ErrorKind.TheVariants.{BrokenPipe}
@@ -38,6 +38,10 @@ both first second = record {
   faults = min (first.faults + second.faults) (2 ^ 64 - 1);
   is_stopped = first.is_stopped || second.is_stopped;
 }
+
+-- The counts of a run whose rows are the reports of faults: the faults do not count against it.
+abbrev pub of_reports : Summary → Summary
+of_reports summary = record { rows = summary.faults; faults = 0; is_stopped = false }
 
 -- The status of a run that searched for rows, and of one that searched for faults.
 abbrev pub summary_status : Aim → Summary → ℕ

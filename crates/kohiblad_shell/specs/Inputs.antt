@@ -1,7 +1,7 @@
 -- The next row of some bytes, in the form in which rows stand.
 use Rattle.std.specs.Prelude.{◌≡◌, ◌≢◌, ◌⊎◌, ◌<◌, ◌≤◌, ◌^◌, ℕ, List, [], ◌∷◌, ◌++◌, drop, length}
 use Rattle.std.specs.Prelude.{Bool, true, false, Option, Some, None, OnSome, ⊤}
-use Rattle.std.specs.Io.KnownBytes.{Consumes, IsAtEnd}
+use Rattle.std.specs.Io.KnownBytes.{Consumes, IsAtEnd, Keeps}
 use Rattle.answer_lines.specs.Lines.{IsLine}
 use Rattle.jsonb.specs.Texts.{display_text}
 use Rattle.jsonb_column.specs.Storage.{row_bytes}
@@ -12,12 +12,12 @@ use Rattle.kohiblad_shell.specs.declared.input.Found.TheVariants.{Row, Cut, End}
 
 -- A row as it stands among others: with its line feed, or after its length.
 abbrev pub framed : Form → List ℕ → List ℕ
-framed Lines row = row ++ 10 ∷ []
+framed (Lines reading) row = row ++ 10 ∷ []
 framed Documents row = row_bytes row
 
 -- The row of a document that was made: its text with a line feed, or itself after its length.
 abbrev pub made_row : Form → List ℕ → List ℕ
-made_row Lines bytes = display_text bytes ++ 10 ∷ []
+made_row (Lines reading) bytes = display_text bytes ++ 10 ∷ []
 made_row Documents bytes = row_bytes bytes
 
 -- The first line of the bytes, and what follows it: a line ends at a line feed, or with the bytes
@@ -28,12 +28,12 @@ IsNextLine bytes line rest = IsLine line
 
 -- The first row of the bytes, and what follows it. The length of a document has eight bytes.
 abbrev pub IsNextRow : Form → List ℕ → List ℕ → List ℕ → Type 0
-IsNextRow Lines bytes row rest = IsNextLine bytes row rest
+IsNextRow (Lines reading) bytes row rest = IsNextLine bytes row rest
 IsNextRow Documents bytes row rest = (length row < 2 ^ 64) × (bytes ≡ row_bytes row ++ rest)
 
 -- The bytes end within a document, of which this part is there.
 abbrev pub IsCut : Form → List ℕ → List ℕ → Type 0
-IsCut Lines bytes part = ⊥
+IsCut (Lines reading) bytes part = ⊥
 IsCut Documents bytes part = (bytes ≢ []) × ((part ≡ drop 8 bytes)
     × ((row rest : List ℕ) → IsNextRow Documents bytes row rest → ⊥))
 
@@ -74,3 +74,10 @@ pub record AppendsHeld (limit : ℕ) (old new : Option (List ℕ)) (before part 
   pub taken : Consumes old new held
   pub few : length held ≤ limit
   pub end : is_end ≡ true → 0 < limit → OnSome old (IsAtEnd new)
+
+-- The next line was taken after those of before, and appended without its line feed; or nothing was
+-- taken.
+abbrev pub AppendsHeldLine : Option (List ℕ) → Option (List ℕ) → List ℕ → List ℕ → Bool → Type 0
+AppendsHeldLine old new before after true = (line : List ℕ)
+    × ((after ≡ before ++ line) × (IsLine line × Consumes old new (line ++ 10 ∷ [])))
+AppendsHeldLine old new before after false = (after ≡ before) × Keeps old new

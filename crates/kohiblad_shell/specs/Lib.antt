@@ -1,4 +1,6 @@
 pub mod Inputs
+pub mod Kinds
+pub mod Expected
 pub mod Faults
 pub mod Outcomes
 pub mod Runs
@@ -7,10 +9,14 @@ pub mod Keys
 pub mod KeyProofs
 pub mod Sorts
 pub mod Merges
+pub mod SortedRuns
 pub mod Rows
 pub mod Removals
 pub mod Ranges
 pub mod Extracts
+pub mod Titles
+pub mod PartLines
+pub mod Shows
 pub mod Operations
 pub mod Surveys
 pub mod Arguments

@@ -13,6 +13,7 @@ use Rattle.kohiblad_shell.specs.declared.merge.MergeEnd.{MergeEnd}
 use Rattle.kohiblad_shell.specs.declared.merge.MergeEnd.TheVariants.{Halted, Faulty}
 use Rattle.kohiblad_shell.specs.declared.outcome.LineFault.{LineFault}
 use Rattle.kohiblad_shell.specs.declared.outcome.Reason.TheVariants.{NotSorted}
+use Rattle.kohiblad_shell.specs.Faults.{plain_fault}
 use Rattle.kohiblad_shell.specs.Outcomes.{Answers, LineRule, Outcome}
 use Rattle.kohiblad_shell.specs.Sorts.{key_and_line}
 
@@ -82,7 +83,7 @@ NextHead rule form (Some bytes) (Some rest) next = TakesHead rule form bytes res
 
 -- The fault of a row whose key is below that of the row before it.
 abbrev pub not_sorted : LineFault
-not_sorted = record { offset = 0; reason = NotSorted }
+not_sorted = plain_fault 0 NotSorted
 
 -- The row after these is wrong, or its key is below that of the last one.
 pub data IsFaultAfter (rule : LineRule) (form : Form) (bytes : List ℕ) (rows : List Outcome)

@@ -26,7 +26,7 @@ use Rattle.kohiblad_shell.specs.declared.operation.Operation.TheVariants.{Check,
 use Rattle.kohiblad_shell.specs.declared.operation.Operation.TheVariants.{Select, Filter, Contains}
 use Rattle.kohiblad_shell.specs.declared.operation.Operation.TheVariants.{Encode, Decode, Key}
 use Rattle.kohiblad_shell.specs.declared.operation.Operation.TheVariants.{Sort, Remove, Range}
-use Rattle.kohiblad_shell.specs.declared.operation.Operation.TheVariants.{Extract}
+use Rattle.kohiblad_shell.specs.declared.operation.Operation.TheVariants.{Extract, Show}
 use Rattle.kohiblad_shell.specs.declared.operation.Operation.TheVariants as operations
 use Rattle.kohiblad_shell.specs.declared.operation.Change.{Change}
 use Rattle.kohiblad_shell.specs.declared.operation.Change.TheVariants.{Set, Merge, Pick}
@@ -36,6 +36,7 @@ use Rattle.kohiblad_shell.specs.declared.operation.TextLayout.TheVariants.{Compa
 use Rattle.kohiblad_shell.specs.declared.operation.Style.{Style}
 use Rattle.kohiblad_shell.specs.declared.operation.Style.TheVariants.{Json, Raw}
 use Rattle.kohiblad_shell.specs.declared.outcome.Reason.TheVariants.{TooLarge}
+use Rattle.kohiblad_shell.specs.Faults.{plain_fault}
 use Rattle.kohiblad_shell.specs.Extracts.{IsExtracted}
 use Rattle.kohiblad_shell.specs.Outcomes.{Outcome}
 use Rattle.kohiblad_shell.specs.Keys.{row_key}
@@ -43,6 +44,7 @@ use Rattle.kohiblad_shell.specs.Inputs.{framed, made_row}
 use Rattle.kohiblad_shell.specs.Ranges.{is_in_range}
 use Rattle.kohiblad_shell.specs.Removals.{IsRemoved}
 use Rattle.kohiblad_shell.specs.Rows.{IsRow, IsRowFault}
+use Rattle.kohiblad_shell.specs.Shows.{shown_lines}
 use Rattle.kohiblad_shell.specs.Sorts.{key_and_line}
 
 -- The text of a string; none of every other value.
@@ -105,6 +107,7 @@ row_lines (Key paths) form row bytes =
 row_lines (Sort paths) form row bytes =
     key_and_line (row_key paths.now (tree_in bytes)) (framed form row)
 row_lines (Extract columns) form row bytes = []
+row_lines (Show look) form row bytes = shown_lines look bytes
 
 -- The changed value.
 abbrev pub changed : Change → Tree → Tree
@@ -116,13 +119,13 @@ changed StripNulls t = stripped t
 -- The row of a value that was made, by its canonical document, unless it is too large for one.
 abbrev pub IsMade : Form → Tree → Outcome → Type 0
 IsMade form u (Ok lines) = Fits u × (lines ≡ made_row form (canon u))
-IsMade form u (Err fault) = (Fits u → ⊥) × (fault ≡ record { offset = 0; reason = TooLarge })
+IsMade form u (Err fault) = (Fits u → ⊥) × (fault ≡ plain_fault 0 TooLarge)
 
 -- The row of a value in canonical form.
 abbrev pub IsCanonicalRow : Form → Tree → Outcome → Type 0
 IsCanonicalRow Documents t outcome = IsMade Documents t outcome
-IsCanonicalRow Lines t (Ok lines) = lines ≡ row_line t
-IsCanonicalRow Lines t (Err fault) = ⊥
+IsCanonicalRow (Lines reading) t (Ok lines) = lines ≡ row_line t
+IsCanonicalRow (Lines reading) t (Err fault) = ⊥
 
 -- What an operation gives for a row and its document.
 abbrev pub IsRowAnswer : Operation → Form → List ℕ → List ℕ → Outcome → Type 0
@@ -146,6 +149,6 @@ row_rule job row (Err fault) = IsRowFault job.form row fault ⊎ ((bytes : List 
 abbrev pub IsResultOf : (Outcome → Type 0) → Result (Vec ℕ Global) Error → Type 0
 IsResultOf IsOutcome (Ok lines) = IsOutcome (Ok lines.items)
 IsResultOf IsOutcome (Err InvalidJsonb) =
-    IsOutcome (Err (record { offset = 0; reason = TooLarge }))
+    IsOutcome (Err (plain_fault 0 TooLarge))
 IsResultOf IsOutcome (Err OutOfMemory) = ⊤
 IsResultOf IsOutcome (Err error) = ⊥

@@ -11,6 +11,7 @@ use Rattle.jsonb_functions.specs.Edited.{edited_whole, remove}
 use Rattle.jsonb_functions.specs.declared.path.Step.{Step}
 use Rattle.kohiblad_shell.specs.declared.input.Form.{Form}
 use Rattle.kohiblad_shell.specs.declared.outcome.Reason.TheVariants.{TooLarge}
+use Rattle.kohiblad_shell.specs.Faults.{plain_fault}
 use Rattle.kohiblad_shell.specs.Inputs.{made_row}
 use Rattle.kohiblad_shell.specs.Outcomes.{Outcome}
 
@@ -27,7 +28,7 @@ IsRemoved form (path ∷ paths) bytes outcome =
     (Fits (without path.items bytes)
     × IsRemoved form paths (canon (without path.items bytes)) outcome)
     ⊎ ((Fits (without path.items bytes) → ⊥)
-    × (outcome ≡ Err (record { offset = 0; reason = TooLarge })))
+    × (outcome ≡ Err (plain_fault 0 TooLarge)))
 
 -- Whether a word begins as a path does, by a dollar sign.
 abbrev pub begins_path : List ℕ → Bool

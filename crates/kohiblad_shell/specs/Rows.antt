@@ -1,17 +1,20 @@
 -- The document of a row, and why a row has none.
-use Rattle.std.specs.Prelude.{◌≡◌, ◌≤◌, ℕ, List, chars, Ok, Err, ⊤, IsUtf8}
+use Rattle.std.specs.Prelude.{◌≡◌, ◌≤◌, ℕ, Bool, true, false, List, chars, Ok, Err, ⊤, IsUtf8}
 use Rattle.std.specs.Str.{IsValidUpTo}
 use Rattle.jsonb_value.specs.TextDepth.{text_depth}
+use Rattle.jsonb_value.specs.declared.parser.number.Exponents.{Exponents}
 use Rattle.jsonb_value.specs.declared.error.Error.{Error}
 use Rattle.jsonb_value.specs.declared.error.Error.TheVariants as errors
 use Rattle.jsonb_value.specs.declared.within.ParseError.TheVariants as parsing
-use Rattle.jsonb.specs.Parsing.{ParsesWithExponentsWithin}
-use Rattle.json_fault.specs.Fault.{IsFaultAtWithExponents}
+use Rattle.jsonb.specs.Parsing.{ParsesUnderWithin}
+use Rattle.json_fault.specs.Fault.{IsFaultUnder}
+use Rattle.json_fault.specs.Stop.{IsExpected}
 use Rattle.json_fault.specs.declared.fault.FaultReason.{FaultReason}
 use Rattle.json_fault.specs.declared.fault.FaultReason.TheVariants.{Syntax, Number}
 use Rattle.jsonb_codec.specs.Depth.{IsDocumentWithin}
 use Rattle.kohiblad_shell.specs.declared.input.Form.{Form}
 use Rattle.kohiblad_shell.specs.declared.input.Form.TheVariants.{Lines, Documents}
+use Rattle.kohiblad_shell.specs.declared.input.Reading.{Reading}
 use Rattle.kohiblad_shell.specs.declared.outcome.LineFault.{LineFault}
 use Rattle.kohiblad_shell.specs.declared.outcome.Reason.{Reason}
 use Rattle.kohiblad_shell.specs.declared.outcome.Reason.TheVariants.{BadUtf8, BadSyntax, BadNumber}
@@ -19,41 +22,60 @@ use Rattle.kohiblad_shell.specs.declared.outcome.Reason.TheVariants.{TooDeep, To
 use Rattle.kohiblad_shell.specs.declared.outcome.Unanswered.{Unanswered}
 use Rattle.kohiblad_shell.specs.declared.outcome.Unanswered.TheVariants.{Wrong, OutOfMemory}
 use Rattle.kohiblad_shell.specs.declared.row.TheConstants.{MAX_ROW_DEPTH}
-use Rattle.kohiblad_shell.specs.Faults.{bad_document}
+use Rattle.kohiblad_shell.specs.Faults.{bad_document, plain_fault}
 
--- The line is a JSON text that nests at most so deep, with or without exponents, and the bytes are
--- the canonical document of its value.
-abbrev pub IsParsed : List ℕ → List ℕ → Type 0
-IsParsed line bytes = IsUtf8 line × ParsesWithExponentsWithin MAX_ROW_DEPTH line (Ok bytes)
+-- The line is a JSON text that nests at most so deep, with exponents if they are allowed, and the
+-- bytes are the canonical document of its value.
+abbrev pub IsParsed : Exponents → List ℕ → List ℕ → Type 0
+IsParsed rule line bytes = IsUtf8 line × ParsesUnderWithin rule MAX_ROW_DEPTH line (Ok bytes)
 
 -- The line is no row, for this reason, and these many of its bytes are before the fault: those that
 -- are UTF-8, those that begin some JSON text, or none.
-abbrev pub IsFaultFor : Reason → List ℕ → ℕ → Type 0
-IsFaultFor BadUtf8 line offset = (IsUtf8 line → ⊥) × IsValidUpTo line offset
-IsFaultFor BadSyntax line offset = IsUtf8 line × ((text_depth line ≤ MAX_ROW_DEPTH)
-    × IsFaultAtWithExponents (chars line) (record { offset = offset; reason = Syntax }))
-IsFaultFor BadNumber line offset = IsUtf8 line × ((text_depth line ≤ MAX_ROW_DEPTH)
-    × IsFaultAtWithExponents (chars line) (record { offset = offset; reason = Number }))
-IsFaultFor TooDeep line offset = IsUtf8 line
-    × (ParsesWithExponentsWithin MAX_ROW_DEPTH line (Err parsing.TooDeep) × (offset ≡ 0))
-IsFaultFor TooLarge line offset = IsUtf8 line
-    × (ParsesWithExponentsWithin MAX_ROW_DEPTH line (Err (parsing.Refused errors.InvalidJsonb))
+abbrev pub IsFaultFor : Exponents → Reason → List ℕ → ℕ → Type 0
+IsFaultFor rule BadUtf8 line offset = (IsUtf8 line → ⊥) × IsValidUpTo line offset
+IsFaultFor rule BadSyntax line offset = IsUtf8 line × ((text_depth line ≤ MAX_ROW_DEPTH)
+    × IsFaultUnder rule (chars line) (record { offset = offset; reason = Syntax }))
+IsFaultFor rule BadNumber line offset = IsUtf8 line × ((text_depth line ≤ MAX_ROW_DEPTH)
+    × IsFaultUnder rule (chars line) (record { offset = offset; reason = Number }))
+IsFaultFor rule TooDeep line offset = IsUtf8 line
+    × (ParsesUnderWithin rule MAX_ROW_DEPTH line (Err parsing.TooDeep) × (offset ≡ 0))
+IsFaultFor rule TooLarge line offset = IsUtf8 line
+    × (ParsesUnderWithin rule MAX_ROW_DEPTH line (Err (parsing.Refused errors.InvalidJsonb))
     × (offset ≡ 0))
-IsFaultFor reason line offset = ⊥
+IsFaultFor rule reason line offset = ⊥
 
--- The line is no row, for the reason of the fault.
-abbrev pub IsLineFault : List ℕ → LineFault → Type 0
-IsLineFault line fault = IsFaultFor fault.reason line fault.offset
+-- These are the library's classes of what could have come where a text is not JSON, if they are
+-- asked for, and else none.
+abbrev pub AreAsked : Bool → Exponents → List ℕ → ℕ → Type 0
+AreAsked true rule text classes = IsExpected rule (chars text) classes
+AreAsked false rule text classes = classes ≡ 0
+
+-- The same where lines are read so.
+abbrev pub AreExpected : Reading → List ℕ → ℕ → Type 0
+AreExpected reading text classes = AreAsked reading.is_explained reading.exponents text classes
+
+-- The same of a line that is wrong for this reason: of one that is no text, nests too deep or is
+-- too large for a document nothing is said.
+abbrev pub AreExpectedAt : Reason → Reading → List ℕ → ℕ → Type 0
+AreExpectedAt BadSyntax reading line classes = AreExpected reading line classes
+AreExpectedAt BadNumber reading line classes = AreExpected reading line classes
+AreExpectedAt reason reading line classes = classes ≡ 0
+
+-- The line is no row, for the reason of the fault, which says what could have come there if that is
+-- asked for.
+abbrev pub IsLineFault : Reading → List ℕ → LineFault → Type 0
+IsLineFault reading line fault = IsFaultFor reading.exponents fault.reason line fault.offset
+    × AreExpectedAt fault.reason reading line fault.expected
 
 -- The bytes are the document of a row: that of the text of a line, or the row itself, which nests
 -- at most so deep.
 abbrev pub IsRow : Form → List ℕ → List ℕ → Type 0
-IsRow Lines row bytes = IsParsed row bytes
+IsRow (Lines reading) row bytes = IsParsed reading.exponents row bytes
 IsRow Documents row bytes = (bytes ≡ row) × IsDocumentWithin MAX_ROW_DEPTH row
 
 -- The row has no document, for the reason of the fault.
 abbrev pub IsRowFault : Form → List ℕ → LineFault → Type 0
-IsRowFault Lines row fault = IsLineFault row fault
+IsRowFault (Lines reading) row fault = IsLineFault reading row fault
 IsRowFault Documents row fault =
     (IsDocumentWithin MAX_ROW_DEPTH row → ⊥) × (fault ≡ bad_document)
 
@@ -63,24 +85,24 @@ IsRefusedRow form row (Wrong fault) = IsRowFault form row fault
 IsRefusedRow form row OutOfMemory = ⊤
 
 -- The line is no row, or there is not enough memory.
-abbrev pub IsRefusedLine : List ℕ → Unanswered → Type 0
-IsRefusedLine line (Wrong fault) = IsLineFault line fault
-IsRefusedLine line OutOfMemory = ⊤
+abbrev pub IsRefusedLine : Reading → List ℕ → Unanswered → Type 0
+IsRefusedLine reading line (Wrong fault) = IsLineFault reading line fault
+IsRefusedLine reading line OutOfMemory = ⊤
 
 -- The reason in this crate's words.
 abbrev pub line_reason : FaultReason → Reason
 line_reason Syntax = BadSyntax
 line_reason Number = BadNumber
 
--- The same of a text that is not JSON: where it is at fault.
-abbrev pub IsNotJson : List ℕ → Unanswered → Type 0
-IsNotJson text (Wrong fault) = (f : FaultReason)
-    × ((fault.reason ≡ line_reason f)
-    × IsFaultAtWithExponents (chars text) (record { offset = fault.offset; reason = f }))
-IsNotJson text OutOfMemory = ⊤
+-- The same of a text that is not JSON: where it is at fault, and what could have come there.
+abbrev pub IsNotJson : Reading → List ℕ → Unanswered → Type 0
+IsNotJson reading text (Wrong fault) = (f : FaultReason) × ((fault.reason ≡ line_reason f)
+    × (IsFaultUnder reading.exponents (chars text) (record { offset = fault.offset; reason = f })
+    × AreExpected reading text fault.expected))
+IsNotJson reading text OutOfMemory = ⊤
 
 -- An error of the library as a reason why a line has no answer: a value is too large, unless an
 -- allocation failed.
 abbrev pub unanswered_of : Error → Unanswered
 unanswered_of errors.OutOfMemory = OutOfMemory
-unanswered_of error = Wrong (record { offset = 0; reason = TooLarge })
+unanswered_of error = Wrong (plain_fault 0 TooLarge)

@@ -13,23 +13,31 @@ pub use Rattle.kohiblad_shell.specs.KeyProofs.{key_laws}
 pub use Rattle.kohiblad_shell.specs.Sorts.{AreSorted, arranged, distinct, has_key, key_and_line}
 pub use Rattle.kohiblad_shell.specs.Sorts.{keyed_bytes, keyed_key, keyed_line, turned}
 pub use Rattle.kohiblad_shell.specs.Halts.{IsWriteHalt, halt_of_write, halt_reason, halt_status}
-pub use Rattle.kohiblad_shell.specs.Halts.{both, run_status, summary_status}
+pub use Rattle.kohiblad_shell.specs.Halts.{both, of_reports, run_status, summary_status}
 pub use Rattle.kohiblad_shell.specs.declared.halt.Halt.TheVariants.{Memory}
 pub use Rattle.jsonb_codec.specs.Canon.{canon, Fits}
 pub use Rattle.jsonb_codec.specs.Depth.{IsDocumentWithin}
 pub use Rattle.jsonb_codec.specs.Doc.{IsDocument}
-pub use Rattle.json_fault.specs.Fault.{IsJsonWithExponents}
-pub use Rattle.jsonb.specs.Owned.{owned_bytes}
+pub use Rattle.json_fault.specs.Fault.{IsFaultUnder, IsJsonUnder}
+pub use Rattle.jsonb.specs.Owned.{owned_bytes, result_bytes}
+pub use Rattle.jsonb.specs.Parsing.{ParsesUnderWithin}
 pub use Rattle.jsonb_functions.specs.MadeWithMemory.{MadeWithMemory}
 pub use Rattle.clap.specs.Matches.{first_value, found_of}
 pub use Rattle.kohiblad_shell.specs.Arguments.{IsFlag, are_documents, is_pretty, is_raw}
-pub use Rattle.kohiblad_shell.specs.Arguments.{stops_of, value_of, values_of}
-pub use Rattle.kohiblad_shell.specs.Faults.{bad_document, fault_line, is_cut, reason_name}
-pub use Rattle.kohiblad_shell.specs.Inputs.{AppendsHeld, ReadsLine, ReadsPart, ReadsRow, framed}
-pub use Rattle.kohiblad_shell.specs.Inputs.{made_row}
+pub use Rattle.kohiblad_shell.specs.Arguments.{IsMemory, IsScaled, IsSize, colors_of, digits_value}
+pub use Rattle.kohiblad_shell.specs.Arguments.{exponents_of, form_of, shows_of, stops_of, text_or}
+pub use Rattle.kohiblad_shell.specs.Arguments.{value_of, values_of}
+pub use Rattle.kohiblad_shell.specs.Expected.{expected_text, listed_classes, mark_before}
+pub use Rattle.kohiblad_shell.specs.Faults.{bad_document, fault_line, is_cut, plain_fault}
+pub use Rattle.kohiblad_shell.specs.Faults.{reason_name, reason_text}
+pub use Rattle.kohiblad_shell.specs.Inputs.{AppendsHeld, AppendsHeldLine, ReadsLine, ReadsPart}
+pub use Rattle.kohiblad_shell.specs.Inputs.{ReadsRow, framed, made_row}
+pub use Rattle.kohiblad_shell.specs.Kinds.{compressed_kind, foreign_kind, input_kind}
+pub use Rattle.kohiblad_shell.specs.Kinds.{is_document_start, is_text_start, kind_words}
 pub use Rattle.kohiblad_shell.specs.Outcomes.{AnswersNext, IsAnswer, IsOutcome, LineRule}
 pub use Rattle.kohiblad_shell.specs.Outcomes.{row_count, stops_at}
-pub use Rattle.kohiblad_shell.specs.Rows.{IsNotJson, IsParsed, IsRefusedLine, IsRefusedRow, IsRow}
+pub use Rattle.kohiblad_shell.specs.Rows.{AreExpected, IsNotJson, IsParsed}
+pub use Rattle.kohiblad_shell.specs.Rows.{IsRefusedLine, IsRefusedRow, IsRow}
 pub use Rattle.kohiblad_shell.specs.Rows.{line_reason, unanswered_of}
 pub use Rattle.kohiblad_shell.specs.Extracts.{IsCsvLine, IsField, IsFieldAt, IsFieldBy}
 pub use Rattle.kohiblad_shell.specs.Extracts.{IsFieldOf, IsTypedLine, column_words, csv_text}
@@ -45,14 +53,37 @@ pub use Rattle.kohiblad_shell.specs.Surveys.{scale_lines, survey_lines, time_cou
 pub use Rattle.kohiblad_shell.specs.Surveys.{with_document}
 pub use Rattle.kohiblad_shell.specs.declared.input.Form.TheVariants.{Documents}
 pub use Rattle.kohiblad_shell.specs.declared.outcome.Unanswered.TheVariants.{OutOfMemory, Wrong}
+pub use Rattle.kohiblad_shell.specs.Titles.{container_name, escape, escaped_unit}
+pub use Rattle.kohiblad_shell.specs.Titles.{extension_kind, extension_name, grouped_digits}
+pub use Rattle.kohiblad_shell.specs.Titles.{grouped_number}
+pub use Rattle.kohiblad_shell.specs.Titles.{header_title, is_escaped, is_old_form, opaque_name}
+pub use Rattle.kohiblad_shell.specs.Titles.{kind_before, old_mark, quoted_key, scalar_document}
+pub use Rattle.kohiblad_shell.specs.Titles.{scalar_text, scalar_title, shortened, shown_char}
+pub use Rattle.kohiblad_shell.specs.Titles.{shown_text, value_title}
+pub use Rattle.kohiblad_shell.specs.PartLines.{blanks, color_code, cut_line, cut_text, ended}
+pub use Rattle.kohiblad_shell.specs.PartLines.{entry_column, first_line, grouped_bytes, head_line}
+pub use Rattle.kohiblad_shell.specs.PartLines.{head_text, heading}
+pub use Rattle.kohiblad_shell.specs.PartLines.{is_blank, later_line, line_columns, line_count}
+pub use Rattle.kohiblad_shell.specs.PartLines.{more_lines, on_left, painted, part_lines}
+pub use Rattle.kohiblad_shell.specs.PartLines.{place_column, sheet_for, shown_bytes, view_of}
+pub use Rattle.kohiblad_shell.specs.Shows.{branch, child_lines, color_of, entry_word}
+pub use Rattle.kohiblad_shell.specs.Shows.{inside_lines, inside_of, is_scalar, items_lines}
+pub use Rattle.kohiblad_shell.specs.Shows.{key_lines, members_lines, nested_lines, own_bytes}
+pub use Rattle.kohiblad_shell.specs.Shows.{own_lines, scalar_lines, shown_lines, spot_of, stem}
+pub use Rattle.kohiblad_shell.specs.Shows.{whole_spot}
+pub use Rattle.jsonb.specs.Entries.{item_run, key_run, value_run}
+pub use Rattle.jsonb.specs.Entry.{IsEntryIn}
+pub use Rattle.jsonb_functions.specs.PathPlaces.{header_or_none, read_entries, run_entries}
+pub use Rattle.jsonb_codec.specs.WordBytes.{header_at}
 pub use Rattle.hex.specs.Hex.{encode_lower}
 pub use Rattle.jsonb_value.specs.ExtCode.{extension_of}
 pub use Rattle.jsonb_value.specs.Text.{compact, extension_text, number_text}
-pub use Rattle.jsonb_typed.specs.Types.{IsText}
+pub use Rattle.jsonb_typed.specs.Types.{IsBinary, IsText}
 pub use Rattle.jsonb_typed.specs.declared.lattice.LeastType.{LeastType}
-pub use Rattle.jsonb.specs.Document.{document_bytes, document_tree}
+pub use Rattle.jsonb.specs.Document.{document_bytes, document_tree, tree_in}
 pub use Rattle.jsonb.specs.Node.{HoldsNoScalar, node_tree}
 pub use Rattle.kohiblad_shell.specs.Operations.{IsCanonicalRow, IsResultOf}
 pub use Rattle.kohiblad_shell.specs.Operations.{IsRowAnswer, changed, document_line, kept_row}
 pub use Rattle.kohiblad_shell.specs.Operations.{raw_text, row_rule, text_of}
 pub use Rattle.kohiblad_shell.specs.Operations.{value_line, value_lines}
+pub use Rattle.jsonb_functions.specs.Selected.{first_tree, selected}

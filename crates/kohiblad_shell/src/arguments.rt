@@ -1,13 +1,18 @@
 //! The commands of the program, and their arguments.
 
-ghost use Rattle.std.specs.Prelude.{◌≡◌, codes, map, option_map};
-ghost use Rattle.kohiblad_shell.specs.Words.{IsFlag, are_documents, first_value, found_of};
-ghost use Rattle.kohiblad_shell.specs.Words.{is_pretty, is_raw, stops_of, value_of, values_of};
+ghost use Rattle.std.specs.Prelude.{◌≡◌, IfSome, codes, map, option_map};
+ghost use Rattle.kohiblad_shell.specs.Words.{IsFlag, IsMemory, are_documents, colors_of};
+ghost use Rattle.kohiblad_shell.specs.Words.{exponents_of, first_value, form_of, found_of};
+ghost use Rattle.kohiblad_shell.specs.Words.{is_pretty, is_raw, shows_of, stops_of, text_or};
+ghost use Rattle.kohiblad_shell.specs.Words.{value_of, values_of};
 
-use crate::input::Form;
+use crate::input::{Form, Reading};
 use crate::operation::{Style, TextLayout};
+use crate::part_lines::Look;
+use crate::size::size_of;
 use crate::sort::Arrangement;
 use clap::{Arg, ArgAction, ArgMatches, Command};
+use jsonb::Exponents;
 use std::alloc::{AllocError, Global};
 
 /// A command: its name, what its help says, and its operands, if it has any.
@@ -28,8 +33,13 @@ enum CommandOption {
     ByOne,
     Reverse,
     Unique,
+    Memory,
+    TemporaryDirectory,
     Documents,
+    Quiet,
     OnError,
+    Whole,
+    Color,
 }
 
 /// The operand of a command.
@@ -81,7 +91,7 @@ const COLUMN: Operand = Operand {
 const TYPE: Operand = Operand {
     name: "TYPE",
     help: "boolean, int64, uint64, 'decimal 2', text, date, timestamp, timestamp_tz, interval, \
-        nothing or mixed",
+        binary, nothing or mixed",
 };
 
 const NAMES: Operand = Operand {
@@ -89,13 +99,20 @@ const NAMES: Operand = Operand {
     help: "Names with commas between them, such as id,who",
 };
 
-const COMMANDS: [CommandRow; 20] = [
+const COMMANDS: [CommandRow; 22] = [
     CommandRow {
         name: "check",
         about: "Report the lines that are not JSON",
         operand: None,
         value: None,
         options: &[CommandOption::Documents, CommandOption::OnError],
+    },
+    CommandRow {
+        name: "fault",
+        about: "Write where lines are wrong, why, and what could have come there",
+        operand: None,
+        value: None,
+        options: &[CommandOption::Documents],
     },
     CommandRow {
         name: "canonical",
@@ -112,6 +129,7 @@ const COMMANDS: [CommandRow; 20] = [
         options: &[
             CommandOption::Documents,
             CommandOption::Raw,
+            CommandOption::Quiet,
             CommandOption::OnError,
         ],
     },
@@ -123,6 +141,7 @@ const COMMANDS: [CommandRow; 20] = [
         options: &[
             CommandOption::Documents,
             CommandOption::Raw,
+            CommandOption::Quiet,
             CommandOption::OnError,
         ],
     },
@@ -131,7 +150,11 @@ const COMMANDS: [CommandRow; 20] = [
         about: "Write the lines in which a path leads to some value",
         operand: Some(CONDITION),
         value: None,
-        options: &[CommandOption::Documents, CommandOption::OnError],
+        options: &[
+            CommandOption::Documents,
+            CommandOption::Quiet,
+            CommandOption::OnError,
+        ],
     },
     CommandRow {
         name: "count",
@@ -145,14 +168,22 @@ const COMMANDS: [CommandRow; 20] = [
         about: "Count what the values are to which a path leads",
         operand: Some(PATH),
         value: None,
-        options: &[CommandOption::Documents, CommandOption::OnError],
+        options: &[
+            CommandOption::Documents,
+            CommandOption::Quiet,
+            CommandOption::OnError,
+        ],
     },
     CommandRow {
         name: "extract",
         about: "Write the values at paths as CSV, each as one of a type",
         operand: Some(COLUMN),
         value: Some(TYPE),
-        options: &[CommandOption::Documents, CommandOption::OnError],
+        options: &[
+            CommandOption::Documents,
+            CommandOption::Quiet,
+            CommandOption::OnError,
+        ],
     },
     CommandRow {
         name: "contains",
@@ -204,6 +235,7 @@ const COMMANDS: [CommandRow; 20] = [
         options: &[
             CommandOption::Documents,
             CommandOption::ByOne,
+            CommandOption::Quiet,
             CommandOption::OnError,
         ],
     },
@@ -217,6 +249,9 @@ const COMMANDS: [CommandRow; 20] = [
             CommandOption::By,
             CommandOption::Reverse,
             CommandOption::Unique,
+            CommandOption::Memory,
+            CommandOption::TemporaryDirectory,
+            CommandOption::Quiet,
             CommandOption::OnError,
         ],
     },
@@ -252,7 +287,22 @@ const COMMANDS: [CommandRow; 20] = [
         value: None,
         options: &[CommandOption::Pretty, CommandOption::OnError],
     },
+    CommandRow {
+        name: "show",
+        about: "Write the bytes of each document, part by part",
+        operand: None,
+        value: None,
+        options: &[
+            CommandOption::Documents,
+            CommandOption::Whole,
+            CommandOption::Color,
+            CommandOption::OnError,
+        ],
+    },
 ];
+
+// How much memory the lines of a sort may take if nothing is said.
+const USUAL_MEMORY: u64 = 1 << 30;
 
 const AFTER_HELP: &str = "The status is 0 if some line gave a row, 1 if none did or a line is \
     wrong, 2 for wrong use, and 3 if a device or memory failed.";
@@ -290,7 +340,13 @@ fn command_of<'a>(alloc: Global, row: &CommandRow) -> Result<Command<'a>, AllocE
     for option in row.options {
         command = command.arg(option_of(alloc, *option))?;
     }
-    command.arg(files(alloc))
+    if row.name != "decode" {
+        command = command.arg(exponents(alloc))?;
+    }
+    if row.name != "check" {
+        command = command.arg(output(alloc))?;
+    }
+    command.arg(progress(alloc))?.arg(files(alloc))
 }
 
 // An operand of a command.
@@ -326,11 +382,27 @@ fn option_of<'a>(alloc: Global, option: CommandOption) -> Arg<'a> {
                 "Write only the first of several lines that are equal",
             )
         }
+        CommandOption::Memory => memory(alloc),
+        CommandOption::TemporaryDirectory => temporary_directory(alloc),
         CommandOption::Documents => {
             let help = "Read documents as a column stores them, and write rows as such";
             flag(alloc, "documents", help)
         }
+        CommandOption::Quiet => {
+            flag(
+                alloc,
+                "quiet",
+                "Say nothing of a path at which no row has a value",
+            )
+            .short('q')
+        }
         CommandOption::OnError => on_error(alloc),
+        CommandOption::Whole => flag(
+            alloc,
+            "whole",
+            "Write the bytes of long texts and data whole",
+        ),
+        CommandOption::Color => color(alloc),
     }
 }
 
@@ -347,6 +419,40 @@ fn deciding_path<'a>(alloc: Global) -> Arg<'a> {
     Arg::new(alloc, "by").long("by").value_name("PATH")
 }
 
+// How much memory lines and their keys may take.
+fn memory<'a>(alloc: Global) -> Arg<'a> {
+    Arg::new(alloc, "memory")
+        .long("memory")
+        .value_name("SIZE")
+        .help("About how many bytes the lines may take in memory, as 500M or 2G; 1G if none")
+}
+
+// Where lines go that do not fit.
+fn temporary_directory<'a>(alloc: Global) -> Arg<'a> {
+    Arg::new(alloc, "temporary-directory")
+        .long("temporary-directory")
+        .value_name("DIR")
+        .help("Where lines go that do not fit in memory; $TMPDIR or /tmp if none")
+}
+
+// Where rows are written.
+fn output<'a>(alloc: Global) -> Arg<'a> {
+    Arg::new(alloc, "output")
+        .long("output")
+        .short('o')
+        .value_name("FILE")
+        .help("The output, which takes the place of FILE at the end; standard output if none or -")
+}
+
+// Whether numbers of lines may have exponents.
+fn exponents<'a>(alloc: Global) -> Arg<'a> {
+    Arg::new(alloc, "exponents")
+        .long("exponents")
+        .value_name("WHAT")
+        .help("Whether numbers such as 1e5 are read; accept, if none is said, or refuse")
+        .value_parser(["accept", "refuse"].as_slice())
+}
+
 // What happens at a line that is wrong.
 fn on_error<'a>(alloc: Global) -> Arg<'a> {
     Arg::new(alloc, "on-error")
@@ -354,6 +460,24 @@ fn on_error<'a>(alloc: Global) -> Arg<'a> {
         .value_name("WHAT")
         .help("What to do after a line that is wrong")
         .value_parser(["stop", "skip"].as_slice())
+}
+
+// When a line says how far the run is.
+fn progress<'a>(alloc: Global) -> Arg<'a> {
+    Arg::new(alloc, "progress")
+        .long("progress")
+        .value_name("WHEN")
+        .help("Show how far a run of more than a second is; auto: at a terminal")
+        .value_parser(["auto", "always", "never"].as_slice())
+}
+
+// When words have colors.
+fn color<'a>(alloc: Global) -> Arg<'a> {
+    Arg::new(alloc, "color")
+        .long("color")
+        .value_name("WHEN")
+        .help("Whether words have colors; auto, if none is said, where a terminal shows them")
+        .value_parser(["always", "never", "auto"].as_slice())
 }
 
 // The files that are read.
@@ -422,14 +546,64 @@ pub fn layout_in(arguments: &ArgMatches<'_>) -> TextLayout
     }
 }
 
-/// In which form rows are read and written: as documents if the flag says so.
-pub fn form_in(arguments: &ArgMatches<'_>) -> Form
-    ensures { IsFlag arguments.now (codes "documents") (are_documents result) }
+/// In which form rows are read and written: as documents if the flag says so, and else as lines, of
+/// which numbers may have exponents unless these are refused, and of which the faults are explained
+/// or not.
+pub fn form_in(arguments: &ArgMatches<'_>, is_explained: bool) -> Form
+    ensures documents { IsFlag arguments.now (codes "documents") (are_documents result) }
+    ensures form { result ≡ form_of (are_documents result) (record {
+      exponents = exponents_of (first_value (found_of arguments.now) (codes "exponents"));
+      is_explained = is_explained;
+    }) }
 {
     if has_flag(arguments, "documents") {
         Form::Documents
     } else {
-        Form::Lines
+        Form::Lines(Reading {
+            exponents: exponents_in(arguments),
+            is_explained,
+        })
+    }
+}
+
+// Whether numbers of lines may have exponents.
+fn exponents_in(arguments: &ArgMatches<'_>) -> Exponents
+    ensures { result
+        ≡ exponents_of (first_value (found_of arguments.now) (codes "exponents")) }
+{
+    match arguments.get_str("exponents") {
+        Some("refuse") => Exponents::Forbidden,
+        _ => Exponents::Allowed,
+    }
+}
+
+/// Whether nothing is to be said of a path at which no row has a value.
+pub fn is_quiet_in(arguments: &ArgMatches<'_>) -> bool
+    ensures { IsFlag arguments.now (codes "quiet") result }
+{
+    has_flag(arguments, "quiet")
+}
+
+/// How parts are to be shown, where `is_terminal` holds if a terminal shows what is written.
+pub fn look_in(arguments: &ArgMatches<'_>, is_terminal: bool) -> Look
+    ensures whole { IsFlag arguments.now (codes "whole") result.is_whole }
+    ensures colored { result.is_colored
+        ≡ colors_of (first_value (found_of arguments.now) (codes "color")) is_terminal }
+{
+    Look {
+        is_whole: has_flag(arguments, "whole"),
+        is_colored: colors_in(arguments, is_terminal),
+    }
+}
+
+// Whether words have colors.
+fn colors_in(arguments: &ArgMatches<'_>, is_terminal: bool) -> bool
+    ensures { result
+        ≡ colors_of (first_value (found_of arguments.now) (codes "color")) is_terminal }
+{
+    match arguments.get_str("color") {
+        Some(word) => word == "always" || word == "auto" && is_terminal,
+        None => is_terminal,
     }
 }
 
@@ -442,6 +616,48 @@ pub fn arrangement_in(arguments: &ArgMatches<'_>) -> Arrangement
         is_reversed: has_flag(arguments, "reverse"),
         is_unique: has_flag(arguments, "unique"),
     }
+}
+
+/// The file for the rows; `-` if none is named, for standard output.
+pub fn output_in<'a>(arguments: &ArgMatches<'a>) -> &'a str
+    ensures { result.now ≡ text_or (codes "-")
+        (first_value (found_of arguments.now) (codes "output")) }
+{
+    match arguments.get_str("output") {
+        Some(output) => output,
+        None => "-",
+    }
+}
+
+/// Whether a line is to say how far the run is, where `otherwise` holds if the arguments do not say.
+pub fn shows_progress_in(arguments: &ArgMatches<'_>, otherwise: bool) -> bool
+    ensures { result
+        ≡ shows_of (first_value (found_of arguments.now) (codes "progress")) otherwise }
+{
+    match arguments.get_str("progress") {
+        Some(word) if word == "always" => true,
+        Some(word) if word == "never" => false,
+        _ => otherwise,
+    }
+}
+
+/// How many bytes of memory lines and their keys may take: 1 GiB if nothing is said. `None` if what
+/// is said is no size.
+pub fn memory_in(arguments: &ArgMatches<'_>) -> Option<u64>
+    ensures { IfSome result (IsMemory (first_value (found_of arguments.now) (codes "memory"))) }
+{
+    match arguments.get_str("memory") {
+        Some(text) => size_of(text),
+        None => Some(USUAL_MEMORY),
+    }
+}
+
+/// The folder for temporary files, if one is named.
+pub fn folder_in<'a>(arguments: &ArgMatches<'a>) -> Option<&'a str>
+    ensures { option_map (λ folder. folder.now) result
+        ≡ first_value (found_of arguments.now) (codes "temporary-directory") }
+{
+    arguments.get_str("temporary-directory")
 }
 
 /// Whether the run is to end at the first line that is wrong, where `otherwise` holds if the

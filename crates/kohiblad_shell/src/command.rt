@@ -6,6 +6,7 @@ ghost use Rattle.kohiblad_shell.specs.Commands.{plain_operation, value_operation
 
 use crate::extract::TypedPath;
 use crate::operation::{Change, Operation, Style, TextLayout};
+use crate::part_lines::Look;
 use crate::range::ValueRange;
 use jsonb::Document;
 use jsonb_functions::{Selector, Step};
@@ -33,6 +34,8 @@ pub enum Operands<'a> {
     Range(ValueRange<'a>),
     /// Paths, each with a type.
     Columns(&'a [TypedPath<'a>]),
+    /// How parts are shown.
+    Look(Look),
 }
 
 /// The operation of the command of this name. `None` if no command of this name is given such
@@ -53,15 +56,16 @@ pub fn operation_of<'a>(name: &str, operands: Operands<'a>) -> Option<Operation<
         Operands::Removed(paths) if name == "remove" => Some(Operation::Remove(paths)),
         Operands::Range(range) if name == "range" => Some(Operation::Range(range)),
         Operands::Columns(columns) if name == "extract" => Some(Operation::Extract(columns)),
+        Operands::Look(look) if name == "show" => Some(Operation::Show(look)),
         _ => None,
     }
 }
 
-// The operation of a command that is given nothing.
+// The operation of a command that is given nothing. `fault` writes what `check` reports.
 fn plain_operation<'a>(name: &str) -> Option<Operation<'a>>
     ensures { result ≡ plain_operation name.now }
 {
-    if name == "check" {
+    if name == "check" || name == "fault" {
         Some(Operation::Check)
     } else if name == "canonical" {
         Some(Operation::Canonical)

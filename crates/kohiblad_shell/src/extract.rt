@@ -3,21 +3,22 @@
 ghost use Rattle.std.specs.Prelude.{◌≡◌, ◌≤◌, ◌∷◌, ◌++◌, ℕ, List, IfErr, IfOk, OnOk, cond, length};
 ghost use Rattle.std.specs.Prelude.{option_map};
 ghost use Rattle.std.specs.List.{list_any};
-ghost use Rattle.kohiblad_shell.specs.Words.{HoldsNoScalar, IsCsvLine, IsField, IsFieldAt};
-ghost use Rattle.kohiblad_shell.specs.Words.{IsFieldBy, IsFieldOf, IsText, LeastType};
+ghost use Rattle.kohiblad_shell.specs.Words.{HoldsNoScalar, IsBinary, IsCsvLine, IsField};
+ghost use Rattle.kohiblad_shell.specs.Words.{IsFieldAt, IsFieldBy, IsFieldOf, IsText, LeastType};
 ghost use Rattle.kohiblad_shell.specs.Words.{column_words, compact, csv_text, document_tree};
 ghost use Rattle.kohiblad_shell.specs.Words.{doubled, ends_field, extension_of, extension_text};
 ghost use Rattle.kohiblad_shell.specs.Words.{is_quoted, node_tree, number_text, value_text};
 
+use crate::first::first_value;
 use crate::removal::begins_path;
 use jsonb::{
     Date, Decimal128, Document, Error, ExtensionValue, Interval, Node, Number, NumberItem,
     Timestamp, TimestampTz,
 };
-use jsonb_functions::{Selector, select_first};
+use jsonb_functions::Selector;
 use jsonb_typed::{
     Boolean, ColumnType, Dates, Decimal, Fit, Int64, Intervals, LeastType, Timestamps, UInt64,
-    ZonedTimestamps, opened,
+    ZonedTimestamps, binary_of, opened,
 };
 use std::alloc::Global;
 
@@ -31,8 +32,8 @@ pub struct TypedPath<'a> {
 /// The line of CSV, as RFC 4180 lays it out but with a line feed alone at its end, of the first
 /// value to which each path leads, as a value of its type. Where a path leads nowhere, or to null,
 /// the field is empty. A text is between quotes if it is empty, or has a comma, a quote, a line
-/// feed or a carriage return. `None` if a value is not of its type. `OutOfMemory` is the only
-/// error.
+/// feed or a carriage return, and so is a binary value of no bytes. `None` if a value is not of its
+/// type. `OutOfMemory` is the only error.
 pub fn csv_line(
     alloc: Global,
     document: Document<'_>,
@@ -79,7 +80,7 @@ fn field_in(
 {
     field_of(
         alloc,
-        select_first(document, &column.path),
+        first_value(document, &column.path),
         column.value_type,
     )
 }
@@ -127,6 +128,7 @@ fn field_of_known(
         LeastType::Timestamp => field_by(alloc, value, &Timestamps),
         LeastType::ZonedTimestamp => field_by(alloc, value, &ZonedTimestamps),
         LeastType::Interval => field_by(alloc, value, &Intervals),
+        LeastType::Binary => field_of_binary(alloc, value),
         LeastType::Mixed => Ok(Some(csv_text(alloc, &value.to_string(alloc)?)?)),
     }
 }
@@ -234,6 +236,23 @@ fn field_of_text(alloc: Global, value: Node<'_>) -> Result<Option<Vec<u8>>, Erro
     match value {
         Node::String(text) => Ok(Some(csv_text(alloc, text)?)),
         _ => Ok(None),
+    }
+}
+
+// The field of a binary value: its bytes in hexadecimal, between quotes if there are none. `None`
+// if the value is no binary value.
+fn field_of_binary(alloc: Global, value: Node<'_>) -> Result<Option<Vec<u8>>, Error>
+    requires { HoldsNoScalar value }
+    ensures ok { IfOk result (λ field. IsFieldBy IsBinary (value_text LeastType.Binary)
+        (node_tree value.entry) (option_map (λ field. field.items) field)) }
+    ensures memory { IfErr result (λ e. e ≡ Error.OutOfMemory) }
+{
+    match binary_of(value) {
+        Some(bytes) => {
+            let value = ExtensionValue::Binary(bytes);
+            Ok(Some(csv_text(alloc, &format!(in alloc; "{value}")?)?))
+        }
+        None => Ok(None),
     }
 }
 

@@ -2,20 +2,31 @@
 
 ghost use Rattle.std.specs.Prelude.{◌≡◌, IfOk, length, min};
 ghost use Rattle.std.specs.Int.{to_be_bytes, w64};
-ghost use Rattle.kohiblad_shell.specs.Words.{AppendsHeld, Documents, ReadsLine, ReadsPart};
-ghost use Rattle.kohiblad_shell.specs.Words.{ReadsRow, strip_last};
+ghost use Rattle.kohiblad_shell.specs.Words.{AppendsHeld, AppendsHeldLine, Documents, ReadsLine};
+ghost use Rattle.kohiblad_shell.specs.Words.{ReadsPart, ReadsRow, strip_last};
 
 use crate::halt::Halt;
 use byteorder::{BigEndian, ByteOrder};
+use jsonb::Exponents;
+use memchr::memchr;
 use std::io::{self, BufRead};
 
 /// How rows stand one after another.
-#[derive(Clone, Copy, Debug, PartialEq, Eq)]
+#[derive(Clone, Copy)]
 pub enum Form {
     /// A JSON text on each line.
-    Lines,
+    Lines(Reading),
     /// Documents as a column stores them, each after its length.
     Documents,
+}
+
+/// How the texts of lines are read.
+#[derive(Clone, Copy)]
+pub struct Reading {
+    /// Whether numbers may have exponents.
+    pub exponents: Exponents,
+    /// Whether the fault of a line says what could have come there.
+    pub is_explained: bool,
 }
 
 /// What a read found.
@@ -40,7 +51,7 @@ pub fn read_row<R: BufRead>(form: Form, reader: &mut R, row: &mut Vec<u8>) -> Re
         (R.remaining reader.old) (R.remaining reader.new) row.new.items found) }
 {
     match form {
-        Form::Lines => {
+        Form::Lines(_) => {
             if read_line(reader, row)? {
                 Ok(Found::Row)
             } else {
@@ -58,6 +69,9 @@ fn read_line<R: BufRead>(reader: &mut R, line: &mut Vec<u8>) -> Result<bool, Hal
         ReadsLine (R.remaining reader.old) (R.remaining reader.new) line.new.items is_line) }
 {
     line.clear();
+    if append_held_line(reader, line)? {
+        return Ok(true);
+    }
     match reader.read_until(b'\n', line) {
         Ok(0) => Ok(false),
         Ok(_) => {
@@ -66,6 +80,27 @@ fn read_line<R: BufRead>(reader: &mut R, line: &mut Vec<u8>) -> Result<bool, Hal
         }
         Err(error) => Err(halt_of_read(&error)),
     }
+}
+
+// Appends the next line, without its line feed, if the reader holds all of it. `false` if not, and
+// then nothing is taken.
+fn append_held_line<R: BufRead>(reader: &mut R, line: &mut Vec<u8>) -> Result<bool, Halt>
+    ensures ok { IfOk result (λ is_held. AppendsHeldLine (R.remaining reader.old)
+        (R.remaining reader.new) line.old.items line.new.items is_held) }
+{
+    let held = match reader.fill_buf() {
+        Ok(held) => held,
+        Err(error) if error.kind() == io::ErrorKind::Interrupted => return Ok(false),
+        Err(error) => return Err(halt_of_read(&error)),
+    };
+    let Some(len) = memchr(b'\n', held) else {
+        return Ok(false);
+    };
+    if line.extend_from_slice(&held[..len]).is_err() {
+        return Err(Halt::Memory);
+    }
+    reader.consume(len + 1);
+    Ok(true)
 }
 
 // Drops the line feed at the end, if there is one.

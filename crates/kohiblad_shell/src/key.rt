@@ -4,9 +4,10 @@ ghost use Rattle.std.specs.Prelude.{◌≡◌, IfErr, IfOk, option_map, ⊤};
 ghost use Rattle.kohiblad_shell.specs.Words.{AppendsKey, document_tree, key_laws, node_tree};
 ghost use Rattle.kohiblad_shell.specs.Words.{path_key, path_keys, row_key, tree_key};
 
+use crate::first::first_value;
 use jsonb::{Document, Error, Node, SortKey};
 use jsonb_comparable::{Sink, append_key, append_key_to, append_node};
-use jsonb_functions::{Selector, select_first};
+use jsonb_functions::Selector;
 use std::alloc::Global;
 
 // A key that grows, as long as there is memory.
@@ -65,7 +66,7 @@ fn path_keys(
         is_whole: true,
     };
     for path in paths {
-        append_path_key(select_first(document, path), &mut key);
+        append_path_key(first_value(document, path), &mut key);
     }
     if key.is_whole {
         Ok(key.bytes)

@@ -1,59 +1,71 @@
 //! A program for people at the shell: files of JSON lines, or of documents, row by row.
 #![tactic(auto)]
 
-ghost use Rattle.std.specs.Prelude.{◌≡◌, IfOk};
-ghost use Rattle.kohiblad_shell.specs.Words.{IsDocument, halt_status, owned_bytes, run_status};
-
 mod arguments;
 mod command;
+mod expected;
 mod extract;
+mod files;
+mod first;
 mod halt;
 mod input;
 mod key;
+mod kind;
 mod merge;
+mod merge_command;
+mod messages;
+mod operands;
 mod operation;
 mod outcome;
+mod output;
+mod part_lines;
+mod progress;
 mod range;
 mod removal;
 mod row;
+mod row_commands;
 mod run;
+mod show;
+mod size;
 mod sort;
+mod sort_command;
+mod sorted_run;
+mod spill;
 mod status;
 mod survey;
+mod survey_command;
+mod temporary;
+mod titles;
+mod watch;
 mod write;
 
 use arguments::{
-    arrangement_in, commands, form_in, has_operand, layout_in, operand_in, stops_in, style_in,
+    commands, form_in, has_operand, is_quiet_in, layout_in, look_in, operand_in, style_in,
     value_in, words_in,
 };
 use clap::ArgMatches;
 use command::{Operands, operation_of};
-use extract::{TypedPath, column_words};
+use extract::column_words;
+use files::{files_of, goes_to_terminal, progress_of};
 use halt::{Halt, halt_of_write};
 use input::Form;
-use jsonb::{Document, OwnedJsonb};
-use jsonb_functions::{Selector, Step, read_path_text, steps_of_path};
-use jsonb_typed::{LeastType, Survey, parse_type};
-use merge::{InputFault, MergeEnd};
-use operation::{Job, Operation};
-use outcome::{Unanswered, fault_text};
+use jsonb::Document;
+use merge_command::write_merged;
+use messages::{failure, misuse, notice_missed};
+use operands::{
+    deciding_path, deciding_path_in, document_of, path_in, push_column, push_steps, steps_in,
+};
+use operation::Job;
 use range::ValueRange;
 use removal::path_count;
-use row::parse_line;
-use run::{Plan, Summary};
-use sort::{Arrangement, sort_rows};
-use status::{Aim, FAILURE, FOUND, MISUSE, NOT_FOUND, halt_status, run_status};
+use row_commands::{check, count, write_faults, write_rows};
+use sort_command::write_in_order;
+use status::{FOUND, MISUSE, halt_status};
+use std::alloc::AllocError;
 use std::env;
-use std::fs::File;
-use std::io::{self, BufRead, BufReader, BufWriter, Read, Write};
 use std::process::ExitCode;
-use survey::{survey_rows, survey_text};
-
-// How many bytes are read, and written, at a time.
-const BUFFER_LEN: usize = 1 << 16;
-
-// How many files are merged at most: each row is compared with the next one of every file.
-const MAX_MERGED: usize = 64;
+use survey_command::write_survey;
+use watch::Watch;
 
 fn main(rt: HostRuntime) -> ExitCode {
     ExitCode::from(shell(&rt))
@@ -84,22 +96,6 @@ fn shell(rt: &HostRuntime) -> u8 {
     }
 }
 
-// Reports wrong use.
-fn misuse(rt: &HostRuntime, what: &str) -> u8 {
-    let _ = eprintln!(rt; "kohiblad: {what}");
-    MISUSE
-}
-
-// Reports why a run ended early, unless nobody reads its output.
-fn failure(rt: &HostRuntime, halt: Halt) -> u8
-    ensures { result ≡ halt_status halt }
-{
-    if halt != Halt::Closed {
-        let _ = eprintln!(rt; "kohiblad: {}", halt.reason());
-    }
-    halt_status(halt)
-}
-
 // Runs a command.
 fn run_command(rt: &HostRuntime, name: &str, arguments: &ArgMatches<'_>) -> u8 {
     if name == "contains" || name == "merge" {
@@ -108,6 +104,9 @@ fn run_command(rt: &HostRuntime, name: &str, arguments: &ArgMatches<'_>) -> u8 {
         with_names(rt, name, arguments)
     } else if name == "decode" {
         run_operands(rt, name, Operands::Layout(layout_in(arguments)), arguments)
+    } else if name == "show" {
+        let look = look_in(arguments, shows_colors(rt, arguments));
+        run_operands(rt, name, Operands::Look(look), arguments)
     } else if name == "sort" || name == "keys" || name == "merge-sorted" {
         with_paths(rt, name, arguments)
     } else if name == "set" {
@@ -127,6 +126,20 @@ fn run_command(rt: &HostRuntime, name: &str, arguments: &ArgMatches<'_>) -> u8 {
     }
 }
 
+// Whether colors are for whom reads what is written: a terminal shows it, and the environment does
+// not say otherwise.
+fn shows_colors(rt: &HostRuntime, arguments: &ArgMatches<'_>) -> bool {
+    let refuses = match env::var(rt, "NO_COLOR") {
+        Ok(value) => !value.is_empty(),
+        Err(_) => false,
+    };
+    let is_dumb = match env::var(rt, "TERM") {
+        Ok(value) => value.as_str() == "dumb",
+        Err(_) => false,
+    };
+    goes_to_terminal(rt, arguments) && !refuses && !is_dumb
+}
+
 // Runs the operation of a command that is given these operands.
 fn run_operands(
     rt: &HostRuntime,
@@ -140,11 +153,32 @@ fn run_operands(
     let form = if name == "decode" {
         Form::Documents
     } else {
-        form_in(arguments)
+        form_in(arguments, name == "fault")
     };
-    let job = Job { operation, form };
+    let files = files_of(operation, words_in(arguments).unwrap_or(&[]));
+    let progress = progress_of(rt, name, files, arguments);
+    let Ok(texts) = watched_texts(rt, name, arguments) else {
+        return failure(rt, Halt::Memory);
+    };
+    let Ok(watch) = Watch::new(rt.alloc(), texts.len(), &progress) else {
+        return failure(rt, Halt::Memory);
+    };
+    let job = Job {
+        operation,
+        form,
+        watch: &watch,
+    };
+    let status = run_job(rt, name, job, arguments);
+    notice_missed(rt, &watch, &texts);
+    status
+}
+
+// Runs the job of a command.
+fn run_job(rt: &HostRuntime, name: &str, job: Job<'_, '_>, arguments: &ArgMatches<'_>) -> u8 {
     if name == "check" {
         check(rt, job, arguments)
+    } else if name == "fault" {
+        write_faults(rt, job, arguments)
     } else if name == "count" {
         count(rt, job, arguments)
     } else if name == "sort" {
@@ -156,22 +190,30 @@ fn run_operands(
     }
 }
 
-// The document of an operand, or the status after its fault is reported.
-fn document_of(rt: &HostRuntime, text: &str) -> Result<OwnedJsonb, u8>
-    ensures { IfOk result (λ owned. IsDocument (owned_bytes owned)) }
-{
-    match parse_line(rt.alloc(), text.as_bytes()) {
-        Ok(owned) => Ok(owned),
-        Err(Unanswered::Wrong(fault)) => {
-            let byte = fault.offset as u128 + 1;
-            let _ = eprintln!(rt;
-                "kohiblad: the operand is wrong at byte {byte}: {}",
-                fault.reason.name()
-            );
-            Err(MISUSE)
-        }
-        Err(Unanswered::OutOfMemory) => Err(failure(rt, Halt::Memory)),
+// The texts of the paths for which a notice helps where they lead to no value in any row, in the
+// order of the operation; none if the command is to be quiet.
+fn watched_texts<'a>(
+    rt: &HostRuntime,
+    name: &str,
+    arguments: &ArgMatches<'a>,
+) -> Result<Vec<&'a str>, AllocError> {
+    let mut texts = Vec::new(rt.alloc());
+    if is_quiet_in(arguments) {
+        return Ok(texts);
     }
+    if name == "get" || name == "select" || name == "filter" || name == "extract" {
+        texts.push(operand_in(arguments))?;
+    }
+    if name == "extract" {
+        let words = words_in(arguments).unwrap_or(&[]);
+        for text in words[..column_words(words)].iter().step_by(2) {
+            texts.push(*text)?;
+        }
+    }
+    if name == "range" || name == "sort" {
+        texts.extend_from_slice(arguments.get_strs("by").unwrap_or(&[]))?;
+    }
+    Ok(texts)
 }
 
 // Runs a command whose operand is a JSON text.
@@ -211,100 +253,6 @@ fn with_paths(rt: &HostRuntime, name: &str, arguments: &ArgMatches<'_>) -> u8 {
     run_operands(rt, name, Operands::Keys(&paths), arguments)
 }
 
-// Sorts the lines by their keys, in memory.
-fn write_in_order(rt: &HostRuntime, job: Job<'_>, arguments: &ArgMatches<'_>) -> u8 {
-    let stops = stops_in(arguments, true);
-    let mut kept = Vec::new(rt.alloc());
-    match run_files(rt, job, arguments, stops, &mut kept) {
-        Ok(summary) if summary.is_stopped => NOT_FOUND,
-        Ok(summary) => match write_sorted(rt, &kept, arrangement_in(arguments)) {
-            Ok(()) => run_status(Aim::Rows, Ok(summary)),
-            Err(halt) => failure(rt, halt),
-        },
-        Err(halt) => failure(rt, halt),
-    }
-}
-
-// Writes the lines that a run kept, sorted.
-fn write_sorted(rt: &HostRuntime, kept: &[u8], arrangement: Arrangement) -> Result<(), Halt> {
-    let alloc = rt.alloc();
-    let rows = sort_rows(alloc, kept, arrangement)?;
-    let Ok(mut writer) = BufWriter::with_capacity(alloc, BUFFER_LEN, io::writer(rt)) else {
-        return Err(Halt::Memory);
-    };
-    sort::write_rows(&mut writer, &rows)
-}
-
-// Merges files whose rows are sorted, or checks that those of standard input are.
-fn write_merged(rt: &HostRuntime, job: Job<'_>, arguments: &ArgMatches<'_>) -> u8 {
-    let names = words_in(arguments).unwrap_or(&[]);
-    if names.is_empty() {
-        return match buffered(rt, rt.reader()) {
-            Ok(reader) => merge_readers(rt, job, &mut [reader], &["-"]),
-            Err(halt) => failure(rt, halt),
-        };
-    }
-    if names.len() > MAX_MERGED {
-        return misuse(rt, "at most 64 files can be merged at a time");
-    }
-    match open_files(rt, names) {
-        Ok(mut readers) => merge_readers(rt, job, &mut readers, names),
-        Err(halt) => failure(rt, halt),
-    }
-}
-
-// The files of these names. One that cannot be opened is reported.
-fn open_files(rt: &HostRuntime, names: &[&str]) -> Result<Vec<BufReader<File>>, Halt> {
-    let mut readers = Vec::new(rt.alloc());
-    for name in names {
-        let reader = buffered(rt, open_file(rt, *name)?)?;
-        if readers.push(reader).is_err() {
-            return Err(Halt::Memory);
-        }
-    }
-    Ok(readers)
-}
-
-// Merges the rows of these readers, which have names.
-fn merge_readers<R: BufRead>(
-    rt: &HostRuntime,
-    job: Job<'_>,
-    readers: &mut [R],
-    names: &[&str],
-) -> u8 {
-    let alloc = rt.alloc();
-    let Ok(mut writer) = BufWriter::with_capacity(alloc, BUFFER_LEN, io::writer(rt)) else {
-        return failure(rt, Halt::Memory);
-    };
-    match merge::merge(alloc, &job, job.form, readers, &mut writer) {
-        Ok(rows) => {
-            let summary = Summary {
-                rows,
-                faults: 0,
-                is_stopped: false,
-            };
-            run_status(Aim::Rows, Ok(summary))
-        }
-        Err(MergeEnd::Halted(halt)) => failure(rt, halt),
-        Err(MergeEnd::Faulty(at)) => input_fault(rt, at, names),
-    }
-}
-
-// Reports the fault at which a merge ended.
-fn input_fault(rt: &HostRuntime, at: InputFault, names: &[&str]) -> u8 {
-    let name = match names.get(at.input) {
-        Some(name) => *name,
-        None => "-",
-    };
-    match fault_text(rt.alloc(), name, at.number, at.fault) {
-        Ok(report) => {
-            let _ = eprint!(rt; "{report}");
-            NOT_FOUND
-        }
-        Err(halt) => failure(rt, halt),
-    }
-}
-
 // Runs a command whose operand is a path.
 fn with_path(rt: &HostRuntime, name: &str, arguments: &ArgMatches<'_>) -> u8 {
     match path_in(rt, operand_in(arguments)) {
@@ -316,83 +264,12 @@ fn with_path(rt: &HostRuntime, name: &str, arguments: &ArgMatches<'_>) -> u8 {
     }
 }
 
-// An operand as a path, or the status after its fault is reported.
-fn path_in<'a>(rt: &HostRuntime, text: &'a str) -> Result<Vec<Selector<'a>>, u8> {
-    match read_path_text(rt.alloc(), text) {
-        Ok(Some(path)) => Ok(path),
-        Ok(None) => Err(misuse(rt, "the operand is not a path, such as '$.price'")),
-        Err(_) => Err(failure(rt, Halt::Memory)),
-    }
-}
-
 // Runs the command that counts what values are.
 fn with_surveyed(rt: &HostRuntime, arguments: &ArgMatches<'_>) -> u8 {
     match path_in(rt, operand_in(arguments)) {
         Ok(path) => write_survey(rt, &path, arguments),
         Err(status) => status,
     }
-}
-
-// Counts what the values are to which a path leads. After a wrong row at which the run stops
-// nothing is written.
-fn write_survey(rt: &HostRuntime, path: &[Selector<'_>], arguments: &ArgMatches<'_>) -> u8 {
-    let mut survey = Survey::new();
-    match survey_files(rt, path, arguments, &mut survey) {
-        Ok(summary) if summary.is_stopped => NOT_FOUND,
-        Ok(summary) => match survey_text(rt.alloc(), &survey) {
-            Ok(text) => match print!(rt; "{text}") {
-                Ok(()) => run_status(Aim::Rows, Ok(summary)),
-                Err(error) => failure(rt, halt_of_write(&error)),
-            },
-            Err(_) => failure(rt, Halt::Memory),
-        },
-        Err(halt) => failure(rt, halt),
-    }
-}
-
-// Counts the values of the rows of each file, or of standard input if none is named, up to a fault
-// at which the run ends.
-fn survey_files(
-    rt: &HostRuntime,
-    path: &[Selector<'_>],
-    arguments: &ArgMatches<'_>,
-    survey: &mut Survey,
-) -> Result<Summary, Halt> {
-    let mut total = Summary {
-        rows: 0,
-        faults: 0,
-        is_stopped: false,
-    };
-    let mut plan = Plan {
-        name: "-",
-        form: form_in(arguments),
-        stops_at_faults: stops_in(arguments, true),
-    };
-    let names = words_in(arguments).unwrap_or(&[]);
-    if names.is_empty() {
-        return survey_reader(rt, path, plan, rt.reader(), survey);
-    }
-    for name in names {
-        plan.name = name;
-        total = total.with(survey_reader(rt, path, plan, open_file(rt, *name)?, survey)?);
-        if total.is_stopped {
-            break;
-        }
-    }
-    Ok(total)
-}
-
-// Counts the values of the rows of a reader.
-fn survey_reader<R: Read + Drop>(
-    rt: &HostRuntime,
-    path: &[Selector<'_>],
-    plan: Plan<'_>,
-    reader: R,
-    survey: &mut Survey,
-) -> Result<Summary, Halt> {
-    let mut reader = buffered(rt, reader)?;
-    let mut errors = rt.stderr();
-    survey_rows(rt.alloc(), path, &plan, &mut reader, survey, &mut errors)
 }
 
 // Runs the command whose operands are a path without wildcards, ranges and filters, and a value.
@@ -446,29 +323,6 @@ fn with_columns(rt: &HostRuntime, name: &str, arguments: &ArgMatches<'_>) -> u8 
     run_operands(rt, name, Operands::Columns(&columns), arguments)
 }
 
-// Adds a path with its type, or returns the status after the fault of either is reported.
-fn push_column<'a>(
-    rt: &HostRuntime,
-    columns: &mut Vec<TypedPath<'a>>,
-    path: &'a str,
-    type_name: &str,
-) -> Result<(), u8> {
-    let path = path_in(rt, path)?;
-    let value_type = type_in(rt, type_name)?;
-    match columns.push(TypedPath { path, value_type }) {
-        Ok(()) => Ok(()),
-        Err(_) => Err(failure(rt, Halt::Memory)),
-    }
-}
-
-// The type of this name, or the status after its fault is reported.
-fn type_in(rt: &HostRuntime, type_name: &str) -> Result<LeastType, u8> {
-    match parse_type(type_name) {
-        Some(value_type) => Ok(value_type),
-        None => Err(misuse(rt, "the type is none, such as int64, text or 'decimal 2'")),
-    }
-}
-
 // Runs the command whose operands are the bounds of a range.
 fn with_bounds(rt: &HostRuntime, name: &str, arguments: &ArgMatches<'_>) -> u8 {
     let path = match deciding_path_in(rt, arguments) {
@@ -489,167 +343,5 @@ fn with_bounds(rt: &HostRuntime, name: &str, arguments: &ArgMatches<'_>) -> u8 {
             run_operands(rt, name, Operands::Range(range), arguments)
         }
         Err(status) => status,
-    }
-}
-
-// The path to the value that decides, which is the row itself if none is named.
-fn deciding_path_in<'a>(
-    rt: &HostRuntime,
-    arguments: &ArgMatches<'a>,
-) -> Result<Vec<Selector<'a>>, u8> {
-    match arguments.get_str("by") {
-        Some(text) => deciding_path(rt, text),
-        None => Ok(Vec::new(rt.alloc())),
-    }
-}
-
-// A path after `--by`, or the status after its fault is reported.
-fn deciding_path<'a>(rt: &HostRuntime, text: &'a str) -> Result<Vec<Selector<'a>>, u8> {
-    match read_path_text(rt.alloc(), text) {
-        Ok(Some(path)) => Ok(path),
-        Ok(None) => Err(misuse(rt, "a path after --by is none, such as '$.price'")),
-        Err(_) => Err(failure(rt, Halt::Memory)),
-    }
-}
-
-// Adds the steps of a path, or returns the status after its fault is reported.
-fn push_steps<'a>(
-    rt: &HostRuntime,
-    paths: &mut Vec<Vec<Step<'a>>>,
-    text: &'a str,
-) -> Result<(), u8> {
-    let steps = steps_in(rt, text)?;
-    match paths.push(steps) {
-        Ok(()) => Ok(()),
-        Err(_) => Err(failure(rt, Halt::Memory)),
-    }
-}
-
-// The steps of a path without wildcards, ranges and filters, or the status after its fault is
-// reported.
-fn steps_in<'a>(rt: &HostRuntime, text: &'a str) -> Result<Vec<Step<'a>>, u8> {
-    let path = path_in(rt, text)?;
-    match steps_of_path(rt.alloc(), &path) {
-        Ok(Some(steps)) => Ok(steps),
-        Ok(None) => {
-            let what = "the path may have no wildcards, ranges and filters";
-            Err(misuse(rt, what))
-        }
-        Err(_) => Err(failure(rt, Halt::Memory)),
-    }
-}
-
-// Reports all lines that are wrong.
-fn check(rt: &HostRuntime, job: Job<'_>, arguments: &ArgMatches<'_>) -> u8 {
-    let stops = stops_in(arguments, false);
-    let outcome = run_files(rt, job, arguments, stops, &mut io::sink());
-    ended(rt, Aim::Faults, outcome)
-}
-
-// Writes the rows of a job.
-fn write_rows(rt: &HostRuntime, job: Job<'_>, arguments: &ArgMatches<'_>) -> u8 {
-    let stops = stops_in(arguments, true);
-    let Ok(mut writer) = BufWriter::with_capacity(rt.alloc(), BUFFER_LEN, io::writer(rt)) else {
-        return failure(rt, Halt::Memory);
-    };
-    let outcome = run_files(rt, job, arguments, stops, &mut writer);
-    ended(rt, Aim::Rows, outcome)
-}
-
-// Counts the rows that a job gives. After a wrong row at which the run stops no number is written.
-fn count(rt: &HostRuntime, job: Job<'_>, arguments: &ArgMatches<'_>) -> u8 {
-    let stops = stops_in(arguments, true);
-    match run_files(rt, job, arguments, stops, &mut io::sink()) {
-        Ok(summary) if summary.is_stopped => NOT_FOUND,
-        Ok(summary) => match println!(rt; "{}", summary.rows) {
-            Ok(()) => run_status(Aim::Rows, Ok(summary)),
-            Err(error) => failure(rt, halt_of_write(&error)),
-        },
-        Err(halt) => failure(rt, halt),
-    }
-}
-
-// The status after a run, whose early end is reported.
-fn ended(rt: &HostRuntime, aim: Aim, outcome: Result<Summary, Halt>) -> u8
-    ensures { result ≡ run_status aim outcome }
-{
-    if let Err(halt) = outcome {
-        let _ = failure(rt, halt);
-    }
-    run_status(aim, outcome)
-}
-
-// Runs a job on the rows of each file, or of standard input if none is named, up to a fault at
-// which the run ends. A search for faults goes on with the next file after a row that is cut off.
-fn run_files<W: Write>(
-    rt: &HostRuntime,
-    job: Job<'_>,
-    arguments: &ArgMatches<'_>,
-    stops_at_faults: bool,
-    writer: &mut W,
-) -> Result<Summary, Halt> {
-    let mut total = Summary {
-        rows: 0,
-        faults: 0,
-        is_stopped: false,
-    };
-    let mut plan = Plan {
-        name: "-",
-        form: job.form,
-        stops_at_faults,
-    };
-    let goes_on = !stops_at_faults && matches!(job.operation, Operation::Check);
-    let names = files_of(job.operation, words_in(arguments).unwrap_or(&[]));
-    if names.is_empty() {
-        return run_reader(rt, job, plan, rt.reader(), writer);
-    }
-    for name in names {
-        plan.name = name;
-        total = total.with(run_reader(rt, job, plan, open_file(rt, *name)?, writer)?);
-        if total.is_stopped && !goes_on {
-            break;
-        }
-    }
-    Ok(total)
-}
-
-// The files among the words after an operand.
-fn files_of<'m, 'a>(operation: Operation<'_>, words: &'m [&'a str]) -> &'m [&'a str] {
-    match operation {
-        Operation::Remove(_) => &words[path_count(words)..],
-        Operation::Extract(_) => &words[column_words(words)..],
-        _ => words,
-    }
-}
-
-// Runs a job on the rows of a reader.
-fn run_reader<R: Read + Drop, W: Write>(
-    rt: &HostRuntime,
-    job: Job<'_>,
-    plan: Plan<'_>,
-    reader: R,
-    writer: &mut W,
-) -> Result<Summary, Halt> {
-    let mut reader = buffered(rt, reader)?;
-    let mut errors = rt.stderr();
-    run::run(rt.alloc(), &job, &plan, &mut reader, writer, &mut errors)
-}
-
-// A file, which is reported if it cannot be opened.
-fn open_file(rt: &HostRuntime, name: &str) -> Result<File, Halt> {
-    match File::open(rt, name) {
-        Ok(file) => Ok(file),
-        Err(_) => {
-            let _ = eprintln!(rt; "kohiblad: cannot open {name}");
-            Err(Halt::Read)
-        }
-    }
-}
-
-// A reader that reads many bytes at a time.
-fn buffered<R: Read + Drop>(rt: &HostRuntime, reader: R) -> Result<BufReader<R>, Halt> {
-    match BufReader::with_capacity(rt.alloc(), BUFFER_LEN, reader) {
-        Ok(reader) => Ok(reader),
-        Err(_) => Err(Halt::Memory),
     }
 }

@@ -182,6 +182,7 @@ fn next_head<L: LineWorker, R: BufRead>(
 const NOT_SORTED: LineFault = LineFault {
     offset: 0,
     reason: Reason::NotSorted,
+    expected: 0,
 };
 
 // A fault of a row as the end of a merge.

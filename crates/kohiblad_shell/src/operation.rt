@@ -12,17 +12,20 @@ ghost use Rattle.kohiblad_shell.specs.Words.{raw_text, row_key, row_rule, text_o
 ghost use Rattle.kohiblad_shell.specs.Words.{value_lines};
 
 use crate::extract::{TypedPath, csv_line};
+use crate::first::{first_value, has_value};
 use crate::input::Form;
 use crate::key::row_key;
 use crate::outcome::{LineFault, LineWorker, Reason, Unanswered};
+use crate::part_lines::Look;
 use crate::range::{ValueRange, is_in_range};
 use crate::removal::removed_row;
 use crate::row::{check_document, parse_line};
+use crate::show::shown_lines;
+use crate::watch::Watch;
 use jsonb::{Document, Error, Node, OwnedJsonb, RawJsonb};
 use jsonb_column::append_row;
 use jsonb_functions::{
-    Edit, Kept, Selector, Step, contains, edit_document, exists_path, merge_patch, pick, select,
-    select_first, strip_nulls,
+    Edit, Kept, Selector, Step, contains, edit_document, merge_patch, pick, select, strip_nulls,
 };
 use std::alloc::Global;
 
@@ -44,11 +47,13 @@ pub enum TextLayout {
     Pretty,
 }
 
-/// What a command does with each row, and in which form it reads rows and writes them.
+/// What a command does with each row, in which form it reads rows and writes them, and what sees
+/// their documents besides.
 #[derive(Clone, Copy)]
-pub struct Job<'a> {
+pub struct Job<'a, 'w> {
     pub operation: Operation<'a>,
     pub form: Form,
+    pub watch: &'w Watch<'w>,
 }
 
 /// What a command does with each row.
@@ -83,6 +88,8 @@ pub enum Operation<'a> {
     Sort(&'a [Vec<Selector<'a>>]),
     /// Writes the values at paths as a line of CSV. A row of which one is not of its type is wrong.
     Extract(&'a [TypedPath<'a>]),
+    /// Writes the bytes of the document, part by part.
+    Show(Look),
 }
 
 /// How a value is changed.
@@ -98,18 +105,20 @@ pub enum Change<'a> {
     StripNulls,
 }
 
-impl LineWorker for Job<'_> {
+impl LineWorker for Job<'_, '_> {
     ghost rule = { row_rule };
 
     fn answer(&self, alloc: Global, row: &[u8]) -> Result<Vec<u8>, Unanswered> {
         match self.form {
-            Form::Lines => {
-                let owned = parse_line(alloc, row)?;
+            Form::Lines(reading) => {
+                let owned = parse_line(alloc, row, reading)?;
                 let document = Document::new_unchecked(owned.as_bytes());
+                self.watch.see(self.operation, document);
                 row_lines(alloc, *self, row, document)
             }
             Form::Documents => {
                 let document = check_document(row)?;
+                self.watch.see(self.operation, document);
                 row_lines(alloc, *self, row, document)
             }
         }
@@ -119,7 +128,7 @@ impl LineWorker for Job<'_> {
 // The lines that a job writes for a row and its document, or why there are none.
 fn row_lines(
     alloc: Global,
-    job: Job<'_>,
+    job: Job<'_, '_>,
     row: &[u8],
     document: Document<'_>,
 ) -> Result<Vec<u8>, Unanswered>
@@ -130,12 +139,12 @@ fn row_lines(
     match job.operation {
         Operation::Check => Ok(Vec::new(alloc)),
         Operation::Canonical => Ok(canonical_row(alloc, form, document)?),
-        Operation::Get(path, style) => Ok(first_line(alloc, select_first(document, path), style)?),
+        Operation::Get(path, style) => Ok(first_line(alloc, first_value(document, path), style)?),
         Operation::Select(path, style) => {
             let nodes = select(alloc, document, path)?;
             Ok(all_lines(alloc, &nodes, style)?)
         }
-        Operation::Filter(path) => Ok(kept_row(alloc, form, row, exists_path(document, path))?),
+        Operation::Filter(path) => Ok(kept_row(alloc, form, row, has_value(document, path))?),
         Operation::Contains(part) => {
             let is_kept = contains(alloc, document, part)?;
             Ok(kept_row(alloc, form, row, is_kept)?)
@@ -151,6 +160,7 @@ fn row_lines(
         Operation::Key(paths) => Ok(key_line(alloc, document, paths)?),
         Operation::Sort(paths) => Ok(keyed_row(alloc, form, document, paths, row)?),
         Operation::Extract(columns) => typed_line(csv_line(alloc, document, columns)?),
+        Operation::Show(look) => Ok(shown_lines(alloc, document.as_bytes(), look)?),
     }
 }
 
@@ -160,10 +170,7 @@ fn typed_line(line: Option<Vec<u8>>) -> Result<Vec<u8>, Unanswered>
 {
     match line {
         Some(line) => Ok(line),
-        None => Err(Unanswered::Wrong(LineFault {
-            offset: 0,
-            reason: Reason::NotOfType,
-        })),
+        None => Err(Unanswered::Wrong(LineFault::plain(0, Reason::NotOfType))),
     }
 }
 
@@ -173,7 +180,7 @@ fn canonical_row(alloc: Global, form: Form, document: Document<'_>) -> Result<Ve
         (IsCanonicalRow form (document_tree document.entry)) result }
 {
     match form {
-        Form::Lines => text_line(document.to_string(alloc)?),
+        Form::Lines(_) => text_line(document.to_string(alloc)?),
         Form::Documents => made_row(alloc, form, document.to_canonical(alloc)?.as_bytes()),
     }
 }
@@ -184,7 +191,7 @@ pub fn made_row(alloc: Global, form: Form, made: &[u8]) -> Result<Vec<u8>, Error
     ensures memory { IfErr result (λ e. e ≡ Error.OutOfMemory) }
 {
     match form {
-        Form::Lines => text_line(RawJsonb::new(made).to_string(alloc)?),
+        Form::Lines(_) => text_line(RawJsonb::new(made).to_string(alloc)?),
         Form::Documents => framed_row(alloc, form, made),
     }
 }
@@ -225,9 +232,9 @@ fn framed_row(alloc: Global, form: Form, row: &[u8]) -> Result<Vec<u8>, Error>
     ensures ok { IfOk result (λ bytes. bytes.items ≡ framed form row.now) }
     ensures memory { IfErr result (λ e. e ≡ Error.OutOfMemory) }
 {
-    let mut bytes = Vec::new(alloc);
+    let mut bytes = Vec::with_capacity(alloc, row.len() + 8)?;
     match form {
-        Form::Lines => {
+        Form::Lines(_) => {
             bytes.extend_from_slice(row)?;
             bytes.push(b'\n')?;
         }

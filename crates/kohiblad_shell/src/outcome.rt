@@ -1,9 +1,10 @@
 //! What an input's row gives: rows, or a fault.
 
 ghost use Rattle.std.specs.Prelude.{◌≡◌, IfOk, IfErr, string_bytes};
-ghost use Rattle.kohiblad_shell.specs.Words.{IsAnswer, LineRule, OutOfMemory, fault_line};
-ghost use Rattle.kohiblad_shell.specs.Words.{is_cut, reason_name};
+ghost use Rattle.kohiblad_shell.specs.Words.{IsAnswer, LineRule, OutOfMemory, plain_fault};
+ghost use Rattle.kohiblad_shell.specs.Words.{fault_line, is_cut, reason_name, reason_text};
 
+use crate::expected::expected_text;
 use crate::halt::Halt;
 use std::alloc::{AllocError, Global};
 
@@ -63,6 +64,21 @@ pub struct LineFault {
     pub offset: usize,
     /// Why it is wrong there.
     pub reason: Reason,
+    /// What could have come there, as the sum of the library's classes; 0 if that is not said.
+    pub expected: u32,
+}
+
+impl LineFault {
+    /// A fault after so many bytes, of which is not said what could have come there.
+    pub fn plain(offset: usize, reason: Reason) -> LineFault
+        ensures { result ≡ plain_fault offset reason }
+    {
+        LineFault {
+            offset,
+            reason,
+            expected: 0,
+        }
+    }
 }
 
 /// Why a line has no answer.
@@ -93,12 +109,22 @@ pub trait LineWorker {
 }
 
 /// The line that reports a fault: the name of the input, the number of the line, that of the byte,
-/// both counted from 1, and the reason.
+/// both counted from 1, the reason, and what could have come there, if that is said.
 pub fn fault_text(alloc: Global, name: &str, number: u64, fault: LineFault) -> Result<String, Halt>
     ensures ok { IfOk result (λ text. string_bytes text ≡ fault_line name.now number fault) }
     ensures memory { IfErr result (λ e. e ≡ Halt.Memory) }
 {
     let byte = fault.offset as u128 + 1;
-    let reason = fault.reason.name();
+    let reason = reason_text(alloc, fault)?;
     Ok(format!(in alloc; "{name}:{number}:{byte}: {reason}\n")?)
+}
+
+// Why a line is wrong, and what could have come there, if that is said.
+#[tactic(auto, unfolding(crate::specs::Faults::reason_text))]
+fn reason_text(alloc: Global, fault: LineFault) -> Result<String, AllocError>
+    ensures { IfOk result (λ text. string_bytes text ≡ reason_text fault) }
+{
+    let reason = fault.reason.name();
+    let expected = expected_text(alloc, fault.expected)?;
+    format!(in alloc; "{reason}{expected}")
 }

@@ -3,8 +3,9 @@
 ghost use Rattle.std.specs.Prelude.{◌≡◌};
 ghost use Rattle.kohiblad_shell.specs.Words.{document_tree, is_in_range, is_tree_in, node_tree};
 
+use crate::first::first_value;
 use jsonb::{Document, Node};
-use jsonb_functions::{Selector, select_first};
+use jsonb_functions::Selector;
 
 /// The values from one up to before another, in the order of documents, of what a path leads to.
 #[derive(Clone, Copy)]
@@ -18,7 +19,7 @@ pub struct ValueRange<'a> {
 pub fn is_in_range(document: Document<'_>, range: ValueRange<'_>) -> bool
     ensures { result ≡ is_in_range range.entry (document_tree document.entry) }
 {
-    match select_first(document, range.path) {
+    match first_value(document, range.path) {
         Some(node) => is_node_in(node, range.from, range.to),
         None => false,
     }

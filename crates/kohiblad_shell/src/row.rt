@@ -1,15 +1,17 @@
 //! The document of a row, or why the row is wrong.
 
-ghost use Rattle.std.specs.Prelude.{◌≡◌, ◌↔◌, IfOk, IfErr, IsOk, chars};
-ghost use Rattle.kohiblad_shell.specs.Words.{IsDocument, IsJsonWithExponents, IsRefusedLine};
-ghost use Rattle.kohiblad_shell.specs.Words.{IsParsed};
-ghost use Rattle.kohiblad_shell.specs.Words.{IsDocumentWithin, IsNotJson, Wrong, bad_document};
-ghost use Rattle.kohiblad_shell.specs.Words.{document_bytes, line_reason, owned_bytes};
+ghost use Rattle.std.specs.Prelude.{◌≡◌, ◌↔◌, IfOk, IfErr, IfSome, IsOk, None, chars};
+ghost use Rattle.kohiblad_shell.specs.Words.{AreExpected, IsDocument, IsDocumentWithin};
+ghost use Rattle.kohiblad_shell.specs.Words.{IsFaultUnder, IsJsonUnder, IsNotJson};
+ghost use Rattle.kohiblad_shell.specs.Words.{IsParsed, IsRefusedLine, ParsesUnderWithin, Wrong};
+ghost use Rattle.kohiblad_shell.specs.Words.{bad_document, document_bytes, line_reason};
+ghost use Rattle.kohiblad_shell.specs.Words.{owned_bytes, plain_fault, result_bytes};
 ghost use Rattle.kohiblad_shell.specs.Words.{unanswered_of};
 
+use crate::input::Reading;
 use crate::outcome::{LineFault, Reason, Unanswered};
-use json_fault::{FaultReason, text_fault_with_exponents};
-use jsonb::{Document, Error, OwnedJsonb, ParseError};
+use json_fault::{Fault, FaultReason, text_expected, text_fault, text_fault_with_exponents};
+use jsonb::{Document, Error, Exponents, OwnedJsonb, ParseError};
 use simdutf8::compat;
 use std::alloc::Global;
 
@@ -29,46 +31,88 @@ impl From<Error> for Unanswered {
 
 // The line is wrong after so many bytes.
 fn wrong(offset: usize, reason: Reason) -> Unanswered
-    ensures { result ≡ Unanswered.Wrong (record { offset = offset; reason = reason }) }
+    ensures { result ≡ Unanswered.Wrong (plain_fault offset reason) }
 {
-    Unanswered::Wrong(LineFault { offset, reason })
+    Unanswered::Wrong(LineFault::plain(offset, reason))
 }
 
-/// The canonical document of the JSON text of a line, whose numbers may have exponents.
-pub fn parse_line(alloc: Global, line: &[u8]) -> Result<OwnedJsonb, Unanswered>
-    ensures row { IfOk result (λ row. IsParsed line.now (owned_bytes row)) }
+/// The canonical document of the JSON text of a line, which is read so.
+pub fn parse_line(alloc: Global, line: &[u8], reading: Reading) -> Result<OwnedJsonb, Unanswered>
+    ensures row { IfOk result (λ row. IsParsed reading.exponents line.now (owned_bytes row)) }
     ensures document { IfOk result (λ row. IsDocument (owned_bytes row)) }
-    ensures refused { IfErr result (IsRefusedLine line.now) }
+    ensures refused { IfErr result (IsRefusedLine reading line.now) }
 {
     match compat::from_utf8(line) {
-        Ok(text) => parse_text(alloc, text),
+        Ok(text) => parse_text(alloc, text, reading),
         Err(error) => Err(wrong(error.valid_up_to(), Reason::BadUtf8)),
     }
 }
 
 // The canonical document of a text.
-fn parse_text(alloc: Global, text: &str) -> Result<OwnedJsonb, Unanswered>
-    ensures row { IfOk result (λ row. IsParsed text.now (owned_bytes row)) }
+fn parse_text(alloc: Global, text: &str, reading: Reading) -> Result<OwnedJsonb, Unanswered>
+    ensures row { IfOk result (λ row. IsParsed reading.exponents text.now (owned_bytes row)) }
     ensures document { IfOk result (λ row. IsDocument (owned_bytes row)) }
-    ensures refused { IfErr result (IsRefusedLine text.now) }
+    ensures refused { IfErr result (IsRefusedLine reading text.now) }
 {
-    match OwnedJsonb::parse_with_exponents_within(alloc, text, MAX_ROW_DEPTH) {
+    match parse_under(alloc, text, reading.exponents) {
         Ok(row) => Ok(row),
         Err(ParseError::TooDeep) => Err(wrong(0, Reason::TooDeep)),
-        Err(ParseError::Refused(Error::InvalidJson)) => Err(fault_in(alloc, text)),
+        Err(ParseError::Refused(Error::InvalidJson)) => Err(fault_in(alloc, text, reading)),
         Err(ParseError::Refused(error)) => Err(Unanswered::from(error)),
     }
 }
 
-// Where a text is not JSON, and why.
-fn fault_in(alloc: Global, text: &str) -> Unanswered
-    requires { IsJsonWithExponents (chars text.now) → ⊥ }
-    ensures { IsNotJson text.now result }
+// The canonical document of a text under a rule for exponents.
+fn parse_under(alloc: Global, text: &str, exponents: Exponents) -> Result<OwnedJsonb, ParseError>
+    ensures value { ParsesUnderWithin exponents MAX_ROW_DEPTH text.now (result_bytes result) }
+    ensures document { IfOk result (λ row. IsDocument (owned_bytes row)) }
 {
-    match text_fault_with_exponents(alloc, text) {
-        Ok(Some(fault)) => wrong(fault.offset, reason_of(fault.reason)),
+    match exponents {
+        Exponents::Allowed => OwnedJsonb::parse_with_exponents_within(alloc, text, MAX_ROW_DEPTH),
+        Exponents::Forbidden => OwnedJsonb::parse_within(alloc, text, MAX_ROW_DEPTH),
+    }
+}
+
+// Where a text is not JSON, why, and what could have come there if that is asked for.
+fn fault_in(alloc: Global, text: &str, reading: Reading) -> Unanswered
+    requires { IsJsonUnder reading.exponents (chars text.now) → ⊥ }
+    ensures { IsNotJson reading text.now result }
+{
+    match fault_under(alloc, text, reading.exponents) {
+        Ok(Some(fault)) => match expected_in(alloc, text, reading) {
+            Ok(expected) => Unanswered::Wrong(LineFault {
+                offset: fault.offset,
+                reason: reason_of(fault.reason),
+                expected,
+            }),
+            Err(_) => Unanswered::OutOfMemory,
+        },
         Ok(None) => unreachable!(),
         Err(_) => Unanswered::OutOfMemory,
+    }
+}
+
+// What could have come where a text is not JSON, if that is asked for.
+fn expected_in(alloc: Global, text: &str, reading: Reading) -> Result<u32, Error>
+    ensures { IfOk result (AreExpected reading text.now) }
+{
+    if reading.is_explained {
+        text_expected(alloc, text, reading.exponents)
+    } else {
+        Ok(0)
+    }
+}
+
+// Where a text is not JSON under a rule for exponents; `None` if it is.
+fn fault_under(alloc: Global, text: &str, exponents: Exponents) -> Result<Option<Fault>, Error>
+    ensures none { IfOk result
+        (λ found. (found ≡ None) ↔ IsJsonUnder exponents (chars text.now)) }
+    ensures fault { IfOk result
+        (λ found. IfSome found (IsFaultUnder exponents (chars text.now))) }
+{
+    match exponents {
+        Exponents::Allowed => text_fault_with_exponents(alloc, text),
+        Exponents::Forbidden => text_fault(alloc, text),
     }
 }
 

@@ -3,7 +3,8 @@
 
 ghost use Rattle.std.specs.Prelude.{◌≡◌, ◌≤◌, ◌∷◌, [], Ok, IfOk, OnOk, OnErr, IfSome};
 ghost use Rattle.kohiblad_shell.specs.Words.{AnswersNext, Appends, AppendsPrefix, BeginsRun};
-ghost use Rattle.kohiblad_shell.specs.Words.{IsRun, Keeps, both, fault_line, row_count, stops_at};
+ghost use Rattle.kohiblad_shell.specs.Words.{IsRun, Keeps, both, fault_line, of_reports};
+ghost use Rattle.kohiblad_shell.specs.Words.{row_count, stops_at};
 
 use crate::halt::Halt;
 use crate::input::{Form, Found, read_row};
@@ -14,7 +15,7 @@ use std::io::{BufRead, Write};
 
 /// How a run names its input in reports, in which form its rows stand, and whether it ends at the
 /// first one that is wrong.
-#[derive(Clone, Copy, Debug)]
+#[derive(Clone, Copy)]
 pub struct Plan<'a> {
     pub name: &'a str,
     pub form: Form,
@@ -49,6 +50,17 @@ impl Summary {
             rows: self.rows.saturating_add(other.rows),
             faults: self.faults.saturating_add(other.faults),
             is_stopped: self.is_stopped || other.is_stopped,
+        }
+    }
+
+    /// The counts of a run whose rows are the reports of faults.
+    pub fn of_reports(self) -> Summary
+        ensures { result ≡ of_reports self }
+    {
+        Summary {
+            rows: self.faults,
+            faults: 0,
+            is_stopped: false,
         }
     }
 }
@@ -159,10 +171,7 @@ pub fn answer_next<L: LineWorker, R: BufRead>(
             Err(Unanswered::Wrong(fault)) => Ok(Answer::Wrong(fault)),
             Err(Unanswered::OutOfMemory) => Err(Halt::Memory),
         },
-        Found::Cut => Ok(Answer::Wrong(LineFault {
-            offset: row.len(),
-            reason: Reason::Cut,
-        })),
+        Found::Cut => Ok(Answer::Wrong(LineFault::plain(row.len(), Reason::Cut))),
     }
 }
 

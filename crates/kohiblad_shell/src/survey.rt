@@ -9,13 +9,14 @@ ghost use Rattle.kohiblad_shell.specs.Words.{number_count_lines, row_count_lines
 ghost use Rattle.kohiblad_shell.specs.Words.{scale_lines, survey_lines, time_count_lines};
 ghost use Rattle.kohiblad_shell.specs.Words.{with_document};
 
+use crate::first::first_value;
 use crate::halt::Halt;
 use crate::input::{Form, Found, read_row};
 use crate::outcome::{LineFault, Reason, Unanswered};
 use crate::row::{check_document, parse_line};
 use crate::run::{Plan, Summary, report_fault};
 use jsonb::Document;
-use jsonb_functions::{Selector, select_first};
+use jsonb_functions::Selector;
 use jsonb_typed::{Scales, Survey};
 use std::alloc::{AllocError, Global};
 use std::io::{self, BufRead, Write};
@@ -102,10 +103,7 @@ fn count_next<R: BufRead>(
             Err(Unanswered::Wrong(fault)) => Ok(Counted::Wrong(fault)),
             Err(Unanswered::OutOfMemory) => Err(Halt::Memory),
         },
-        Found::Cut => Ok(Counted::Wrong(LineFault {
-            offset: row.len(),
-            reason: Reason::Cut,
-        })),
+        Found::Cut => Ok(Counted::Wrong(LineFault::plain(row.len(), Reason::Cut))),
     }
 }
 
@@ -123,11 +121,11 @@ fn count_row(
     ensures kept { OnErr result (survey.new ≡ survey.old) }
 {
     match form {
-        Form::Lines => {
-            let owned = parse_line(alloc, row)?;
-            survey.add_member(select_first(Document::new_unchecked(owned.as_bytes()), path));
+        Form::Lines(reading) => {
+            let owned = parse_line(alloc, row, reading)?;
+            survey.add_member(first_value(Document::new_unchecked(owned.as_bytes()), path));
         }
-        Form::Documents => survey.add_member(select_first(check_document(row)?, path)),
+        Form::Documents => survey.add_member(first_value(check_document(row)?, path)),
     }
     Ok(())
 }

@@ -13,7 +13,7 @@ loop-path-preserved c = λ whole.
     let low : c.loop-path.path-index < length c.args.paths.now = omega arith in
     items
     ∙ ap₂ (λ (a b : List ℕ). a ++ b) (c.loop-path.invariant old)
-    (ap path_key (c.select_first.ensures
+    (ap path_key (c.first_value.ensures
     ∙ ap (λ p. first_tree (selected p t)) c.deref.ensures.value))
     ∙ sym (path_keys-more c.args.paths.now c.loop-path.path-index c.path-item.result t low
     c.path-item.is)

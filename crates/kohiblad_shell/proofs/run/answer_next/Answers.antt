@@ -17,5 +17,5 @@ returns-in-Err-Wrong g c =
 pub returns-in-Cut : goal.returns-in-Cut
 returns-in-Cut g c =
     let same : c.len.result ≡ length c.read_row.new.row.items = grind (arith, common_steps) in
-    rw same
+    rw (c.plain.ensures, same)
     (next_cut _ _ _ _ c.read_row.new.row.items (rw c.in-Cut.is at c.in_ok-read_row.ensures.ok))

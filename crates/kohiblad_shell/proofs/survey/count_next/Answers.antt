@@ -21,7 +21,7 @@ returns-in-Err-Wrong-clause-ok g c =
 pub returns-in-Cut-clause-ok : goal.returns-in-Cut-clause-ok
 returns-in-Cut-clause-ok g c =
     let same : c.len.result ≡ length c.read_row.new.row.items = grind (arith, common_steps) in
-    rw same
+    rw (c.plain.ensures, same)
     (counts_cut c.args.path.now c.args.form _ _ c.read_row.new.row.items c.args.survey.now
     c.args.survey.now
     (rw c.in-Cut.is at c.in_ok-read_row.ensures.ok) refl)

@@ -1,0 +1,344 @@
+//! What stands for the values of a document where its bytes are shown.
+
+ghost use Rattle.std.specs.Prelude.{◌≡◌, ◌≢◌, ◌+◌, ◌++◌, ◌<◌, ◌^◌, IfErr, IfOk, OnOk, chars};
+ghost use Rattle.std.specs.Prelude.{encode_utf8_all, flat_map, length, string_bytes};
+ghost use Rattle.kohiblad_shell.specs.Words.{HoldsNoScalar, container_name, escape, escaped_unit};
+ghost use Rattle.kohiblad_shell.specs.Words.{extension_kind, extension_name, grouped_digits};
+ghost use Rattle.kohiblad_shell.specs.Words.{grouped_number, header_at, header_title, is_escaped};
+ghost use Rattle.kohiblad_shell.specs.Words.{kind_before, old_mark};
+ghost use Rattle.kohiblad_shell.specs.Words.{is_old_form, node_tree, opaque_name, quoted_key};
+ghost use Rattle.kohiblad_shell.specs.Words.{scalar_document, scalar_text, scalar_title, shortened};
+ghost use Rattle.kohiblad_shell.specs.Words.{shown_char};
+ghost use Rattle.kohiblad_shell.specs.Words.{shown_text, tree_in, value_title};
+
+use jsonb::{Document, Error, Node, RawJsonb, read_header};
+use jsonb_codec::constants::{
+    ARRAY_CONTAINER_TAG, CONTAINER_TAG, EXTENSION_BINARY, EXTENSION_DATE, EXTENSION_INTERVAL,
+    EXTENSION_TAG, EXTENSION_TIMESTAMP, EXTENSION_TIMESTAMP_TZ, SCALAR_CONTAINER_TAG, STRING_TAG,
+};
+use std::alloc::Global;
+
+// How many characters of a text are shown.
+const MAX_SHOWN: usize = 60;
+
+/// An entry: its type and its payload.
+#[derive(Clone, Copy)]
+pub struct Value<'a> {
+    pub type_code: u32,
+    pub payload: &'a [u8],
+}
+
+/// What stands for a value: of an array or object its kind with the number of items or members, of
+/// a scalar its JSON text, after the kind of an extension value. A payload in an older form is
+/// named as such. `OutOfMemory` is the only error.
+pub fn value_title(alloc: Global, value: Value<'_>) -> Result<Vec<u8>, Error>
+    requires short { value.type_code ≢ CONTAINER_TAG
+        → value.type_code + length value.payload.now < 2 ^ 32 }
+    ensures ok { IfOk result
+        (λ title. title.items ≡ value_title value.entry.type_code value.entry.payload.now) }
+    ensures memory { IfErr result (λ e. e ≡ Error.OutOfMemory) }
+{
+    if value.type_code == CONTAINER_TAG {
+        container_title(alloc, value.payload)
+    } else {
+        scalar_title(alloc, value)
+    }
+}
+
+// What an array or object is called, with its count.
+fn container_title(alloc: Global, bytes: &[u8]) -> Result<Vec<u8>, Error>
+    ensures ok { IfOk result (λ title. title.items ≡ header_title (header_at bytes.now 0)) }
+    ensures memory { IfErr result (λ e. e ≡ Error.OutOfMemory) }
+{
+    let mut title = Vec::new(alloc);
+    if let Ok((kind, count)) = read_header(bytes, 0) {
+        title.extend_from_slice(container_name(kind).as_bytes())?;
+        title.extend_from_slice(&grouped_number(alloc, count)?)?;
+    }
+    Ok(title)
+}
+
+// What an array or object is called.
+fn container_name(kind: u32) -> &'static str
+    ensures { result.now ≡ container_name kind }
+{
+    if kind == ARRAY_CONTAINER_TAG {
+        "array of "
+    } else {
+        "object of "
+    }
+}
+
+/// A number in decimal digits, with a comma before each three that others precede. `OutOfMemory` is
+/// the only error.
+pub fn grouped_number(alloc: Global, number: usize) -> Result<Vec<u8>, Error>
+    ensures ok { IfOk result (λ text. text.items ≡ grouped_number number) }
+    ensures memory { IfErr result (λ e. e ≡ Error.OutOfMemory) }
+{
+    let digits = format!(in alloc; "{number}")?;
+    grouped_digits(alloc, digits.as_bytes())
+}
+
+// Digits with a comma before each three that others precede.
+fn grouped_digits(alloc: Global, digits: &[u8]) -> Result<Vec<u8>, Error>
+    ensures ok { IfOk result (λ text. text.items ≡ grouped_digits digits.now) }
+    ensures memory { IfErr result (λ e. e ≡ Error.OutOfMemory) }
+{
+    let mut text = Vec::new(alloc);
+    let mut left = digits;
+    while let [digit, rest @ ..] = left {
+        text.push(*digit)?;
+        if !rest.is_empty() && rest.len() % 3 == 0 {
+            text.push(b',')?;
+        }
+        left = rest;
+    }
+    Ok(text)
+}
+
+// The text of a scalar, after the kind of an extension value and before a mark of an older form.
+fn scalar_title(alloc: Global, value: Value<'_>) -> Result<Vec<u8>, Error>
+    requires { value.type_code + length value.payload.now < 2 ^ 32 }
+    ensures ok { IfOk result
+        (λ title. title.items ≡ scalar_title value.entry.type_code value.entry.payload.now) }
+    ensures memory { IfErr result (λ e. e ≡ Error.OutOfMemory) }
+{
+    let mut title = Vec::new(alloc);
+    push_kind(alloc, &mut title, value)?;
+    push_text(alloc, &mut title, value)?;
+    push_old_mark(alloc, &mut title, value)?;
+    Ok(title)
+}
+
+// Appends the kind of an extension value.
+fn push_kind(alloc: Global, title: &mut Vec<u8>, value: Value<'_>) -> Result<(), Error>
+    ensures ok { OnOk result (title.new.items
+        ≡ title.old.items ++ kind_before value.entry.type_code value.entry.payload.now) }
+    ensures memory { IfErr result (λ e. e ≡ Error.OutOfMemory) }
+{
+    if value.type_code == EXTENSION_TAG {
+        push_extension_kind(alloc, title, value.payload)
+    } else {
+        Ok(())
+    }
+}
+
+// Appends the text of a scalar.
+fn push_text(alloc: Global, title: &mut Vec<u8>, value: Value<'_>) -> Result<(), Error>
+    requires { value.type_code + length value.payload.now < 2 ^ 32 }
+    ensures ok { OnOk result (title.new.items
+        ≡ title.old.items ++ scalar_text value.entry.type_code value.entry.payload.now) }
+    ensures memory { IfErr result (λ e. e ≡ Error.OutOfMemory) }
+{
+    let bytes = scalar_document(alloc, value)?;
+    let text = RawJsonb::new(&bytes).to_string(alloc)?;
+    title.extend_from_slice(shown_text(alloc, &text)?.as_bytes())?;
+    Ok(())
+}
+
+// Appends the mark of an older form.
+fn push_old_mark(alloc: Global, title: &mut Vec<u8>, value: Value<'_>) -> Result<(), Error>
+    requires { value.type_code + length value.payload.now < 2 ^ 32 }
+    ensures ok { OnOk result (title.new.items
+        ≡ title.old.items ++ old_mark value.entry.type_code value.entry.payload.now) }
+    ensures memory { IfErr result (λ e. e ≡ Error.OutOfMemory) }
+{
+    let bytes = scalar_document(alloc, value)?;
+    if is_old_form(&bytes, value.payload.len()) {
+        title.extend_from_slice(b" (old form)")?;
+    }
+    Ok(())
+}
+
+/// A key as a JSON text. `OutOfMemory` is the only error.
+pub fn quoted_key(alloc: Global, key: &[u8]) -> Result<Vec<u8>, Error>
+    requires { length key.now < 2 ^ 31 }
+    ensures ok { IfOk result (λ text. text.items ≡ quoted_key key.now) }
+    ensures memory { IfErr result (λ e. e ≡ Error.OutOfMemory) }
+{
+    let value = Value {
+        type_code: STRING_TAG,
+        payload: key,
+    };
+    let mut text = Vec::new(alloc);
+    push_text(alloc, &mut text, value)?;
+    Ok(text)
+}
+
+// The document of a scalar.
+#[tactic(auto, unfolding(jsonb_codec::specs::WordBytes::word))]
+fn scalar_document(alloc: Global, value: Value<'_>) -> Result<Vec<u8>, Error>
+    requires { value.type_code + length value.payload.now < 2 ^ 32 }
+    ensures ok { IfOk result
+        (λ bytes. bytes.items ≡ scalar_document value.entry.type_code value.entry.payload.now) }
+    ensures memory { IfErr result (λ e. e ≡ Error.OutOfMemory) }
+{
+    let mut bytes = Vec::new(alloc);
+    bytes.extend_from_slice(&SCALAR_CONTAINER_TAG.to_be_bytes())?;
+    let word = value.type_code + value.payload.len() as u32;
+    bytes.extend_from_slice(&word.to_be_bytes())?;
+    bytes.extend_from_slice(value.payload)?;
+    Ok(bytes)
+}
+
+// Whether the value of a document has a payload of another length than the one that is written for
+// it, as older forms have.
+fn is_old_form(bytes: &[u8], len: usize) -> bool
+    ensures { result ≡ is_old_form (tree_in bytes.now) len }
+{
+    match Document::new(bytes) {
+        Some(document) => is_rewritten(document.value(), len),
+        None => false,
+    }
+}
+
+// Whether the payload that is written for a number or an extension value has another length.
+fn is_rewritten(value: Node<'_>, len: usize) -> bool
+    requires { HoldsNoScalar value }
+    ensures { result ≡ is_old_form (node_tree value.entry) len }
+{
+    match value {
+        Node::Number(number) => number.as_number().compact_len() != len,
+        Node::Extension(extension) => extension.as_extension_value().compact_len() != len,
+        _ => false,
+    }
+}
+
+// Appends the kind of an extension value, which the first byte of its payload names.
+fn push_extension_kind(alloc: Global, title: &mut Vec<u8>, payload: &[u8]) -> Result<(), Error>
+    ensures ok { OnOk result (title.new.items ≡ title.old.items ++ extension_kind payload.now) }
+    ensures memory { IfErr result (λ e. e ≡ Error.OutOfMemory) }
+{
+    if let [tag, ..] = payload {
+        title.extend_from_slice(&extension_name(alloc, *tag)?)?;
+        title.push(b' ')?;
+    }
+    Ok(())
+}
+
+// The kind of extension values with this tag.
+fn extension_name(alloc: Global, tag: u8) -> Result<Vec<u8>, Error>
+    ensures ok { IfOk result (λ name. name.items ≡ extension_name tag) }
+    ensures memory { IfErr result (λ e. e ≡ Error.OutOfMemory) }
+{
+    let name = match tag {
+        EXTENSION_BINARY => "binary",
+        EXTENSION_DATE => "date",
+        EXTENSION_TIMESTAMP => "timestamp",
+        EXTENSION_TIMESTAMP_TZ => "timestamp with time zone",
+        EXTENSION_INTERVAL => "interval",
+        _ => return opaque_name(alloc, tag),
+    };
+    Ok(String::from_str(alloc, name)?.into_bytes())
+}
+
+// The kind of opaque values with this tag.
+fn opaque_name(alloc: Global, tag: u8) -> Result<Vec<u8>, Error>
+    ensures ok { IfOk result (λ name. name.items ≡ opaque_name tag) }
+    ensures memory { IfErr result (λ e. e ≡ Error.OutOfMemory) }
+{
+    let byte = [tag];
+    let mut name = Vec::new(alloc);
+    name.extend_from_slice(b"opaque, tag ")?;
+    name.extend_from_slice(hex::encode(alloc, byte.as_slice())?.as_bytes())?;
+    Ok(name)
+}
+
+// The text with escapes for what a terminal might take for a command, cut where it is long.
+fn shown_text(alloc: Global, text: &str) -> Result<String, Error>
+    ensures ok { IfOk result (λ shown. string_bytes shown ≡ shown_text text.now) }
+    ensures memory { IfErr result (λ e. e ≡ Error.OutOfMemory) }
+{
+    let escaped = shown_chars(alloc, text)?;
+    shortened(alloc, &escaped)
+}
+
+// The text of these characters; of more than are shown the first ones and an ellipsis.
+fn shortened(alloc: Global, characters: &[char]) -> Result<String, Error>
+    ensures ok { IfOk result
+        (λ text. string_bytes text ≡ encode_utf8_all (shortened characters.now)) }
+    ensures memory { IfErr result (λ e. e ≡ Error.OutOfMemory) }
+{
+    if characters.len() <= MAX_SHOWN {
+        return text_of_chars(alloc, characters);
+    }
+    let mut text = text_of_chars(alloc, &characters[..MAX_SHOWN - 1])?;
+    text.push('…')?;
+    Ok(text)
+}
+
+// The characters of a text, with escapes.
+fn shown_chars(alloc: Global, text: &str) -> Result<Vec<char>, Error>
+    ensures ok { IfOk result (λ shown. shown.items ≡ flat_map shown_char (chars text.now)) }
+    ensures memory { IfErr result (λ e. e ≡ Error.OutOfMemory) }
+{
+    let mut shown = Vec::new(alloc);
+    for character in text.chars() {
+        if is_escaped(character) {
+            push_escape(alloc, &mut shown, character)?;
+        } else {
+            shown.push(character)?;
+        }
+    }
+    Ok(shown)
+}
+
+// The text of these characters.
+fn text_of_chars(alloc: Global, characters: &[char]) -> Result<String, Error>
+    ensures ok { IfOk result (λ text. string_bytes text ≡ encode_utf8_all characters.now) }
+    ensures memory { IfErr result (λ e. e ≡ Error.OutOfMemory) }
+{
+    let mut text = String::new(alloc);
+    for character in characters {
+        text.push(*character)?;
+    }
+    Ok(text)
+}
+
+// Whether a character has an escape: a control character, a separator of lines, and one that
+// changes the direction or the look of the text around it.
+fn is_escaped(character: char) -> bool
+    ensures { result ≡ is_escaped character }
+{
+    matches!(
+        character as u32,
+        0..=31
+            | 127..=159
+            | 0xAD
+            | 0x61C
+            | 0x180E
+            | 0x200B..=0x200F
+            | 0x2028..=0x202E
+            | 0x2060..=0x206F
+            | 0xFEFF
+            | 0xE0000..=0xE0FFF
+    )
+}
+
+// Appends the escape of a character, as JSON has it: one unit of UTF-16, or two.
+fn push_escape(alloc: Global, shown: &mut Vec<char>, character: char) -> Result<(), Error>
+    ensures ok { OnOk result (shown.new.items ≡ shown.old.items ++ escape character) }
+    ensures memory { IfErr result (λ e. e ≡ Error.OutOfMemory) }
+{
+    let code = character as u32;
+    if code < 0x10000 {
+        return push_unit(alloc, shown, code);
+    }
+    push_unit(alloc, shown, 0xD800 + (code - 0x10000) / 1024)?;
+    push_unit(alloc, shown, 0xDC00 + code % 1024)
+}
+
+// Appends the escape of a unit of UTF-16: `\u` and four hexadecimal digits.
+fn push_unit(alloc: Global, shown: &mut Vec<char>, unit: u32) -> Result<(), Error>
+    ensures ok { OnOk result (shown.new.items ≡ shown.old.items ++ escaped_unit unit) }
+    ensures memory { IfErr result (λ e. e ≡ Error.OutOfMemory) }
+{
+    let bytes = unit.to_be_bytes();
+    let digits = hex::encode(alloc, &bytes[2..])?;
+    shown.push('\\')?;
+    shown.push('u')?;
+    for digit in digits.as_bytes() {
+        shown.push(char::from(*digit))?;
+    }
+    Ok(())
+}
