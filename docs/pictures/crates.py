@@ -9,9 +9,10 @@ PLACES = {
     "jsonb_column": (1, 4, "green"), "jsonb_probe": (2, 4, "plain"),
     "typed_vector": (3.1, 4, "green"), "jsonb_functions": (4.4, 4, "green"),
     "json_fault": (5.5, 4, "green"), "kohiblad_shell": (0.5, 6, "blue"),
-    "jsonb_rows": (2.55, 5, "plain"), "jsonb_typed": (3.6, 5, "green"),
-    "tests_of_calls": (4.7, 5, "plain"), "jsonb_column_cli": (1.5, 6, "blue"),
-    "kohiblad": (5, 6, "violet"),
+    "jsonb_typed_file": (2.8, 6, "green"), "jsonb_rows": (2.55, 5, "plain"),
+    "jsonb_typed": (3.6, 5, "green"),
+    "tests_of_calls": (4.7, 5, "plain"), "jsonb_column_cli": (1.75, 6, "blue"),
+    "kohiblad": (5.5, 7, "violet"),
 }
 KINDS = [("green", "library"), ("blue", "program"), ("violet", "library for C"),
          ("plain", "tests and small callers"), ("amber", "bindings: tested, not proved")]
@@ -76,7 +77,8 @@ def draw(read):
     drawing.text(bindings - 35, TOP - 40, "Python, SQLite, PostgreSQL, Rust", "small dim")
     for name, (column, row, color) in PLACES.items():
         kit = found[name][1]
-        drawing.box(middle(column) - WIDTH / 2, top(row), WIDTH, HEIGHT, color)
+        wide = max(WIDTH, 6 * len(" ".join(kit)) + 12)
+        drawing.box(middle(column) - wide / 2, top(row), wide, HEIGHT, color)
         drawing.text(middle(column), top(row) + (20 if kit else 27), name, "mono")
         if kit:
             drawing.text(middle(column), top(row) + 36, " ".join(kit), "small dim")
