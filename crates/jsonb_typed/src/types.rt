@@ -25,6 +25,7 @@ impl ColumnType for Int64 {
         0
     }
 
+    #[inline(always)]
     fn value_of(&self, member: Node<'_>) -> Option<i64> {
         i64::try_from(number_at(member, 0, self.fit)?).ok()
     }
@@ -45,6 +46,7 @@ impl ColumnType for UInt64 {
         0
     }
 
+    #[inline(always)]
     fn value_of(&self, member: Node<'_>) -> Option<u64> {
         u64::try_from(number_at(member, 0, self.fit)?).ok()
     }
@@ -66,6 +68,7 @@ impl ColumnType for Decimal {
         0
     }
 
+    #[inline(always)]
     fn value_of(&self, member: Node<'_>) -> Option<i128> {
         number_at(member, self.scale, self.fit)
     }
@@ -200,6 +203,7 @@ impl ColumnType for Nothing {
 }
 
 // The value of a number without its point, written with this many digits after it.
+#[inline(always)]
 fn number_at(member: Node<'_>, scale: u8, fit: Fit) -> Option<i128>
     requires { HoldsNoScalar member }
     ensures { (v : ℤ) → FitsSigned w128 v

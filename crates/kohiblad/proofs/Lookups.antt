@@ -129,21 +129,18 @@ places_of (Ok found) = Ok (option_map (λ (f : FoundValue). f.entry) found)
 places_of (Err e) = Err e
 
 -- what is found, given the result of the call
-module _ (answers : List ℕ → Bool → Type 0) (name given bytes viewed : List ℕ)
-    (named : given ≡ name) (same : viewed ≡ bytes)
-    (imply : (key : List ℕ) (b : Bool) → answers key b → b ≡ is_name given key)
+module _ (answers : List ℕ → Bool → Type 0) (name bytes viewed : List ℕ) (same : viewed ≡ bytes)
+    (imply : (key : List ℕ) (b : Bool) → answers key b → b ≡ is_name name key)
     (reads : ℕ) where
   looked_up : (r : Result (Option FoundValue) Error)
-      → LooksUpBytes answers (length given) viewed (lookup.found_view r) reads
+      → LooksUpBytes answers (length name) viewed (lookup.found_view r) reads
       → LooksUpBytes (λ key b. b ≡ is_name name key) (length name) bytes (lookup.found_view r) reads
   looked_up r looks_up =
       subst (λ (b : List ℕ). LooksUpBytes
       (λ key b. b ≡ is_name name key) (length name) b (lookup.found_view r) reads) same
-      (subst (λ (n : List ℕ). LooksUpBytes
-      (λ key b. b ≡ is_name n key) (length n) viewed (lookup.found_view r) reads) named
       (LooksUpBytes-weaker answers
-      (λ key b. b ≡ is_name given key) imply (length given) viewed
-      (lookup.found_view r) reads looks_up))
+      (λ key b. b ≡ is_name name key) imply (length name) viewed
+      (lookup.found_view r) reads looks_up)
 
   place_by : (f : FoundValue) (n pair : ℕ)
       → count_under bytes OBJECT_CONTAINER_TAG ≡ Ok (Some n) → pair < n → reads ≡ n + pair + 2
@@ -169,7 +166,7 @@ module _ (answers : List ℕ → Bool → Type 0) (name given bytes viewed : Lis
   place_of (Err e) looks_up place = refl
 
   pub place_found : (r : Result (Option FoundValue) Error)
-      → LooksUpBytes answers (length given) viewed (lookup.found_view r) reads
+      → LooksUpBytes answers (length name) viewed (lookup.found_view r) reads
       → IfOk r (λ o. IfSome o
       (λ f. IsPlaceOf viewed (lookup.count_in_header viewed) (reads - 2) f.entry))
       → IsPlaceFound name bytes (places_of r)

@@ -1,8 +1,9 @@
 //! The places of members in rows, and what is read there.
 
-ghost use Rattle.std.specs.Prelude.{◌≡◌, ◌∷◌, ◌⊎◌, ◌+◌, ◌≤◌, [], IfErr, IfSome, List, MatchOption};
-ghost use Rattle.std.specs.Prelude.{drop, length, nat_le, take};
+ghost use Rattle.std.specs.Prelude.{◌≡◌, ◌∷◌, ◌⊎◌, ◌+◌, ◌≤◌, [], IfErr, IfOk, IfSome, List};
+ghost use Rattle.std.specs.Prelude.{MatchOption, drop, length, nat_le, take};
 ghost use Rattle.typed_vector.specs.Cells.{Cell};
+ghost use Rattle.jsonb_typed.specs.Words.{HoldsNoScalar};
 ghost use Rattle.kohiblad.specs.Located.{IsCellRead, IsPlaceOf, each_of};
 ghost use Rattle.kohiblad.specs.Words.{Tree};
 ghost use Rattle.kohiblad.specs.declared.places.KohibladPlace.{KohibladPlace};
@@ -47,6 +48,7 @@ impl<'a> Places<'a> {
     }
 
     /// The next place. `None` if there is none left.
+    #[inline(always)]
     #[tactic(auto, using(crate::proofs::LocatedLaws::next_place))]
     pub fn next(&mut self) -> Option<KohibladPlace>
         ensures { MatchOption result ((self.old ≡ []) × (self.new ≡ []))
@@ -79,6 +81,7 @@ impl<'a> Places<'a> {
 }
 
 // The places after so many.
+#[inline(always)]
 fn places_after(places: &[KohibladPlace], passed: usize) -> &[KohibladPlace]
     ensures { result.now ≡ drop passed places.entry.now }
 {
@@ -87,9 +90,11 @@ fn places_after(places: &[KohibladPlace], passed: usize) -> &[KohibladPlace]
 
 /// The member of a row at its place, if it is a scalar; or the state of the row. At any other place
 /// it is some scalar, none, or a state.
+#[inline(always)]
 pub fn member_at<'a>(bytes: &'a [u8], place: KohibladPlace) -> Result<Option<Node<'a>>, u8>
     ensures cell { (cell : Cell Tree) → IsPlaceOf bytes.entry.now cell place
         → IsCellRead cell result }
+    ensures scalar { IfOk result (λ member. IfSome member HoldsNoScalar) }
     ensures state { IfErr result (λ state. (state ≡ 3) ⊎ (state ≡ 4)) }
 {
     match place.status {
@@ -103,6 +108,7 @@ pub fn member_at<'a>(bytes: &'a [u8], place: KohibladPlace) -> Result<Option<Nod
 }
 
 // The payload at a place. `None` if it is not inside the bytes.
+#[inline(always)]
 fn payload_at<'a>(bytes: &'a [u8], place: KohibladPlace) -> Option<&'a [u8]>
     ensures { MatchOption result (place.offset + place.length ≤ length bytes.entry.now → ⊥)
         (λ payload. payload.now ≡ take place.length (drop place.offset bytes.entry.now)) }

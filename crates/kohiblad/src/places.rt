@@ -230,9 +230,18 @@ pub fn place_of_key(bytes: &[u8], name: &[u8]) -> Result<Option<Entry>, Error>
         → IsValuePlace bytes.now t name.now result }
     ensures inside { IsInside bytes.now result }
 {
-    let Ok(name) = basic::from_utf8(name) else {
-        return Err(Error::InvalidUtf8);
-    };
+    match basic::from_utf8(name) {
+        Ok(name) => place_of_name(bytes, name),
+        Err(_) => Err(Error::InvalidUtf8),
+    }
+}
+
+/// The position of the value of a key, whose name is a text. `None` if there is none.
+pub fn place_of_name(bytes: &[u8], name: &str) -> Result<Option<Entry>, Error>
+    ensures place { IsPlaceFound name.now bytes.now result }
+    ensures document { (t : Tree) → Doc bytes.now t → IsValuePlace bytes.now t name.now result }
+    ensures inside { IsInside bytes.now result }
+{
     let mut reads = Reads::new();
     let object = RawJsonb::new(bytes);
     match object.find_object_value_counted(name, |wanted, key| wanted == key, &mut reads)? {

@@ -69,6 +69,7 @@ fn put_places<T: ColumnType>(
 }
 
 // What is written for the member at a place: its value, or the blank one, and the state of its row.
+#[inline(always)]
 #[tactic(auto, using(crate::proofs::LocatedLaws::taken_member, crate::proofs::LocatedLaws::taken_state))]
 fn take_place<T: ColumnType>(
     bytes: &[u8],

@@ -1,7 +1,7 @@
 //! The calls that take the members of rows as texts.
 
 ghost use Rattle.std.specs.Prelude.{◌≡◌, ◌≤◌, ◌∷◌, ◌++◌, [], ℕ, Err, List, IfErr, IfOk, OnOk};
-ghost use Rattle.std.specs.Prelude.{MatchOption, length, option_map};
+ghost use Rattle.std.specs.Prelude.{IfSome, MatchOption, length, option_map};
 ghost use Rattle.std.specs.List.{AllZip};
 ghost use Rattle.jsonb_typed.specs.Words.{HoldsNoScalar, IsText, member_cell};
 ghost use Rattle.kohiblad.specs.OverRows.{OverRows};
@@ -15,13 +15,13 @@ use crate::answer::{NO_ROOM, code};
 use crate::row_paths::steps_of;
 use crate::rows::Rows;
 use crate::taking::{
-    ABSENT, KohibladTaken, Reading, Source, VALUE, not_taken, state_of, state_of_bytes,
-    taken_answer,
+    ABSENT, KohibladTaken, Reading, Source, VALUE, not_taken, opened_member, state_of,
+    state_of_bytes, taken_answer,
 };
 use crate::unchecked_rows::unchecked_member;
 use jsonb::{Error, Node, SortKey};
 use jsonb_functions::Step;
-use jsonb_typed::{binary_of, member_of, opened};
+use jsonb_typed::binary_of;
 use std::alloc::Global;
 
 /// Takes the members of rows at the end of a path as texts, and copies them to `out`, one after
@@ -319,7 +319,7 @@ fn take_text<'a>(
         (result.0.now, result.1) }
 {
     match SortKey::within(row, depth) {
-        SortKey::Document(document) => take_member_text(member_of(document, path), bytes_type),
+        SortKey::Document(document) => take_member_text(opened_member(document, path), bytes_type),
         SortKey::Other(bytes) => (&[], state_of_bytes(bytes)),
     }
 }
@@ -342,13 +342,13 @@ fn take_unchecked_text<'a>(
 
 /// The bytes of a row with this member, and the state of the row.
 pub fn take_member_text<'a>(member: Option<Node<'a>>, bytes_type: BytesType) -> (&'a [u8], u8)
+    requires { IfSome member HoldsNoScalar }
     ensures { IsTakenCell (IsBytes bytes_type) []
         (member_cell (option_map node_tree member.entry)) (result.0.now, result.1) }
 {
     let Some(member) = member else {
         return (&[], ABSENT);
     };
-    let member = opened(member);
     match bytes_of(member, bytes_type) {
         Some(bytes) => (bytes, VALUE),
         None => (&[], state_of(member)),

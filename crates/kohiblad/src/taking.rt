@@ -1,18 +1,19 @@
 //! The members of rows as values of one type, written to the caller's buffers.
 
-ghost use Rattle.std.specs.Prelude.{◌≡◌, ◌≤◌, ℕ, List, length, map, nat_le, option_map};
+ghost use Rattle.std.specs.Prelude.{◌≡◌, ◌≤◌, ℕ, IfSome, List, length, map, nat_le, option_map};
+ghost use Rattle.jsonb_functions.specs.Found.{found_at};
 ghost use Rattle.jsonb_typed.specs.Words.{HoldsNoScalar, member_cell};
 ghost use Rattle.kohiblad.specs.Taking.{AreRowsPut, AreRowsTaken, AreTaken, HoldsScalars};
 ghost use Rattle.kohiblad.specs.Taking.{IsReadRow, IsTakenCell, IsTakenRow, IsTakenUnchecked};
 ghost use Rattle.kohiblad.specs.Taking.{bytes_state, first_unfit, fit_of, not_taken};
 ghost use Rattle.kohiblad.specs.Taking.{taken_answer, tree_state, unfit_count};
-ghost use Rattle.kohiblad.specs.Words.{meaning_within, node_tree};
+ghost use Rattle.kohiblad.specs.Words.{document_tree, meaning_within, node_tree};
 
 use crate::answer::{NO_ROOM, OK, code};
 use crate::row_paths::steps_of;
 use crate::rows::Rows;
 use crate::unchecked_rows::unchecked_member;
-use jsonb::{Error, Node, SortKey};
+use jsonb::{Document, Error, Node, SortKey};
 use jsonb_functions::Step;
 use jsonb_typed::{ColumnType, Fit, member_of, opened};
 use std::alloc::Global;
@@ -200,6 +201,7 @@ fn put_rows<T: ColumnType>(
 }
 
 // What is written for a row: its value, or the blank one, and its state.
+#[inline(always)]
 fn read_row<T: ColumnType>(
     row: &[u8],
     path: &[Step<'_>],
@@ -227,12 +229,27 @@ fn take_row<T: ColumnType>(
     ensures { IsTakenRow (T.stands column_type.now) blank depth path.now row.now result }
 {
     match SortKey::within(row, depth) {
-        SortKey::Document(document) => take_member(member_of(document, path), column_type, blank),
+        SortKey::Document(document) => {
+            take_member(opened_member(document, path), column_type, blank)
+        }
         SortKey::Other(bytes) => (blank, state_of_bytes(bytes)),
     }
 }
 
+/// The member of a document at the end of a path, as it is opened.
+pub fn opened_member<'a>(document: Document<'a>, path: &[Step<'_>]) -> Option<Node<'a>>
+    ensures member { option_map node_tree result
+        ≡ found_at path.now (document_tree document.entry) }
+    ensures opened { IfSome result HoldsNoScalar }
+{
+    match member_of(document, path) {
+        Some(member) => Some(opened(member)),
+        None => None,
+    }
+}
+
 // The same for a row that is not checked.
+#[inline(always)]
 #[tactic(auto, using(crate::proofs::UncheckedLaws::taken_member, crate::proofs::UncheckedLaws::taken_state))]
 fn take_unchecked<T: ColumnType>(
     row: &[u8],
@@ -250,18 +267,19 @@ fn take_unchecked<T: ColumnType>(
 }
 
 /// What is written for a row with this member.
+#[inline(always)]
 pub fn take_member<T: ColumnType>(
     member: Option<Node<'_>>,
     column_type: &T,
     blank: T::Value,
 ) -> (T::Value, u8)
+    requires { IfSome member HoldsNoScalar }
     ensures { IsTakenCell (T.stands column_type.now) blank
         (member_cell (option_map node_tree member.entry)) result }
 {
     let Some(member) = member else {
         return (blank, ABSENT);
     };
-    let member = opened(member);
     match column_type.value_of(member) {
         Some(value) => (value, VALUE),
         None => (blank, state_of(member)),
@@ -269,6 +287,7 @@ pub fn take_member<T: ColumnType>(
 }
 
 /// The state of a row whose member has no value.
+#[inline(always)]
 pub fn state_of(member: Node<'_>) -> u8
     requires { HoldsNoScalar member }
     ensures { result ≡ tree_state (node_tree member.entry) }

@@ -2,13 +2,14 @@
 
 ghost use Rattle.std.specs.Prelude.{◌≡◌, ◌≢◌, ◌⊎◌, [], IfErr, IfOk, IfSome, IsOkAnd, None, Ok};
 ghost use Rattle.std.specs.Prelude.{Some, option_map};
-ghost use Rattle.jsonb_codec.specs.declared.constants.TheConstants.{CONTAINER_TAG};
+ghost use Rattle.jsonb_codec.specs.declared.constants.TheConstants.{CONTAINER_TAG, NUMBER_TAG};
 ghost use Rattle.jsonb_functions.specs.Found.{found_at};
 ghost use Rattle.jsonb_functions.specs.PathPlaces.{HoldsFound, IsPlaceWithin};
+ghost use Rattle.jsonb_typed.specs.Words.{HoldsNoScalar};
 ghost use Rattle.kohiblad.specs.UncheckedRows.{IsReadAs};
 ghost use Rattle.kohiblad.specs.Words.{Doc, IsPayloadOf, Tree, node_tree};
 
-use crate::places::place_of_key;
+use crate::places::place_of_name;
 use crate::taking::{NO_DOCUMENT, UNFIT};
 use jsonb::layer::Entry;
 use jsonb::{Error, ExtensionItem, Node, NumberItem};
@@ -21,8 +22,10 @@ use simdutf8::basic;
 /// The member of a row at the end of a path, if it is a scalar; or the state of the row. `Ok(None)`
 /// if the row has no such member, or no bytes. Of any other bytes than a document it is some
 /// scalar, none, or a state.
+#[inline(always)]
 pub fn unchecked_member<'a>(row: &'a [u8], path: &[Step<'_>]) -> Result<Option<Node<'a>>, u8>
     ensures document { (t : Tree) → Doc row.entry.now t → IsReadAs (found_at path.now t) result }
+    ensures scalar { IfOk result (λ member. IfSome member HoldsNoScalar) }
     ensures empty { row.entry.now ≡ [] → result ≡ Ok None }
     ensures state { IfErr result (λ state. (state ≡ 3) ⊎ (state ≡ 4)) }
 {
@@ -37,6 +40,7 @@ pub fn unchecked_member<'a>(row: &'a [u8], path: &[Step<'_>]) -> Result<Option<N
 }
 
 // The position of the member at the end of a path.
+#[inline(always)]
 fn member_place(row: &[u8], path: &[Step<'_>]) -> Result<Option<Entry>, Error>
     ensures document { (t : Tree) → Doc row.now t
         → IsOkAnd result (λ found. HoldsFound row.now found (found_at path.now t)) }
@@ -47,7 +51,7 @@ fn member_place(row: &[u8], path: &[Step<'_>]) -> Result<Option<Entry>, Error>
     };
     match step {
         // A look-up of one key takes less time than a walk over all of them.
-        Step::Key(name) => place_of_key(row, name.as_bytes()),
+        Step::Key(name) => place_of_name(row, name),
         _ => path_end(row, path),
     }
 }
@@ -66,9 +70,11 @@ fn path_end(row: &[u8], path: &[Step<'_>]) -> Result<Option<Entry>, Error>
 }
 
 /// The scalar of an entry with this type and payload, or the state of its row.
+#[inline(always)]
 pub fn scalar_at<'a>(type_code: u32, payload: &'a [u8]) -> Result<Option<Node<'a>>, u8>
     ensures entry { (t : Tree) → IsPayloadOf type_code payload.entry.now t
         → IsReadAs (Some t) result }
+    ensures scalar { IfOk result (λ member. IfSome member HoldsNoScalar) }
     ensures state { IfErr result (λ state. (state ≡ 3) ⊎ (state ≡ 4)) }
 {
     if type_code == CONTAINER_TAG {
@@ -81,19 +87,37 @@ pub fn scalar_at<'a>(type_code: u32, payload: &'a [u8]) -> Result<Option<Node<'a
 }
 
 // The scalar with this type and payload. `None` if there is none.
-#[tactic(auto, using(crate::proofs::ScalarReads::null_read, crate::proofs::ScalarReads::true_read, crate::proofs::ScalarReads::false_read, crate::proofs::ScalarReads::number_read, crate::proofs::ScalarReads::some_number, crate::proofs::ScalarReads::text_read, crate::proofs::ScalarReads::some_text, crate::proofs::ScalarReads::extension_read, crate::proofs::ScalarReads::some_extension, crate::proofs::ScalarReads::tagged))]
+#[inline(always)]
+#[tactic(auto, using(crate::proofs::ScalarReads::number_read, crate::proofs::ScalarReads::some_number))]
 fn scalar_of<'a>(type_code: u32, payload: &'a [u8]) -> Option<Node<'a>>
-    ensures { (t : Tree) → type_code ≢ CONTAINER_TAG → IsPayloadOf type_code payload.entry.now t
-        → option_map node_tree result ≡ Some t }
+    ensures means { (t : Tree) → type_code ≢ CONTAINER_TAG
+        → IsPayloadOf type_code payload.entry.now t → option_map node_tree result ≡ Some t }
+    ensures scalar { IfSome result HoldsNoScalar }
+{
+    // Most members that are taken are numbers. The others are out of line, so that a number is not
+    // copied from one frame to another with room for all of them.
+    if type_code != NUMBER_TAG {
+        return other_scalar(type_code, payload);
+    }
+    match NumberItem::from_bytes(payload) {
+        Ok(number) => Some(Node::Number(number)),
+        Err(_) => None,
+    }
+}
+
+// The scalar with this type, which is not that of numbers, and this payload. `None` if there is
+// none.
+#[inline(never)]
+#[tactic(auto, using(crate::proofs::ScalarReads::null_read, crate::proofs::ScalarReads::true_read, crate::proofs::ScalarReads::false_read, crate::proofs::ScalarReads::text_read, crate::proofs::ScalarReads::some_text, crate::proofs::ScalarReads::extension_read, crate::proofs::ScalarReads::some_extension, crate::proofs::ScalarReads::tagged))]
+fn other_scalar<'a>(type_code: u32, payload: &'a [u8]) -> Option<Node<'a>>
+    ensures means { (t : Tree) → type_code ≢ CONTAINER_TAG → type_code ≢ NUMBER_TAG
+        → IsPayloadOf type_code payload.entry.now t → option_map node_tree result ≡ Some t }
+    ensures scalar { IfSome result HoldsNoScalar }
 {
     match type_code {
         NULL_TAG => Some(Node::Null),
         FALSE_TAG => Some(Node::Boolean(false)),
         TRUE_TAG => Some(Node::Boolean(true)),
-        NUMBER_TAG => match NumberItem::from_bytes(payload) {
-            Ok(number) => Some(Node::Number(number)),
-            Err(_) => None,
-        },
         STRING_TAG => match basic::from_utf8(payload) {
             Ok(text) => Some(Node::String(text)),
             Err(_) => None,
