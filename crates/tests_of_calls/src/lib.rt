@@ -37,6 +37,8 @@ mod sets;
 #[cfg(test)]
 mod texts;
 #[cfg(test)]
+mod typed_rest;
+#[cfg(test)]
 mod typed_zones;
 #[cfg(test)]
 mod zones;
