@@ -53,6 +53,9 @@ LINE_DEPTH = constant(f"{TOP}/crates/jsonb_cli/src/command.rt", "MAX_WORD_DEPTH"
 ROW_DEPTH = constant(f"{TOP}/crates/jsonb_column_cli/src/answer.rt", "MAX_ROW_DEPTH")
 TEXT_DEPTH = constant(f"{TOP}/crates/jsonb_column_cli/src/answer.rt", "MAX_TEXT_DEPTH")
 WITHOUT_MEMORY = sum("Global" not in it.signature for _, it in exports_for_c())
+# The statuses for C that are neither 0 nor the number of an error of the library.
+OTHER_STATUSES = len(re.findall(r"^abbrev pub \w+ : ℕ$",
+                                text_of(f"{TOP}/crates/kohiblad/specs/Status.antt"), re.M))
 KEYS = "tests/lines/jsonb_probe/comparable-keys.in"
 NEIGHBOURS = commands(KEYS, "cmp")
 ALIKE = r"(?:middle|last) of \d+ numbered"
@@ -83,6 +86,9 @@ PAGES = {
     "docs/CONFORMANCE.md": [
         (r"on ([\d,]+) byte strings", lines("tests/lines/jsonb_probe/reader_faults.in") // 2),
         (r"an array or object nested deeper than ([\d,]*\d)", LINE_DEPTH),
+    ],
+    "docs/GLOSSARY.md": [
+        (r"or one of ([\d,]+) more", OTHER_STATUSES),
     ],
     "docs/COLUMN.md": [
         (r"text that nests deeper than ([\d,]+) is refused", TEXT_DEPTH),
