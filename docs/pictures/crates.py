@@ -8,10 +8,10 @@ PLACES = {
     "jsonb_comparable": (4.05, 3, "green"), "jsonb_cli": (0, 4, "blue"),
     "jsonb_column": (1, 4, "green"), "jsonb_probe": (2, 4, "plain"),
     "typed_vector": (3.1, 4, "green"), "jsonb_functions": (4.4, 4, "green"),
-    "json_fault": (5.5, 4, "green"), "kohiblad_shell": (0.5, 6, "blue"),
+    "json_fault": (5.5, 5, "green"), "kohiblad_shell": (0.5, 6, "blue"),
     "jsonb_typed_file": (2.8, 6, "green"), "jsonb_rows": (2.55, 5, "plain"),
     "jsonb_typed": (3.6, 5, "green"),
-    "tests_of_calls": (4.7, 5, "plain"), "jsonb_column_cli": (1.75, 6, "blue"),
+    "tests_of_calls": (4.1, 7, "plain"), "jsonb_column_cli": (1.75, 6, "blue"),
     "kohiblad": (5.5, 7, "violet"),
 }
 KINDS = [("green", "library"), ("blue", "program"), ("violet", "library for C"),

@@ -25,8 +25,3 @@ pub use file::TypedFile;
 pub use places::{ColumnPlaces, SectionPlace, column_places};
 pub use types::{StoredType, split_type, type_bytes};
 pub use write::{ColumnPlan, write_file};
-
-#[cfg(test)]
-mod tests;
-#[cfg(test)]
-mod write_tests;

@@ -37,8 +37,12 @@ mod sets;
 #[cfg(test)]
 mod texts;
 #[cfg(test)]
+mod typed_files;
+#[cfg(test)]
 mod typed_rest;
 #[cfg(test)]
 mod typed_zones;
+#[cfg(test)]
+mod written_files;
 #[cfg(test)]
 mod zones;

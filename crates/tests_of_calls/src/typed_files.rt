@@ -1,6 +1,8 @@
 // A file of two rows and two columns, written by hand as the format says.
-use crate::{FileError, SectionPlace, StoredType, StoredValue, TypedFile, column_places};
 use jsonb::Number;
+use jsonb_typed_file::{
+    FileError, SectionPlace, StoredType, StoredValue, TypedFile, column_places,
+};
 use std::alloc::{AllocError, Global};
 use std::test::Fail;
 

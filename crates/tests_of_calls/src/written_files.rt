@@ -1,9 +1,9 @@
 // Files of a few rows.
-use crate::{ColumnPlan, StoredType, StoredValue, TypedFile, WriteError, write_file};
 use jsonb::{
     Date, Decimal64, Encoder, ExtensionValue, Interval, Number, OwnedJsonb, Timestamp, TimestampTz,
     Value,
 };
+use jsonb_typed_file::{ColumnPlan, StoredType, StoredValue, TypedFile, WriteError, write_file};
 use std::alloc::Global;
 use std::collections::BTreeMap;
 use std::test::Fail;
