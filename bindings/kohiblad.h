@@ -50,8 +50,9 @@
  * fewer bytes for each level (these were measured and rounded up, so that 1,000 levels need 258 KB
  * in kohiblad_check):
  *
- *     256 bytes: check, is_canonical, build_array, build_object, exists, object_keys, top_keys,
- *                get_path, path_in, check_typed_file
+ *     256 bytes: check, is_canonical, build_array, build_object, exists, exists_any, exists_all,
+ *                object_keys, top_keys, get_path, path_in, survey, locate, take_int64, take_text,
+ *                check_typed_file
  *     320 bytes: print, print_at, pretty, pretty_at, key, key_cut, member_key, compare, sort,
  *                array_intersection, array_overlap
  *     448 bytes: canonical, index_keys
@@ -59,10 +60,11 @@
  *     768 bytes: pick, array_distinct, array_except
  *     896 bytes: strip_nulls, select_within
  *
- * kohiblad_edit and kohiblad_concat take KOHIBLAD_EDIT_LEVEL_STACK bytes for each level of their
- * result, and so do kohiblad_build_typed_file and kohiblad_typed_row for each level of a row. That
- * of an edit may nest as deep as the path is long and the value nests together, also where these
- * are within the depth; that of kohiblad_concat may nest one level deeper than that.
+ * The other calls that take members need no more than take_int64 and take_text. kohiblad_edit and
+ * kohiblad_concat take KOHIBLAD_EDIT_LEVEL_STACK bytes for each level of their result, and so do
+ * kohiblad_build_typed_file and kohiblad_typed_row for each level of a row. That of an edit may
+ * nest as deep as the path is long and the value nests together, also where these are within the
+ * depth; that of kohiblad_concat may nest one level deeper than that.
  * kohiblad_merge_patch takes KOHIBLAD_PATCH_LEVEL_STACK bytes for each level. parse, text_fault and
  * text_expected do not recurse, but the depth given to kohiblad_parse is also how deep its document
  * nests. The calls without a depth do not recurse.

@@ -56,6 +56,7 @@ static uint32_t put_pretty(bool is_at, uint8_t *text, size_t text_room, size_t *
 
 static void *work(void *unused) {
     size_t length = 0;
+    const size_t row[] = { 0, in_size };
     uint32_t status = 0;
     if (!strcmp(name, "check"))
         status = !kohiblad_check(in, in_size, levels);
@@ -229,18 +230,36 @@ static void *work(void *unused) {
     } else if (!strcmp(name, "index_keys"))
         status = kohiblad_index_keys(in, in_size, levels, NULL, 0, &length);
     else if (!strcmp(name, "build_array"))
-        status = kohiblad_build_array(in, in_size, (size_t[]){ 0, in_size }, 2, levels, out,
-                                      room, &length);
+        status = kohiblad_build_array(in, in_size, row, 2, levels, out, room, &length);
     else if (!strcmp(name, "build_object"))
         status = kohiblad_build_object(in, in_size, (size_t[]){ 0, 0, in_size }, 3, levels, out,
                                        room, &length);
-    else if (!strcmp(name, "check_typed_file"))
+    else if (!strcmp(name, "exists_any"))
+        status = kohiblad_exists_any(in, in_size, one_name, sizeof one_name, levels).status;
+    else if (!strcmp(name, "exists_all"))
+        status = kohiblad_exists_all(in, in_size, one_name, sizeof one_name, levels).status;
+    else if (!strcmp(name, "survey"))
+        status = kohiblad_survey(in, in_size, row, 2, one_name, sizeof one_name, levels).status;
+    else if (!strcmp(name, "locate")) {
+        struct kohiblad_place place;
+        status = kohiblad_locate(in, in_size, row, 2, one_name, sizeof one_name, levels, &place, 1);
+    } else if (!strcmp(name, "take_int64")) {
+        int64_t value;
+        uint8_t state;
+        status = kohiblad_take_int64(in, in_size, row, 2, one_name, sizeof one_name, levels,
+                                     KOHIBLAD_BY_VALUE, &value, 1, &state, 1).status;
+    } else if (!strcmp(name, "take_text")) {
+        size_t text_offsets[2];
+        uint8_t state;
+        status = kohiblad_take_text(in, in_size, row, 2, one_name, sizeof one_name, levels, out,
+                                    room, &length, text_offsets, 2, &state, 1).status;
+    } else if (!strcmp(name, "check_typed_file"))
         status = kohiblad_check_typed_file(file, file_size, levels).status;
     else if (!strcmp(name, "typed_row"))
         status = kohiblad_typed_row(file, file_size, 0, levels, out, room, &length);
     else if (!strcmp(name, "build_typed_file"))
-        status = kohiblad_build_typed_file(in, in_size, (size_t[]){ 0, in_size }, 2, no_names, 4,
-                                           NULL, 0, levels, out, room, &length);
+        status = kohiblad_build_typed_file(in, in_size, row, 2, no_names, 4, NULL, 0, levels, out,
+                                           room, &length);
     else if (!strcmp(name, "parse"))
         status = kohiblad_parse(in, in_size, levels, 0, out, room, &length);
     else if (!strcmp(name, "text_fault"))
