@@ -102,14 +102,14 @@ const NAMES: Operand = Operand {
 const COMMANDS: [CommandRow; 22] = [
     CommandRow {
         name: "check",
-        about: "Report the lines that are not JSON",
+        about: "Report the rows that are not JSON",
         operand: None,
         value: None,
         options: &[CommandOption::Documents, CommandOption::OnError],
     },
     CommandRow {
         name: "fault",
-        about: "Write where lines are wrong, why, and what could have come there",
+        about: "Write where rows are wrong, why, and what could have come there",
         operand: None,
         value: None,
         options: &[CommandOption::Documents],
@@ -123,7 +123,7 @@ const COMMANDS: [CommandRow; 22] = [
     },
     CommandRow {
         name: "get",
-        about: "Write the first value to which a path leads, of each line",
+        about: "Write the first value to which a path leads, of each row",
         operand: Some(PATH),
         value: None,
         options: &[
@@ -135,7 +135,7 @@ const COMMANDS: [CommandRow; 22] = [
     },
     CommandRow {
         name: "select",
-        about: "Write all values to which a path leads, of each line",
+        about: "Write all values to which a path leads, of each row",
         operand: Some(PATH),
         value: None,
         options: &[
@@ -147,7 +147,7 @@ const COMMANDS: [CommandRow; 22] = [
     },
     CommandRow {
         name: "filter",
-        about: "Write the lines in which a path leads to some value",
+        about: "Write the rows in which a path leads to some value",
         operand: Some(CONDITION),
         value: None,
         options: &[
@@ -158,7 +158,7 @@ const COMMANDS: [CommandRow; 22] = [
     },
     CommandRow {
         name: "count",
-        about: "Count the lines in which a path leads to some value",
+        about: "Count the rows in which a path leads to some value",
         operand: Some(CONDITION),
         value: None,
         options: &[CommandOption::Documents, CommandOption::OnError],
@@ -187,49 +187,49 @@ const COMMANDS: [CommandRow; 22] = [
     },
     CommandRow {
         name: "contains",
-        about: "Write the lines whose value contains another",
+        about: "Write the rows whose value contains another",
         operand: Some(VALUE),
         value: None,
         options: &[CommandOption::Documents, CommandOption::OnError],
     },
     CommandRow {
         name: "set",
-        about: "Put a value at the end of a path, of each line",
+        about: "Put a value at the end of a path, of each row",
         operand: Some(STEPS),
         value: Some(VALUE),
         options: &[CommandOption::Documents, CommandOption::OnError],
     },
     CommandRow {
         name: "remove",
-        about: "Remove what is at the ends of paths, of each line",
+        about: "Remove what is at the ends of paths, of each row",
         operand: Some(REMOVED),
         value: None,
         options: &[CommandOption::Documents, CommandOption::OnError],
     },
     CommandRow {
         name: "merge",
-        about: "Apply a JSON Merge Patch to each line",
+        about: "Apply a JSON Merge Patch to each row",
         operand: Some(VALUE),
         value: None,
         options: &[CommandOption::Documents, CommandOption::OnError],
     },
     CommandRow {
         name: "pick",
-        about: "Keep the members of these names, of each line",
+        about: "Keep the members of these names, of each row",
         operand: Some(NAMES),
         value: None,
         options: &[CommandOption::Documents, CommandOption::OnError],
     },
     CommandRow {
         name: "strip-nulls",
-        about: "Remove members that are null, of each line",
+        about: "Remove members that are null, of each row",
         operand: None,
         value: None,
         options: &[CommandOption::Documents, CommandOption::OnError],
     },
     CommandRow {
         name: "range",
-        about: "Write the lines whose value lies from one up to before another",
+        about: "Write the rows whose value lies from one up to before another",
         operand: Some(FROM),
         value: Some(TO),
         options: &[
@@ -241,7 +241,7 @@ const COMMANDS: [CommandRow; 22] = [
     },
     CommandRow {
         name: "sort",
-        about: "Write the lines in the order of their values",
+        about: "Write the rows in the order of their values",
         operand: None,
         value: None,
         options: &[
@@ -257,14 +257,14 @@ const COMMANDS: [CommandRow; 22] = [
     },
     CommandRow {
         name: "merge-sorted",
-        about: "Write the lines of sorted files in the order of their values",
+        about: "Write the rows of sorted files in the order of their values",
         operand: None,
         value: None,
         options: &[CommandOption::Documents, CommandOption::By],
     },
     CommandRow {
         name: "keys",
-        about: "Write the comparable key of each line in hexadecimal",
+        about: "Write the comparable key of each row in hexadecimal",
         operand: None,
         value: None,
         options: &[
@@ -275,7 +275,7 @@ const COMMANDS: [CommandRow; 22] = [
     },
     CommandRow {
         name: "encode",
-        about: "Write the document of each line as a column stores it",
+        about: "Write the document of each row as a column stores it",
         operand: None,
         value: None,
         options: &[CommandOption::OnError],
@@ -301,17 +301,17 @@ const COMMANDS: [CommandRow; 22] = [
     },
 ];
 
-// How much memory the lines of a sort may take if nothing is said.
+// How much memory the rows of a sort may take if nothing is said.
 const USUAL_MEMORY: u64 = 1 << 30;
 
-const AFTER_HELP: &str = "The status is 0 if some line gave a row, 1 if none did or a line is \
+const AFTER_HELP: &str = "The status is 0 if some row gave a result, 1 if none did or a row is \
     wrong, 2 for wrong use, and 3 if a device or memory failed.";
 
 /// The commands, as `clap` parses them.
 pub fn commands<'a>(alloc: Global) -> Result<Command<'a>, AllocError> {
     let mut program = Command::new(alloc, "kohiblad")
         .version("0.8.0")
-        .about("Files of JSON lines, row by row")
+        .about("Query and change files of JSON lines and of documents, row by row")
         .after_help(AFTER_HELP)
         .subcommand_required(true)
         .arg_required_else_help(true);
@@ -379,7 +379,7 @@ fn option_of<'a>(alloc: Global, option: CommandOption) -> Arg<'a> {
             flag(
                 alloc,
                 "unique",
-                "Write only the first of several lines that are equal",
+                "Write only the first of several rows that are equal",
             )
         }
         CommandOption::Memory => memory(alloc),
@@ -419,20 +419,20 @@ fn deciding_path<'a>(alloc: Global) -> Arg<'a> {
     Arg::new(alloc, "by").long("by").value_name("PATH")
 }
 
-// How much memory lines and their keys may take.
+// How much memory rows and their keys may take.
 fn memory<'a>(alloc: Global) -> Arg<'a> {
     Arg::new(alloc, "memory")
         .long("memory")
         .value_name("SIZE")
-        .help("About how many bytes the lines may take in memory, as 500M or 2G; 1G if none")
+        .help("About how many bytes the rows may take in memory, as 500M or 2G; 1G if none")
 }
 
-// Where lines go that do not fit.
+// Where rows go that do not fit.
 fn temporary_directory<'a>(alloc: Global) -> Arg<'a> {
     Arg::new(alloc, "temporary-directory")
         .long("temporary-directory")
         .value_name("DIR")
-        .help("Where lines go that do not fit in memory; $TMPDIR or /tmp if none")
+        .help("Where rows go that do not fit in memory; $TMPDIR or /tmp if none")
 }
 
 // Where rows are written.
@@ -444,7 +444,7 @@ fn output<'a>(alloc: Global) -> Arg<'a> {
         .help("The output, which takes the place of FILE at the end; standard output if none or -")
 }
 
-// Whether numbers of lines may have exponents.
+// Whether numbers of rows may have exponents.
 fn exponents<'a>(alloc: Global) -> Arg<'a> {
     Arg::new(alloc, "exponents")
         .long("exponents")
@@ -453,12 +453,12 @@ fn exponents<'a>(alloc: Global) -> Arg<'a> {
         .value_parser(["accept", "refuse"].as_slice())
 }
 
-// What happens at a line that is wrong.
+// What happens at a row that is wrong.
 fn on_error<'a>(alloc: Global) -> Arg<'a> {
     Arg::new(alloc, "on-error")
         .long("on-error")
         .value_name("WHAT")
-        .help("What to do after a line that is wrong")
+        .help("What to do after a row that is wrong")
         .value_parser(["stop", "skip"].as_slice())
 }
 
@@ -566,7 +566,7 @@ pub fn form_in(arguments: &ArgMatches<'_>, is_explained: bool) -> Form
     }
 }
 
-// Whether numbers of lines may have exponents.
+// Whether numbers of rows may have exponents.
 fn exponents_in(arguments: &ArgMatches<'_>) -> Exponents
     ensures { result
         ≡ exponents_of (first_value (found_of arguments.now) (codes "exponents")) }
@@ -641,7 +641,7 @@ pub fn shows_progress_in(arguments: &ArgMatches<'_>, otherwise: bool) -> bool
     }
 }
 
-/// How many bytes of memory lines and their keys may take: 1 GiB if nothing is said. `None` if what
+/// How many bytes of memory rows and their keys may take: 1 GiB if nothing is said. `None` if what
 /// is said is no size.
 pub fn memory_in(arguments: &ArgMatches<'_>) -> Option<u64>
     ensures { IfSome result (IsMemory (first_value (found_of arguments.now) (codes "memory"))) }
@@ -660,7 +660,7 @@ pub fn folder_in<'a>(arguments: &ArgMatches<'a>) -> Option<&'a str>
     arguments.get_str("temporary-directory")
 }
 
-/// Whether the run is to end at the first line that is wrong, where `otherwise` holds if the
+/// Whether the run is to end at the first row that is wrong, where `otherwise` holds if the
 /// arguments do not say.
 pub fn stops_in(arguments: &ArgMatches<'_>, otherwise: bool) -> bool
     ensures { result

@@ -1,4 +1,4 @@
-//! What could have come where a line is wrong, in words.
+//! What could have come where a row is wrong, in words.
 
 ghost use Rattle.std.specs.Prelude.{◌≡◌, IfOk, map, string_bytes, true};
 ghost use Rattle.kohiblad_shell.specs.Words.{expected_text, listed_classes, mark_before};

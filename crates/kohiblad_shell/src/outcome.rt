@@ -8,7 +8,7 @@ use crate::expected::expected_text;
 use crate::halt::Halt;
 use std::alloc::{AllocError, Global};
 
-/// Why a line is wrong.
+/// Why a row is wrong.
 #[derive(Clone, Copy, Debug, PartialEq, Eq)]
 pub enum Reason {
     /// It is not UTF-8.
@@ -57,7 +57,7 @@ impl Reason {
     }
 }
 
-/// Where a line is wrong, and why.
+/// Where a row is wrong, and why.
 #[derive(Clone, Copy, Debug, PartialEq, Eq)]
 pub struct LineFault {
     /// How many bytes of the line are before the fault.
@@ -84,7 +84,7 @@ impl LineFault {
 /// Why a line has no answer.
 #[derive(Clone, Copy, Debug, PartialEq, Eq)]
 pub enum Unanswered {
-    /// The line is wrong.
+    /// The row is wrong.
     Wrong(LineFault),
     /// An allocation failed.
     OutOfMemory,
@@ -119,7 +119,7 @@ pub fn fault_text(alloc: Global, name: &str, number: u64, fault: LineFault) -> R
     Ok(format!(in alloc; "{name}:{number}:{byte}: {reason}\n")?)
 }
 
-// Why a line is wrong, and what could have come there, if that is said.
+// Why a row is wrong, and what could have come there, if that is said.
 #[tactic(auto, unfolding(crate::specs::Faults::reason_text))]
 fn reason_text(alloc: Global, fault: LineFault) -> Result<String, AllocError>
     ensures { IfOk result (λ text. string_bytes text ≡ reason_text fault) }

@@ -29,7 +29,7 @@ impl From<Error> for Unanswered {
     }
 }
 
-// The line is wrong after so many bytes.
+// The row is wrong after so many bytes.
 fn wrong(offset: usize, reason: Reason) -> Unanswered
     ensures { result ≡ Unanswered.Wrong (plain_fault offset reason) }
 {

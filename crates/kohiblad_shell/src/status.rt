@@ -6,10 +6,10 @@ ghost use Rattle.kohiblad_shell.specs.Words.{halt_status, run_status, summary_st
 use crate::halt::Halt;
 use crate::run::Summary;
 
-/// The status if a line gave a row, or no line is wrong where faults are searched for.
+/// The status if a row gave a result, or no row is wrong where faults are searched for.
 pub const FOUND: u8 = 0;
 
-/// The status if no line gave a row, or a line is wrong.
+/// The status if no row gave a result, or a row is wrong.
 pub const NOT_FOUND: u8 = 1;
 
 /// The status after wrong use.
