@@ -1,11 +1,11 @@
--- The members of a row that stand in columns, and its rest with them.
+-- The members of a row that are kept in columns, and its rest with them.
 use Rattle.std.proofs.Common.{◌≡◌, ◌⊎◌, inl, inr, ℕ, zero, suc, ◌<◌, ◌≤◌, List, [], ◌∷◌}
 use Rattle.std.proofs.Common.{map, length, drop, slice_index_or, refl, sym, ap, subst, arith}
 use Rattle.std.proofs.Common.{◌∙◌, Option, None, Some}
-use Rattle.std.specs.Prelude.{⊤, IfOk, IfSome, IsErrAnd, Result, Ok, Err, String, string_bytes}
-use Rattle.std.specs.Prelude.{string_cmp}
+use Rattle.std.specs.Borrow.{Bor}
+use Rattle.std.specs.List.{AllByRecursion}
+use Rattle.std.specs.Prelude.{⊤, IfOk, IfSome, IsErrAnd, Result, Ok, Err, IsUtf8}
 use Rattle.std.specs.BTreeMap.{insert_entry}
-use Rattle.std.specs.declared.alloc.Global.{Global}
 use Rattle.std.specs.declared.cmp.Ordering.{Ordering}
 use Rattle.std.specs.declared.cmp.Ordering.TheVariants.{Less, Equal, Greater}
 use Rattle.std.specs.Ordering.{match_ordering, nat_cmp}
@@ -13,8 +13,7 @@ use Rattle.std.specs.Cmp.Lexicographic.{slice_cmp}
 use Rattle.jsonb_value.specs.Norm.{norm, norm_pairs}
 use Rattle.jsonb_value.specs.Tree as trees
 use Rattle.jsonb_value.specs.Tree.{Tree, object, Pairs, no_pairs, pair, Ascend, Ascends}
-use Rattle.jsonb_value.specs.Value.{pairs_view, tree_of}
-use Rattle.jsonb_value.specs.declared.value.Value.{Value}
+use Rattle.jsonb_value.specs.WellFormed.{ArePairs, IsTree}
 use Rattle.jsonb_codec.specs.Canon.{Fits, canon, pairs_shapes, shape_of}
 use Rattle.jsonb_value.specs.declared.error.Error.{Error}
 use Rattle.jsonb_value.specs.declared.error.Error.TheVariants.{InvalidJsonb, OutOfMemory}
@@ -26,14 +25,19 @@ use Rattle.jsonb.specs.Document.{tree_in}
 use Rattle.jsonb.specs.Kind.{kind_of_tree}
 use Rattle.jsonb.specs.Owned.{owned_bytes}
 use Rattle.jsonb.proofs.DocumentLaws.{tree_in-is}
+use Rattle.jsonb.proofs.ObjectLaws.{key_cmp}
 use Rattle.jsonb_functions.proofs.MemoryLaws.{with_memory}
 use Rattle.jsonb_codec.specs.Shape as shapes
-use Rattle.jsonb_codec.specs.Shape.{AllFit, shape_count}
-use Rattle.jsonb_codec.proofs.CanonLaws.{shape_of-norm}
+use Rattle.jsonb_codec.specs.Shape.{AllFit, leaf, shape_count}
+use Rattle.jsonb_codec.specs.Stored.{AreStored, shapes_by}
+use Rattle.jsonb_codec.proofs.CanonLaws.{Doc-canon, shape_of-norm}
 use Rattle.jsonb_functions.specs.Joined.{joined, merged, put_beside, with_key}
-use Rattle.jsonb_functions.proofs.JoinLaws.{ascends_from}
+use Rattle.jsonb_functions.proofs.JoinLaws.{ascends_from, with_lesser}
 use Rattle.jsonb_functions.proofs.KeyOrder.{Below, ascend_later, key_equal, not_before, not_itself}
 use Rattle.jsonb_typed_file.specs.declared.buffers.Buffers.{Buffers}
+use Rattle.jsonb_typed_file.specs.declared.column.StoredValue.{StoredValue}
+use Rattle.jsonb_typed_file.specs.declared.column.StoredValue.TheVariants as values
+use Rattle.jsonb_typed_file.specs.ValueViews.{members_view, value_code, value_view}
 use Rattle.jsonb_typed_file.specs.Views.{buffers_view}
 use Rattle.jsonb_typed_file.specs.Layout.{Parts}
 use Rattle.jsonb_typed_file.specs.File.{AscendNames, HaveRows, HaveTexts}
@@ -48,8 +52,8 @@ cell_ascends before name (Some t) ps below later = (below, later)
 cell_ascends None name None ps below later = ascend_later name ps later
 cell_ascends (Some b) name None ps below later = ascends_from b name ps below later
 
-members_ascend : (before : Option (List ℕ)) (ps : List Parts) (index : ℕ) → AscendNames before ps
-    → Ascends before (column_members ps index)
+pub members_ascend : (before : Option (List ℕ)) (ps : List Parts) (index : ℕ)
+    → AscendNames before ps → Ascends before (column_members ps index)
 members_ascend before [] index names = tt
 members_ascend before (p ∷ ps) index names =
     cell_ascends before p.name (cell_at p index) (column_members ps index) names.0
@@ -75,48 +79,62 @@ texts_at rows (b ∷ bs) zero d low all = all.0
 texts_at rows (b ∷ bs) (suc n) d low all = texts_at rows bs n d (omega (arith, low)) all.1
 
 -- A member below all others comes before them.
-insert_first : (es : List (String Global × Value)) (k : String Global) (v : Value)
-    → Ascends (Some (string_bytes k)) (pairs_view es)
-    → insert_entry string_cmp es k v ≡ (k, v) ∷ es
-insert_first [] k v ascend = refl
-insert_first (e ∷ es) k v ascend =
-    ap (λ o. match_ordering o ((k, v) ∷ e ∷ es) ((e.0, v) ∷ es)
-    (e ∷ insert_entry string_cmp es k v)) ascend.0
+pub put_first : (es after : List (Bor (List ℕ) × StoredValue)) (k : Bor (List ℕ)) (v : StoredValue)
+    → Ascends (Some k.now) (members_view es) → after ≡ insert_entry key_cmp es k v
+    → members_view after ≡ pair k.now (value_view v) (members_view es)
+put_first [] after k v ascend put = ap members_view put
+put_first (e ∷ es) after k v ascend put =
+    ap members_view (put ∙ ap (λ o. match_ordering o ((k, v) ∷ e ∷ es) ((e.0, v) ∷ es)
+    (e ∷ insert_entry key_cmp es k v)) ascend.0)
 
--- The members of the columns from an index on, with that of the column before it.
-pub member_before : (before : Option (List ℕ)) (bs : List Buffers) (n : ℕ) (d : Buffers)
-    (index : ℕ) (es after : List (String Global × Value)) (k : String Global) (v : Value)
-    (t : Tree) → n < length bs → AscendNames before (map buffers_view bs)
-    → pairs_view es ≡ column_members (map buffers_view (drop (suc n) bs)) index
-    → Some t ≡ cell_at (buffers_view (slice_index_or bs n d)) index
-    → string_bytes k ≡ (slice_index_or bs n d).name.now → tree_of v ≡ t
-    → after ≡ insert_entry string_cmp es k v
-    → pairs_view after ≡ column_members (map buffers_view (drop n bs)) index
-member_before before [] n d index es after k v t low names was cell key value put =
-    absurd (omega (arith, low))
-member_before before (b ∷ bs) zero d index es after k v t low names was cell key value put =
-    let members = column_members (map buffers_view bs) index in
-    let later : Ascends (Some b.name.now) members =
-    members_ascend (Some b.name.now) (map buffers_view bs) index names.1 in
-    let first : insert_entry string_cmp es k v ≡ (k, v) ∷ es =
-    insert_first es k v (rw (key, was) later) in
-    let here : with_cell b.name.now (cell_at (buffers_view b) index) members
-    ≡ pair b.name.now t members = ap (λ o. with_cell b.name.now o members) (sym cell) in
-    rw (put, first, key, value, was) (sym here)
-member_before before (b ∷ bs) (suc n) d index es after k v t low names was cell key value put =
-    member_before (Some b.name.now) bs n d index es after k v t (omega (arith, low)) names.1 was
-    cell key value put
+-- The members of the columns after one are above its name.
+pub members_above : (before : Option (List ℕ)) (bs : List Buffers) (n : ℕ) (d : Buffers)
+    (index : ℕ) → n < length bs → AscendNames before (map buffers_view bs)
+    → Ascends (Some (slice_index_or bs n d).name.now)
+    (column_members (map buffers_view (drop (suc n) bs)) index)
+members_above before [] n d index low names = absurd (omega (arith, low))
+members_above before (b ∷ bs) zero d index low names =
+    members_ascend (Some b.name.now) (map buffers_view bs) index names.1
+members_above before (b ∷ bs) (suc n) d index low names =
+    members_above (Some b.name.now) bs n d index (omega (arith, low)) names.1
 
--- The same of a column that has nothing.
-pub nothing_before : (bs : List Buffers) (n : ℕ) (d : Buffers) (index : ℕ) (all : Pairs)
-    → n < length bs → all ≡ column_members (map buffers_view (drop (suc n) bs)) index
-    → None ≡ cell_at (buffers_view (slice_index_or bs n d)) index
-    → all ≡ column_members (map buffers_view (drop n bs)) index
-nothing_before [] n d index all low was cell = absurd (omega (arith, low))
-nothing_before (b ∷ bs) zero d index all low was cell =
-    was ∙ ap (λ o. with_cell b.name.now o (column_members (map buffers_view bs) index)) cell
-nothing_before (b ∷ bs) (suc n) d index all low was cell =
-    nothing_before bs n d index all (omega (arith, low)) was cell
+-- The shape of a value is its entry.
+value_shape : (v : StoredValue) → leaf (value_code v).0 (value_code v).1 ≡ shape_of (value_view v)
+value_shape (values.Boolean b) = refl
+value_shape (values.Number x) = refl
+value_shape (values.Text s) = refl
+value_shape (values.Extension e) = refl
+
+-- The shapes of members are those of their pairs.
+member_shapes : (es : List (Bor (List ℕ) × StoredValue))
+    → pairs_shapes (members_view es) ≡ shapes_by (λ e. e.0.now) (λ e. value_code e.1) es
+member_shapes [] = refl
+member_shapes (e ∷ es) = rw (member_shapes es, value_shape e.1) refl
+
+all_stored : (es : List (Bor (List ℕ) × StoredValue)) → AllByRecursion (λ e. ⊤) es
+all_stored [] = tt
+all_stored (e ∷ es) = (tt, all_stored es)
+
+pub are_stored : (es : List (Bor (List ℕ) × StoredValue))
+    → AreStored (λ e. ⊤) (λ e. e.0.now) (λ e. value_code e.1) es (pairs_shapes (members_view es))
+are_stored es = record { all = all_stored es; shapes = member_shapes es }
+
+-- The object of members that are as their types guarantee means itself.
+are_pairs : (es : List (Bor (List ℕ) × StoredValue))
+    → AllByRecursion (λ e. IsUtf8 e.0.now × IsTree (value_view e.1)) es
+    → ArePairs (members_view es)
+are_pairs [] held = tt
+are_pairs (e ∷ es) held = (held.0.0, (held.0.1, are_pairs es held.1))
+
+pub members_mean : (es : List (Bor (List ℕ) × StoredValue)) (bytes : List ℕ)
+    → Ascend (members_view es)
+    → AllByRecursion (λ e. IsUtf8 e.0.now × IsTree (value_view e.1)) es
+    → Fits (object (members_view es)) → bytes ≡ canon (object (members_view es))
+    → Doc bytes (norm (object (members_view es)))
+members_mean es bytes ascend held fit written =
+    let t = object (members_view es) in
+    subst (λ x. Doc x (norm t)) (sym written)
+    (Doc-canon t (ascend, are_pairs es held) fit)
 
 -- Signed zeros leave the shape of members that are put among others.
 beside_shapes : (o : Ordering) (k j : List ℕ) (u v t s : Tree) (ps rs after later : Pairs)
@@ -224,6 +242,37 @@ object_kind (object ps) n is = (ps, refl)
 
 error_in : (e f : Error) → ◌≡◌ {A = Result OwnedJsonb Error} (Err e) (Err f) → e ≡ f
 error_in e f same = cc
+
+-- A row of an empty rest is its members.
+merged_alone : (qs : Pairs) → Ascend qs → merged no_pairs qs ≡ qs
+merged_alone no_pairs ascend = refl
+merged_alone (pair k u qs) ascend =
+    ap (with_key k u) (merged_alone qs (ascend_later k qs ascend.1)) ∙ with_lesser k u qs ascend.1
+
+empty_kind : (ps : Pairs) (n : ℕ) → kind_of_tree (object ps) ≡ kinds.Object n → n ≡ 0
+    → ps ≡ no_pairs
+empty_kind no_pairs n is none = refl
+empty_kind (pair k u ps) n is none = absurd (let never : ⊥ = cc in never)
+
+pub made_alone : (t : Tree) (n : ℕ) (ms : Pairs) (ps : List Parts) (index : ℕ)
+    (result : Result OwnedJsonb Error) → kind_of_tree t ≡ kinds.Object n → n ≡ 0
+    → ms ≡ column_members ps index → AscendNames None ps
+    → IfOk result (λ owned. owned_bytes owned ≡ canon (object ms))
+    → MadeIfFit (Fits (object ms)) result
+    → IsMade (with_members t (column_members ps index)) result
+made_alone t n ms ps index result kind none is names document limits =
+    let qs = column_members ps index in
+    let (others, row) = object_kind t n kind in
+    let empty : others ≡ no_pairs =
+    empty_kind others n (sym (ap kind_of_tree row) ∙ kind) none in
+    let same : object ms ≡ with_members t qs =
+    ap object (is ∙ sym (merged_alone qs (members_ascend None ps index names)))
+    ∙ sym (ap (λ x. with_members x qs) (row ∙ ap object empty)) in
+    record {
+      document = subst (λ x. IfOk result (λ owned. owned_bytes owned ≡ canon x)) same document;
+      limits = with_memory (Fits (with_members t qs)) result
+          (subst (λ x. MadeIfFit (Fits x) result) same limits);
+    }
 
 -- A row is refused as its members are.
 refused : (t m : Tree) (ps qs : Pairs) (e : Error) {A : Type 0}

@@ -15,7 +15,7 @@ pub use Rattle.jsonb_typed_file.specs.Values.{cell_at, cell_within, is_set}
 pub use Rattle.jsonb_typed_file.specs.Values.{date_in, extension_in, fixed_value, interval_in}
 pub use Rattle.jsonb_typed_file.specs.Values.{number_at, number_size, string_at, timestamp_in}
 pub use Rattle.jsonb_typed_file.specs.Values.{value_size, value_tree, zoned_timestamp_in}
-pub use Rattle.jsonb_typed_file.specs.ValueViews.{value_view}
+pub use Rattle.jsonb_typed_file.specs.ValueViews.{members_view, value_code, value_view}
 pub use Rattle.jsonb_typed_file.specs.File.{AscendNames, IsFile, IsInForm, IsRest, LengthsFit}
 pub use Rattle.jsonb_typed_file.specs.File.{HaveRows, HaveTexts, IsFileWithin, NestWithin}
 pub use Rattle.jsonb_typed_file.specs.File.{column_named, rest_at, row_count}
@@ -23,9 +23,10 @@ pub use Rattle.jsonb_typed_file.specs.Rows.{IsMade, column_members, rest_tree, r
 pub use Rattle.jsonb_typed_file.specs.Rows.{with_members}
 pub use Rattle.jsonb_value.specs.ExtCode.{extension_of}
 pub use Rattle.jsonb_value.specs.Norm.{norm}
-pub use Rattle.jsonb_value.specs.Tree.{extension, object}
-pub use Rattle.jsonb_value.specs.Value.{tree_of}
+pub use Rattle.jsonb_value.specs.Tree.{Ascend, Ascends, extension, object, pair}
+pub use Rattle.jsonb_value.specs.WellFormed.{IsExtension, IsNumber, IsTree}
 pub use Rattle.jsonb_codec.specs.Canon.{Fits, canon}
+pub use Rattle.jsonb_codec.specs.Code.{code_of}
 pub use Rattle.jsonb_codec.specs.Depth.{IsDocumentWithin}
 pub use Rattle.jsonb_codec.specs.Doc.{Doc}
 pub use Rattle.jsonb_codec.specs.Made.{MadeIfFit}
