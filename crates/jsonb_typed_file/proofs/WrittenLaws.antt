@@ -1,5 +1,5 @@
 -- Writing a file, and reading it again.
-use Rattle.std.proofs.Common.{◌≤◌, Bool, true, false, List, arith}
+use Rattle.std.proofs.Common.{◌≤◌, ◌+◌, [], ◌∷◌, Bool, true, false, List, arith}
 use Rattle.std.specs.Prelude.{Result, Ok, Err, IfOk, IsTrue, ℕ, if◌then◌else◌}
 use Rattle.std.specs.Borrow.{Bor}
 use Rattle.jsonb_value.specs.Tree as trees
@@ -8,7 +8,12 @@ use Rattle.jsonb_codec.specs.Canon.{Fits, pairs_shapes}
 use Rattle.jsonb_codec.specs.Shape.{AllFit, shape_count}
 use Rattle.jsonb_functions.specs.declared.choice.Kept.{Kept}
 use Rattle.jsonb_functions.specs.Picked.{is_named, keeps, picked, picked_pairs}
+use Rattle.jsonb.specs.declared.document.Document.{Document}
 use Rattle.jsonb_typed_file.specs.declared.error.WriteError.{WriteError}
+use Rattle.jsonb_typed_file.specs.declared.write.ColumnPlan.{ColumnPlan}
+use Rattle.jsonb_typed_file.specs.Layout.{Contents}
+use Rattle.jsonb_typed_file.specs.Written.{AreRows, IsFileOf}
+use Rattle.jsonb_typed_file.specs.Written as written
 
 -- What is read again is a file of the rows.
 pub told_file : (r : Result Bool WriteError) (A B : Type 0) → (A → B)
@@ -46,3 +51,13 @@ picked_fit names which (trees.number x) fit = fit
 picked_fit names which (trees.text s) fit = fit
 picked_fit names which (trees.extension e) fit = fit
 picked_fit names which (trees.array ts) fit = fit
+
+-- All rows of a file fit the format.
+rows_fit : (f : Contents) (index : ℕ) (rows : List Document) → AreRows f index rows
+    → written.AllFit rows
+rows_fit f index [] each = tt
+rows_fit f index (row ∷ rows) each = (each.0.fits, rows_fit f (index + 1) rows each.1)
+
+pub file_fits : (rows : List Document) (plans : List ColumnPlan) (bytes : List ℕ)
+    → IsFileOf rows plans bytes → written.AllFit rows
+file_fits rows plans bytes file = rows_fit file.file 0 rows file.each

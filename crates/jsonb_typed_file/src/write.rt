@@ -1,7 +1,7 @@
 //! Writing a file of typed columns.
 
 ghost use Rattle.std.specs.Prelude.{◌≡◌, ◌⊎◌, ◌<◌, ◌≤◌, ◌^◌, ◌↔◌, Err, IfErr, IfOk, IsTrue};
-ghost use Rattle.std.specs.Prelude.{None, length};
+ghost use Rattle.std.specs.Prelude.{None, OnOk, length};
 ghost use Rattle.jsonb_typed_file.specs.Words.{Fits, document_tree};
 ghost use Rattle.jsonb_typed_file.specs.Written.{AllFit, AscendPlans, IsFileOf};
 
@@ -34,6 +34,7 @@ pub struct ColumnPlan<'a> {
 /// `TooManyColumns` if there are 2^32 of them or more, `RowTooLarge` if a row exceeds a limit of
 /// the format, `OutOfMemory` if an allocation fails. The file is read again before it is returned;
 /// `NotReadBack` if it does not give the rows back.
+#[tactic(auto, using(crate::proofs::WrittenLaws::file_fits))]
 pub fn write_file(
     alloc: Global,
     rows: &[Document<'_>],
@@ -42,7 +43,10 @@ pub fn write_file(
     ensures file { IfOk result (λ bytes. IsFileOf rows.now plans.now bytes.items) }
     ensures names { result ≡ Err WriteError.NamesNotAscending
         ↔ (AscendPlans None plans.now → ⊥) }
+    ensures fit { OnOk result (AllFit rows.now) }
     ensures many { result ≡ Err WriteError.TooManyColumns → 2 ^ 32 ≤ length plans.now }
+    ensures many_refused { AscendPlans None plans.now → 2 ^ 32 ≤ length plans.now
+        → result ≡ Err WriteError.TooManyColumns }
     ensures large { result ≡ Err WriteError.RowTooLarge → AllFit rows.now → ⊥ }
 {
     if !ascend(plans) {
