@@ -6,10 +6,9 @@ use Rattle.std.proofs.Common.{refl, sym, ap, ap₂, subst, arith, ◌∙◌, Opt
 use Rattle.std.specs.Prelude.{if◌then◌else◌, option_map, slice_index}
 use Rattle.std.specs.Int.{w32, w64, w128, cast_signed}
 use Rattle.std.specs.Str.{IsUtf8}
-use Rattle.std.proofs.Common.{◌++◌, append_assoc, slice_index_or, pos}
-use Rattle.std.proofs.lemmas.List.{append-nil, get_or-drop, get_or-take, length-drop}
+use Rattle.std.proofs.Common.{pos}
+use Rattle.std.proofs.lemmas.List.{get_or-drop, get_or-take, length-drop}
 use Rattle.std.proofs.lemmas.List.{length-take-le}
-use Rattle.std.proofs.lemmas.List.{map-append}
 use Rattle.byteorder.specs.Endian.{big_from, big_number}
 use Rattle.jsonb_value.specs.Json.Numeral.{number_of}
 use Rattle.jsonb_value.specs.Tree.{Tree, binary, boolean, date, extension, interval}
@@ -17,7 +16,6 @@ use Rattle.jsonb_value.specs.Tree.{number, text, timestamp, timestamp_tz}
 use Rattle.jsonb_codec.specs.Depth.{IsDocumentWithin}
 use Rattle.jsonb_codec.specs.Doc.{IsDocument}
 use Rattle.jsonb.specs.Document.{tree_in}
-use Rattle.jsonb_typed_file.specs.declared.buffers.Buffers.{Buffers}
 use Rattle.jsonb_typed_file.specs.declared.types.StoredType.{StoredType}
 use Rattle.jsonb_typed_file.specs.declared.types.StoredType.TheVariants as types
 use Rattle.jsonb_typed_file.specs.File.{AscendNames, HaveRows, HaveTexts, IsInForm, IsRest}
@@ -27,8 +25,6 @@ use Rattle.jsonb_typed_file.specs.OneRow.{IsRowOf, IsRowWithin, column_of_row, c
 use Rattle.jsonb_typed_file.specs.Rows.{column_members, with_cell, with_members}
 use Rattle.jsonb_typed_file.specs.Values.{HasRows, IsText, IsWithin, cell_at}
 use Rattle.jsonb_typed_file.specs.Values.{is_set, number_at, number_size, string_at, value_tree}
-use Rattle.jsonb_typed_file.specs.Views.{buffers_view}
-use Rattle.jsonb_typed_file.proofs.FormLaws.{later_is}
 
 -- The bytes that are cut out are among those of a column.
 pub numbers_within : (t : StoredType) (rows index : ℕ) → index < rows
@@ -391,28 +387,3 @@ row_within depth f index fit low within =
     (subst (IsDocumentWithin depth)
     (sym (string_alone (8 * index) (8 * index + 16) index f.offsets f.documents refl refl))
     (within low))
-
--- One more column of the row.
-pub alone_push : (before after : List Buffers) (m : Buffers) (left : List Buffers) (d : Buffers)
-    (index : ℕ) (all : List Parts) → 1 ≤ length left
-    → map buffers_view before ++ map (λ p. column_of_row p index) (map buffers_view left) ≡ all
-    → after ≡ before ++ m ∷ []
-    → buffers_view m ≡ column_of_row (buffers_view (slice_index_or left 0 d)) index
-    → map buffers_view after ++ map (λ p. column_of_row p index)
-    (map buffers_view (take (length left - 1) (drop 1 left))) ≡ all
-alone_push before after m [] d index all some was pushed is = absurd (omega (arith, some))
-alone_push before after m (b ∷ bs) d index all some was pushed is =
-    let later = map (λ p. column_of_row p index) (map buffers_view bs) in
-    let views = map buffers_view before in
-    rw (later_is b bs, pushed)
-    (ap (λ ps. ps ++ later) (map-append buffers_view before (m ∷ []))
-    ∙ append_assoc views (buffers_view m ∷ []) later
-    ∙ ap (λ p. views ++ p ∷ later) is
-    ∙ was)
-
--- All columns of the row.
-pub alone_end : (before left : List Buffers) (index : ℕ) (all : List Parts) → length left < 1
-    → map buffers_view before ++ map (λ p. column_of_row p index) (map buffers_view left) ≡ all
-    → map buffers_view before ≡ all
-alone_end before [] index all none was = sym (append-nil (map buffers_view before)) ∙ was
-alone_end before (b ∷ bs) index all none was = absurd (omega (arith, none))

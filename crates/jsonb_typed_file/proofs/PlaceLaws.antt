@@ -86,25 +86,6 @@ name_lies front type name later bytes start at two is =
     (omega (arith, at, two, eight, length-append front (size ++ type), length-append size type))
     split
 
--- How many bytes a column takes.
-pub column_length : (p : Parts) → length (column_bytes p)
-    ≡ 34 + length p.name + length p.flags + length p.numbers + length p.texts
-column_length p =
-    let head = type_bytes p.type ++ p.name in
-    omega (
-      arith,
-      length-append (row_bytes head)
-          (row_bytes p.flags ++ (row_bytes p.numbers ++ row_bytes p.texts)),
-      length-append (row_bytes p.flags) (row_bytes p.numbers ++ row_bytes p.texts),
-      length-append (row_bytes p.numbers) (row_bytes p.texts),
-      row_length head,
-      row_length p.flags,
-      row_length p.numbers,
-      row_length p.texts,
-      length-append (type_bytes p.type) p.name,
-      length-type_bytes p.type,
-    )
-
 -- The place of a column.
 pub column_lies : (p : Parts) (front later bytes : List ℕ) (start a b c : ℕ)
     (rows : ℕ) (places : ColumnPlaces) → places.rows ≡ rows → places.column_type ≡ p.type
@@ -158,15 +139,6 @@ pub record PlacedSoFar (columns left : List Buffers) (rows first start : ℕ)
   pub placed : (front bytes : List ℕ) → length front ≡ first
       → bytes ≡ front ++ columns_bytes (map buffers_view columns)
       → AllZip (IsColumnAt bytes rows) done places
-
-pub none_placed : (columns : List Buffers) (rows first : ℕ) (places : List ColumnPlaces)
-    → places ≡ [] → PlacedSoFar columns columns rows first first places
-none_placed columns rows first places none = record {
-  done = [];
-  parts = refl;
-  reached = omega arith;
-  placed = λ front bytes at is. subst (AllZip (IsColumnAt bytes rows) []) (sym none) tt;
-}
 
 -- The column that is next takes no more than there is.
 pub next_fits : (columns left : List Buffers) (d : Buffers) (rows first start limit : ℕ)
@@ -230,16 +202,6 @@ one_more_placed columns (b ∷ bs) d rows first start end places more place some
           ∙ sym (append_assoc front (columns_bytes done)
           (column_bytes p ++ columns_bytes later)))));
     }
-
-pub all_placed : (columns left : List Buffers) (rows first start : ℕ) (places : List ColumnPlaces)
-    → length left < 1 → PlacedSoFar columns left rows first start places → (front bytes : List ℕ)
-    → length front ≡ first → bytes ≡ front ++ columns_bytes (map buffers_view columns)
-    → AllZip (IsColumnAt bytes rows) (map buffers_view columns) places
-all_placed columns (b ∷ bs) rows first start places none so_far front bytes at is =
-    absurd (omega (arith, none))
-all_placed columns [] rows first start places none so_far front bytes at is =
-    subst (λ ps. AllZip (IsColumnAt bytes rows) ps places)
-    (sym (so_far.parts ∙ append-nil so_far.done)) (so_far.placed front bytes at is)
 
 -- What is before the columns of a file.
 abbrev pub before_columns : Contents → List ℕ

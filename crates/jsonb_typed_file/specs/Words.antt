@@ -1,10 +1,9 @@
 -- The names that the clauses of this crate cite, passed on from one place.
-pub use Rattle.std.specs.Int.{w32, to_be_bytes}
 pub use Rattle.jsonb_value.specs.Json.Numeral.{number_of}
 pub use Rattle.jsonb_value.specs.Tree.{number}
 pub use Rattle.jsonb_column.specs.Storage.{row_bytes}
 pub use Rattle.jsonb_typed_file.specs.Layout.{Contents, HasOtherVersion, IsColumn, IsLayout, Parts}
-pub use Rattle.jsonb_typed_file.specs.Layout.{column_bytes, columns_bytes, file_bytes, header}
+pub use Rattle.jsonb_typed_file.specs.Layout.{column_bytes, columns_bytes, header}
 pub use Rattle.jsonb_typed_file.specs.Layout.{magic, type_bytes, EndsEarly, HasNoMagic}
 pub use Rattle.jsonb_typed_file.specs.Layout.{HasTrailingData}
 pub use Rattle.jsonb_typed_file.specs.Views.{buffers_view, layout_view}
@@ -19,11 +18,11 @@ pub use Rattle.jsonb_typed_file.specs.ValueViews.{members_view, value_code, valu
 pub use Rattle.jsonb_typed_file.specs.File.{AscendNames, IsFile, IsInForm, IsRest, LengthsFit}
 pub use Rattle.jsonb_typed_file.specs.File.{HaveRows, HaveTexts, IsFileWithin, NestWithin}
 pub use Rattle.jsonb_typed_file.specs.File.{column_named, rest_at, row_count}
-pub use Rattle.jsonb_typed_file.specs.Rows.{IsMade, column_members, rest_tree, row_tree}
+pub use Rattle.jsonb_typed_file.specs.Rows.{IsMade, column_members, row_tree}
 pub use Rattle.jsonb_typed_file.specs.Rows.{with_members}
 pub use Rattle.jsonb_value.specs.ExtCode.{extension_of}
 pub use Rattle.jsonb_value.specs.Norm.{norm}
-pub use Rattle.jsonb_value.specs.Tree.{Ascend, Ascends, extension, object, pair}
+pub use Rattle.jsonb_value.specs.Tree.{Ascend, Ascends, object, pair}
 pub use Rattle.jsonb_value.specs.WellFormed.{IsExtension, IsNumber, IsTree}
 pub use Rattle.jsonb_codec.specs.Canon.{Fits, canon}
 pub use Rattle.jsonb_codec.specs.Code.{code_of}

@@ -1,8 +1,8 @@
 //! Reading a file again, before it is handed out.
 
-ghost use Rattle.std.specs.Prelude.{◌≡◌, ◌⊎◌, ◌<◌, Err, IfErr, IfOk, IsTrue, length, map};
-ghost use Rattle.jsonb_typed_file.specs.Words.{Contents, Fits, HaveRows, HaveTexts, IsFile};
-ghost use Rattle.jsonb_typed_file.specs.Words.{buffers_view, document_tree, row_count};
+ghost use Rattle.std.specs.Prelude.{◌≡◌, ◌⊎◌, ◌<◌, Err, IfErr, IfOk, IsTrue, map};
+ghost use Rattle.jsonb_typed_file.specs.Words.{Fits, HaveRows, HaveTexts};
+ghost use Rattle.jsonb_typed_file.specs.Words.{buffers_view, document_tree};
 ghost use Rattle.jsonb_typed_file.specs.Written.{AllFit, ArePlanned, AreRows, HaveCells, IsFileOf};
 ghost use Rattle.jsonb_typed_file.specs.Written.{IsRow};
 

@@ -1,6 +1,6 @@
 //! The header of a file.
 
-ghost use Rattle.std.specs.Prelude.{◌≡◌, ◌≢◌, ◌<◌, ◌^◌, ◌++◌, List, ℕ, Err, MatchOption, IfOk};
+ghost use Rattle.std.specs.Prelude.{◌≡◌, ◌<◌, ◌^◌, ◌++◌, List, ℕ, Err, MatchOption, IfOk};
 ghost use Rattle.std.specs.Prelude.{IfErr, IfSome, IsOk, length, ◌↔◌, ◌⊎◌};
 ghost use Rattle.std.specs.Int.{w32, to_be_bytes};
 ghost use Rattle.jsonb_typed_file.specs.Words.{HasNoMagic, HasOtherVersion, header, magic};

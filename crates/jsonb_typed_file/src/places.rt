@@ -1,13 +1,13 @@
 //! Where the columns of a file lie in its bytes.
 
-ghost use Rattle.std.specs.Prelude.{◌≡◌, ◌≢◌, ◌<◌, ◌≤◌, ◌⊎◌, ◌+◌, ◌++◌, ◌^◌, ◌↔◌, ℕ, List, Err};
+ghost use Rattle.std.specs.Prelude.{◌≡◌, ◌≢◌, ◌<◌, ◌⊎◌, ◌+◌, ◌++◌, ◌^◌, ◌↔◌, ℕ, List, Err};
 ghost use Rattle.std.specs.Prelude.{IfErr, IfOk, IsErrAnd, length, map};
 ghost use Rattle.std.specs.List.{AllZip};
-ghost use Rattle.jsonb_typed_file.specs.Places.{IsColumnAt, LiesAt};
+ghost use Rattle.jsonb_typed_file.specs.Places.{IsColumnAt};
 ghost use Rattle.jsonb_typed_file.specs.Words.{Contents, HasNoMagic, HasOtherVersion};
 ghost use Rattle.jsonb_typed_file.specs.Words.{HasTrailingData, IsLayout, LengthsFit};
 ghost use Rattle.jsonb_typed_file.specs.Words.{buffers_view, column_bytes, columns_bytes};
-ghost use Rattle.jsonb_typed_file.specs.Words.{layout_view, row_bytes, row_count};
+ghost use Rattle.jsonb_typed_file.specs.Words.{row_count};
 
 use crate::buffers::Buffers;
 use crate::error::FileError;

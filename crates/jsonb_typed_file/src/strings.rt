@@ -1,6 +1,6 @@
 //! Byte strings that follow one another, found by their offsets.
 
-ghost use Rattle.std.specs.Prelude.{◌≡◌, ◌<◌, ◌≤◌, ◌+◌, ◌*◌, ◌^◌, length, MatchOption};
+ghost use Rattle.std.specs.Prelude.{◌≡◌, ◌<◌, ◌≤◌, ◌+◌, ◌*◌, length, MatchOption};
 ghost use Rattle.jsonb_typed_file.specs.Words.{IsWithin, number_at, string_at};
 
 use byteorder::{BigEndian, ByteOrder};
