@@ -13,17 +13,17 @@ use Rattle.jsonb_typed_file.specs.Values.{AreTexts, HasRows, IsWithin, string_at
 abbrev pub row_count : Contents → ℕ
 row_count f = length f.offsets / 8 - 1
 
--- The columns have so many rows.
+-- The lengths of the columns' buffers fit so many rows.
 abbrev pub HaveRows : ℕ → List Parts → Type 0
 HaveRows rows [] = ⊤
 HaveRows rows (p ∷ ps) = HasRows rows p × HaveRows rows ps
 
--- Their texts are texts.
+-- Their texts are UTF-8, and their binary values within their bytes.
 abbrev pub HaveTexts : ℕ → List Parts → Type 0
 HaveTexts rows [] = ⊤
 HaveTexts rows (p ∷ ps) = AreTexts rows p × HaveTexts rows ps
 
--- Each buffer is as long as that of so many rows.
+-- The length of each buffer fits the number of rows.
 pub record LengthsFit (f : Contents) : Type 0 where
   pub some : 8 ≤ length f.offsets
   pub whole : length f.offsets % 8 ≡ 0
@@ -40,7 +40,8 @@ abbrev pub IsRest : List ℕ → List ℕ → ℕ → Type 0
 IsRest offsets documents index =
     IsWithin offsets documents index × IsDocument (string_at offsets documents index)
 
--- The names ascend, the texts are texts, and the rest of each row is a document.
+-- The names ascend, the texts are UTF-8, the binary values are within their bytes, and the rest of
+-- each row is a document.
 pub record IsInForm (f : Contents) : Type 0 where
   pub names : AscendNames None f.columns
   pub texts : HaveTexts (row_count f) f.columns
@@ -63,12 +64,12 @@ pub record IsFileWithin (depth : Option ℕ) (f : Contents) (bytes : List ℕ) :
   pub file : IsFile f bytes
   pub shallow : NestWithin depth f
 
--- The column of this name.
+-- The column with this name.
 abbrev pub column_named : List ℕ → List Parts → Option Parts
 column_named name [] = None
 column_named name (p ∷ ps) = if bytes_eq p.name name then Some p else column_named name ps
 
--- The bytes of a row's rest, if there is such a row.
+-- The bytes of the rest of the row at an index, if there is such a row.
 abbrev pub rest_at : Contents → ℕ → Option (List ℕ)
 rest_at f index =
     if nat_lt index (row_count f) then Some (string_at f.offsets f.documents index) else None

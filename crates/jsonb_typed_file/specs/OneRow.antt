@@ -1,4 +1,4 @@
--- One row of a file alone.
+-- The file whose only row is one of another file's.
 use Rattle.std.specs.Prelude.{◌≡◌, ◌<◌, ◌-◌, ◌+◌, ◌*◌, if◌then◌else◌, ℕ, List, [], ◌∷◌, map}
 use Rattle.std.specs.Prelude.{take, drop}
 use Rattle.jsonb_codec.specs.Depth.{IsDocumentWithin}

@@ -1,4 +1,4 @@
--- The rows of a file, put together again.
+-- The rows of a file, made of their rests and of their members in columns.
 use Rattle.std.specs.Prelude.{◌≡◌, ℕ, List, [], ◌∷◌, Option, None, Some, Result, IfOk}
 use Rattle.jsonb_value.specs.declared.error.Error.{Error}
 use Rattle.jsonb_value.specs.Tree.{Tree, object, Pairs, no_pairs, pair}
@@ -11,17 +11,17 @@ use Rattle.jsonb_functions.specs.MadeWithMemory.{MadeWithMemory}
 use Rattle.jsonb_typed_file.specs.Layout.{Contents, Parts}
 use Rattle.jsonb_typed_file.specs.Values.{cell_at, string_at}
 
--- What a column has at its name, if it has something, before other members.
+-- The members with a column's value before them, if it has one.
 abbrev pub with_cell : List ℕ → Option Tree → Pairs → Pairs
 with_cell name None qs = qs
 with_cell name (Some t) qs = pair name t qs
 
--- The members of a row that stand in columns.
+-- The members of a row that are kept in columns.
 abbrev pub column_members : List Parts → ℕ → Pairs
 column_members [] index = no_pairs
 column_members (p ∷ ps) index = with_cell p.name (cell_at p index) (column_members ps index)
 
--- A rest with the members that stand in columns. A rest that is no object stays as it is.
+-- An object with these members put into it. Any other tree stays as it is.
 abbrev pub with_members : Tree → Pairs → Tree
 with_members (object ps) qs = object (merged ps qs)
 with_members t qs = t
@@ -30,7 +30,7 @@ with_members t qs = t
 abbrev pub rest_tree : Contents → ℕ → Tree
 rest_tree f index = tree_in (string_at f.offsets f.documents index)
 
--- The tree of a row: its rest with the members that stand in columns.
+-- The tree of a row: its rest with the members that are kept in columns.
 abbrev pub row_tree : Contents → ℕ → Tree
 row_tree f index = with_members (rest_tree f index) (column_members f.columns index)
 

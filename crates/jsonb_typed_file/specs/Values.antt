@@ -98,7 +98,7 @@ value_tree type numbers texts index =
 abbrev pub is_set : List ℕ → ℕ → Bool
 is_set flags index = bit_at (get_or flags (index / 8) 0) (index % 8) == 1
 
--- What a row has in a column: a value, or nothing.
+-- The value of a row in a column, if its flag is set.
 abbrev pub cell_at : Parts → ℕ → Option Tree
 cell_at p index =
     if is_set p.flags index then value_tree p.type p.numbers p.texts index else None
@@ -119,24 +119,25 @@ HasTexts types.Text texts = ⊤
 HasTexts types.Binary texts = ⊤
 HasTexts type texts = texts ≡ []
 
--- The buffers are as long as those of so many rows.
+-- The lengths of the buffers fit so many rows.
 pub record HasRows (rows : ℕ) (p : Parts) : Type 0 where
   pub flags : length p.flags ≡ div_ceil rows 8
   pub numbers : length p.numbers ≡ number_size p.type rows
   pub texts : HasTexts p.type p.texts
 
--- The text of a row is one, or its binary value is within the bytes.
+-- The text of a row is UTF-8 within the bytes, or its binary value is within them.
 abbrev pub IsText : StoredType → List ℕ → List ℕ → ℕ → Type 0
 IsText types.Text numbers texts index =
     IsWithin numbers texts index × IsUtf8 (string_at numbers texts index)
 IsText types.Binary numbers texts index = IsWithin numbers texts index
 IsText type numbers texts index = ⊤
 
--- The texts or binary values of so many rows are such.
+-- The text of each row is UTF-8 within the bytes, or its binary value is within them.
 abbrev pub AreTexts : ℕ → Parts → Type 0
 AreTexts rows p = (index : ℕ) → index < rows → IsText p.type p.numbers p.texts index
 
--- The buffers are those of so many rows, and the texts or binary values are such.
+-- The lengths of the buffers fit so many rows, and the texts are UTF-8 or the binary values within
+-- their bytes.
 pub record IsChecked (rows : ℕ) (p : Parts) : Type 0 where
   pub size : HasRows rows p
   pub texts : AreTexts rows p

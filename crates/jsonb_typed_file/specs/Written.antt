@@ -46,19 +46,20 @@ scalar_tree (text s) = Some (text s)
 scalar_tree (extension e) = Some (extension e)
 scalar_tree t = None
 
--- A column has the member if it is a value of its type, and else nothing.
+-- A column has the member if that is a value of its type, and otherwise no value.
 abbrev pub IsCell : StoredType → Option Tree → Option Tree → Type 0
 IsCell type None cell = cell ≡ None
 IsCell type (Some t) cell =
     (IsStored type t × (cell ≡ Some t)) ⊎ ((IsStored type t → ⊥) × (cell ≡ None))
 
--- Each column has this of the members of a row.
+-- Each column has the member of a row with its name, if that is a value of its type.
 abbrev pub HaveCells : Tree → ℕ → List Parts → Type 0
 HaveCells t index [] = ⊤
 HaveCells t index (p ∷ ps) =
     IsCell p.type (value_of_key p.name t) (cell_at p index) × HaveCells t index ps
 
--- The row fits the format, comes back as its canonical document, and stands in the columns so.
+-- The row fits the format, comes back as its canonical document, and its members that are values
+-- of the columns' types are kept in them.
 pub record IsRow (f : Contents) (index : ℕ) (row : Document) : Type 0 where
   pub fits : Fits (document_tree row)
   pub whole : canon (row_tree f index) ≡ canon (document_tree row)

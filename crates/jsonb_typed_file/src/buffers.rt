@@ -1,4 +1,4 @@
-//! The buffers of a column, where they lie in a file.
+//! The buffers of a column, which borrow the bytes of a file.
 
 ghost use Rattle.std.specs.Prelude.{◌≡◌, ◌<◌, ◌≤◌, ◌+◌, ◌-◌, ◌*◌, ◌/◌, ◌^◌, ◌↔◌, IsTrue};
 ghost use Rattle.std.specs.Prelude.{MatchOption, length, option_map, ℕ};
@@ -24,7 +24,7 @@ pub struct Buffers<'a> {
 }
 
 impl<'a> Buffers<'a> {
-    // What a row has in the column, of so many rows.
+    // The value of a row, of so many rows. `None` if its flag is not set.
     pub fn cell(&self, rows: usize, index: usize) -> Option<StoredValue<'a>>
         requires size { HasRows rows (buffers_view self.now) }
         requires texts { AreTexts rows (buffers_view self.now) }
@@ -38,7 +38,7 @@ impl<'a> Buffers<'a> {
         }
     }
 
-    // What is in the buffers at a row, set or not.
+    // The value in the buffers at a row, whatever its flag.
     #[tactic(auto, using(crate::proofs::FixedLaws::value_within))]
     fn stored(&self, rows: usize, index: usize) -> Option<StoredValue<'a>>
         requires size { HasRows rows (buffers_view self.now) }
@@ -63,7 +63,7 @@ impl<'a> Buffers<'a> {
         }
     }
 
-    // The text of a row. `None` if its offsets are not in order, or it is no text.
+    // The text of a row. `None` if its offsets are not in order, or it is not UTF-8.
     fn text(&self, index: usize) -> Option<&'a str>
         requires { 8 * (index + 2) ≤ length self.now.numbers.now }
         ensures { MatchOption result
@@ -89,7 +89,8 @@ impl<'a> Buffers<'a> {
         strings.at(index)
     }
 
-    // Whether a row has a text, or a binary value, if the column is of these.
+    // Whether the text of a row is UTF-8, or its binary value within the bytes, if the column is of
+    // these.
     fn is_text(&self, index: usize) -> bool
         requires { 8 * (index + 2) ≤ length self.now.numbers.now }
         ensures { IsTrue result
@@ -102,7 +103,7 @@ impl<'a> Buffers<'a> {
         }
     }
 
-    // Whether the buffers are as long as those of so many rows.
+    // Whether the lengths of the buffers fit so many rows.
     pub fn has_rows(&self, rows: usize) -> bool
         requires { rows < 2 ^ 60 - 1 }
         ensures { IsTrue result ↔ HasRows rows (buffers_view self.now) }
@@ -112,7 +113,7 @@ impl<'a> Buffers<'a> {
             && has_texts(self.column_type, self.texts)
     }
 
-    // Whether the texts of so many rows are texts.
+    // Whether the texts of so many rows are UTF-8, or the binary values within the bytes.
     pub fn are_texts(&self, rows: usize) -> bool
         requires { HasRows rows (buffers_view self.now) }
         ensures { IsTrue result ↔ AreTexts rows (buffers_view self.now) }

@@ -109,7 +109,7 @@ fn is_row(
     Ok(is_whole && index < file.len() && have_cells(file.buffers(), row, file.len(), index))
 }
 
-// Whether each column has this of the members of a row.
+// Whether each column has the member of a row that is kept in it, and no other value.
 fn have_cells(columns: &[Buffers<'_>], row: Document<'_>, rows: usize, index: usize) -> bool
     requires size { HaveRows rows (map buffers_view columns.now) }
     requires texts { HaveTexts rows (map buffers_view columns.now) }

@@ -9,7 +9,7 @@ use crate::types::StoredType;
 use jsonb::{ExtensionValue, Number};
 use std::marker::Model;
 
-/// A column of a file, which was checked: its name, its type and its buffers, where they lie in the
+/// A checked column of a file: its name, its type and its buffers, which borrow the bytes of the
 /// file.
 #[derive(Drop)]
 pub struct StoredColumn<'a> {
@@ -55,7 +55,7 @@ impl<'a> StoredColumn<'a> {
         self.rows
     }
 
-    /// The key of the members that stand in the column.
+    /// The key of the members that are kept in the column.
     pub fn name(&self) -> &'a str
         ensures { result.now ≡ self.now.parts.name }
     {
@@ -69,8 +69,8 @@ impl<'a> StoredColumn<'a> {
         self.buffers.column_type
     }
 
-    /// The value of a row, counted from 0. `None` if the row has none in the column, or the index
-    /// is not below the number of rows.
+    /// The value of the row at this index, counted from 0. `None` if the column has no value of
+    /// that row, or the index is not below the number of rows.
     pub fn value(&self, index: usize) -> Option<StoredValue<'a>>
         ensures { option_map value_view result
             ≡ cell_within self.now.rows self.now.parts index }
@@ -82,18 +82,19 @@ impl<'a> StoredColumn<'a> {
         }
     }
 
-    /// Which rows have a value in the column: a bit for each, eight in a byte, the first in the
-    /// lowest bit.
+    /// Which rows have a value in the column: a bit for each row, eight in a byte, the first row in
+    /// the lowest bit. The bit is 1 if the row has a value.
     pub fn flags(&self) -> &'a [u8]
         ensures { result.now ≡ self.now.parts.flags }
     {
         self.buffers.flags
     }
 
-    /// The numbers, the highest byte first: 8 bytes for each row, 16 of decimals, and 1 of
-    /// booleans. A date has 4; a timestamp with a zone has 8 and then 4 of the offset, and an
-    /// interval 4 of months, 4 of days and 8 of microseconds. Of texts and binary values they are
-    /// offsets of 8 bytes, one more than there are rows.
+    /// The numbers, each with its highest byte first. A row has 1 byte in a column of booleans, 4
+    /// bytes in one of dates, 8 in one of integers or timestamps, and 16 in one of decimals. A
+    /// timestamp with a zone has 8 bytes and then 4 of the zone's offset; an interval has 4 of
+    /// months, 4 of days and 8 of microseconds. In a column of texts or binary values these are the
+    /// offsets into `texts`, 8 bytes each, one more than there are rows.
     pub fn numbers(&self) -> &'a [u8]
         ensures { result.now ≡ self.now.parts.numbers }
     {

@@ -1,4 +1,4 @@
-//! Why bytes are no file of typed columns.
+//! The errors of reading and writing a file of typed columns.
 
 ghost use Rattle.std.specs.Prelude.{◌≡◌};
 ghost use Rattle.jsonb_typed_file.specs.declared.error.FileError.TheVariants.{OutOfMemory};
@@ -21,10 +21,11 @@ pub enum FileError {
     /// There are bytes after the end of the file.
     #[error("bytes after the end of the file")]
     TrailingData,
-    /// A buffer is longer or shorter than that of so many rows.
+    /// The length of a buffer does not fit the number of rows.
     #[error("a length does not fit the number of rows")]
     WrongLength,
-    /// A type, a name or a text is not in form, or the rest of a row is no document.
+    /// A type is unknown, the names are not UTF-8 or do not ascend strictly, a text is not UTF-8,
+    /// offsets are not in order or not within their bytes, or the rest of a row is not a document.
     #[error("contents out of form")]
     OutOfForm,
     /// The rest of a row nests deeper than the given depth.
@@ -57,7 +58,7 @@ pub enum WriteError {
     /// The names of the columns do not ascend strictly by their bytes.
     #[error("the names of the columns do not ascend")]
     NamesNotAscending,
-    /// There are more columns than a file has room for.
+    /// There are 2^32 columns or more.
     #[error("too many columns")]
     TooManyColumns,
     /// A row has no canonical document, since it exceeds a limit of the format.

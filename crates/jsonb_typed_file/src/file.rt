@@ -1,4 +1,4 @@
-//! A file of typed columns, read where it lies.
+//! A file of typed columns, which borrows its bytes.
 
 ghost use Rattle.std.specs.Prelude.{◌≡◌, ◌≢◌, ◌++◌, ◌⊎◌, ◌↔◌, ℕ, List, Err, IfErr, IfOk, IsErrAnd};
 ghost use Rattle.std.specs.Prelude.{◌<◌, ◌≤◌, IfSome, MatchOption, None, Some, length, map};
@@ -23,7 +23,7 @@ use jsonb::{Document, Error, OwnedJsonb};
 use std::alloc::Global;
 use std::marker::Model;
 
-/// A file of typed columns, whose bytes were checked once and are read where they lie.
+/// A file of typed columns. It borrows its bytes, which were checked once.
 #[derive(Drop)]
 pub struct TypedFile<'a> {
     rests: Strings<'a>,
@@ -52,12 +52,15 @@ impl<'a> Model for TypedFile<'a> {
 }
 
 impl<'a> TypedFile<'a> {
-    /// Checks the bytes of a file once. `BadMagic` if they do not begin as one, `UnknownVersion` if
-    /// they have another version than 1, `Cut` if they end before the file does, `TrailingData` if
-    /// they go on after it, `WrongLength` if a buffer is not as long as that of so many rows,
-    /// `OutOfForm` if a type is unknown, the names are not texts that ascend strictly, a text is
-    /// none or the rest of a row is no document, `OutOfMemory` if an allocation fails, that of the
-    /// list of columns. Each length is tested before anything is read or allocated by it.
+    /// Checks the bytes of a file once. Each length is tested before anything is read or allocated
+    /// by it, and only the list of columns is allocated.
+    ///
+    /// `BadMagic` if the bytes do not begin with `KOHITYPE`, `UnknownVersion` if the version is not
+    /// 1, `Cut` if the bytes end before the file does, `TrailingData` if there are bytes after the
+    /// file, `WrongLength` if the length of a buffer does not fit the number of rows, `OutOfForm`
+    /// if a type is unknown, the names are not UTF-8 or do not ascend strictly by their bytes, a
+    /// text is not UTF-8, offsets are not in order or not within their bytes, or the rest of a row
+    /// is not a document; `OutOfMemory` if the list of columns cannot be allocated.
     pub fn new(alloc: Global, bytes: &'a [u8]) -> Result<Self, FileError>
         ensures ok { IfOk result (λ file. IsFile file bytes.entry.now) }
         ensures same { (f : Contents) → IsFile f bytes.entry.now
@@ -83,8 +86,8 @@ impl<'a> TypedFile<'a> {
         TypedFile::checked(alloc, bytes, None)
     }
 
-    /// Checks the bytes of a file as `new` does, and the depth of its rests: a scalar has depth 0,
-    /// an empty array or object 1, any other array or object one more than its deepest child.
+    /// Checks the bytes of a file like `new`, and also the depth of the rests: a scalar has depth
+    /// 0, an empty array or object 1, any other array or object one more than its deepest child.
     /// `TooDeep` if the rest of a row nests deeper than `depth` levels; levels beyond are not
     /// examined. The other errors are those of `new`.
     pub fn within(alloc: Global, bytes: &'a [u8], depth: usize) -> Result<Self, FileError>
@@ -153,11 +156,11 @@ impl<'a> TypedFile<'a> {
         Ok(TypedFile { rests, columns })
     }
 
-    /// The file of one of the rows alone, counted from 0: only that row is read, and checked as
-    /// `within` checks all of them. `None` if the index is not below the number of rows. `TooDeep`
-    /// if the rest of the row nests deeper than `depth` levels; levels beyond are not examined.
-    /// `OutOfMemory` if an allocation fails, that of the list of columns; the errors of `new` of
-    /// bytes that are no file.
+    /// A file whose only row is the one at this index, counted from 0. The other rows are not read;
+    /// this one is checked as `within` checks all. `None` if the index is not below the number of
+    /// rows. `TooDeep` if the rest of the row nests deeper than `depth` levels; levels beyond are
+    /// not examined. `OutOfMemory` if a list of columns cannot be allocated; the other errors are
+    /// those of `new`, where `OutOfForm` means the names, the types or this row.
     pub fn of_row(
         alloc: Global,
         bytes: &'a [u8],
@@ -216,7 +219,8 @@ impl<'a> TypedFile<'a> {
         self.rests.offsets.len() / 8 - 1
     }
 
-    /// The column of this name. `None` if there is none. No other column is read.
+    /// The column with this name. `None` if the file has no such column. The buffers of the other
+    /// columns are not read.
     pub fn column(&self, name: &str) -> Option<StoredColumn<'a>>
         ensures column { option_map (λ c. c.parts) result
             ≡ column_named name.now self.now.columns }
@@ -233,8 +237,9 @@ impl<'a> TypedFile<'a> {
         None
     }
 
-    /// What a row has beside its columns, counted from 0: a document of its other members, or of
-    /// the row if it is no object. `None` if the index is not below the number of rows.
+    /// The rest of the row at this index, counted from 0: a document of the members that are not
+    /// kept in columns, or the row itself if it is not an object. `None` if the index is not below
+    /// the number of rows.
     pub fn rest(&self, index: usize) -> Option<Document<'a>>
         ensures { option_map document_bytes result ≡ rest_at self.now index }
     {
@@ -248,7 +253,7 @@ impl<'a> TypedFile<'a> {
         }
     }
 
-    // The columns, where they lie in the file.
+    // The buffers of all columns.
     pub(crate) fn buffers(&self) -> &[Buffers<'a>]
         ensures columns { map buffers_view result.now ≡ self.now.columns }
         ensures size { HaveRows (row_count self.now) (map buffers_view result.now) }
@@ -257,10 +262,10 @@ impl<'a> TypedFile<'a> {
         &self.columns
     }
 
-    /// The canonical document of a row, counted from 0: its rest with the members that stand in
-    /// columns, or the rest alone if it is no object. `None` if the index is not below the number
-    /// of rows. `InvalidJsonb` if the row does not fit the format, `OutOfMemory` if an allocation
-    /// fails.
+    /// The canonical document of the row at this index, counted from 0: an object of the members of
+    /// its rest and of those that are kept in columns, or the rest alone if that is not an object.
+    /// `None` if the index is not below the number of rows. `InvalidJsonb` if the row exceeds a
+    /// limit of the format, `OutOfMemory` if an allocation fails.
     pub fn row(&self, alloc: Global, index: usize) -> Option<Result<OwnedJsonb, Error>>
         ensures { MatchOption result (row_count self.now ≤ index)
             (λ made. (index < row_count self.now) × IsMade (row_tree self.now index) made) }
@@ -272,7 +277,7 @@ impl<'a> TypedFile<'a> {
     }
 }
 
-// What a file is made of, whose buffers are each as long as those of so many rows.
+// The sections of a file, after a test that their lengths fit the number of rows.
 pub(crate) fn read_sized(alloc: Global, bytes: &[u8]) -> Result<Layout<'_>, FileError>
     ensures ok { IfOk result (λ l. IsLayout (layout_view l) bytes.now) }
     ensures lengths { IfOk result (λ l. LengthsFit (layout_view l)) }

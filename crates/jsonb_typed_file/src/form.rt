@@ -1,4 +1,4 @@
-//! Whether the parts of a file are in form.
+//! Tests of the lengths and the contents of a file.
 
 ghost use Rattle.std.specs.Prelude.{◌≡◌, ◌<◌, ◌≤◌, ◌+◌, ◌-◌, ◌*◌, ◌^◌, ◌↔◌, ℕ, IsTrue, None};
 ghost use Rattle.std.specs.Bool.{OnFalse, OnTrue};
@@ -14,7 +14,7 @@ use crate::strings::Strings;
 use jsonb::{is_document, nests_deeper};
 use std::cmp::Ordering;
 
-// Whether each buffer is as long as that of so many rows.
+// Whether the length of each buffer fits the number of rows.
 pub(crate) fn lengths_fit(layout: &Layout<'_>) -> bool
     ensures { IsTrue result ↔ LengthsFit (layout_view layout.now) }
 {
@@ -22,7 +22,7 @@ pub(crate) fn lengths_fit(layout: &Layout<'_>) -> bool
     size >= 8 && size % 8 == 0 && have_rows(&layout.columns, size / 8 - 1)
 }
 
-// Whether the columns have so many rows.
+// Whether the lengths of the columns' buffers fit so many rows.
 fn have_rows(columns: &[Buffers<'_>], rows: usize) -> bool
     requires { rows < 2 ^ 60 - 1 }
     ensures { IsTrue result ↔ HaveRows rows (map buffers_view columns.now) }
@@ -37,7 +37,7 @@ fn have_rows(columns: &[Buffers<'_>], rows: usize) -> bool
     true
 }
 
-// Whether the names ascend, the texts are texts, and the rests documents.
+// Whether the names ascend, the texts are UTF-8, and the rests are documents.
 pub(crate) fn is_in_form(layout: &Layout<'_>) -> bool
     requires { LengthsFit (layout_view layout.now) }
     ensures { IsTrue result ↔ IsInForm (layout_view layout.now) }
@@ -49,7 +49,7 @@ pub(crate) fn is_in_form(layout: &Layout<'_>) -> bool
     are_documents(layout.rests, rows)
 }
 
-// Whether the names of the columns ascend, and their texts are texts.
+// Whether the names of the columns ascend, and their texts are UTF-8.
 fn are_in_form(columns: &[Buffers<'_>], rows: usize) -> bool
     requires { HaveRows rows (map buffers_view columns.now) }
     ensures { IsTrue result ↔ (AscendNames None (map buffers_view columns.now)
@@ -85,7 +85,7 @@ pub(crate) fn is_above(before: Option<&str>, name: &str) -> bool
     }
 }
 
-// Whether the texts of the columns are texts.
+// Whether the texts of the columns are UTF-8, and their offsets in order.
 fn have_texts(columns: &[Buffers<'_>], rows: usize) -> bool
     requires { HaveRows rows (map buffers_view columns.now) }
     ensures { IsTrue result ↔ HaveTexts rows (map buffers_view columns.now) }

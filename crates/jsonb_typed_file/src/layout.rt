@@ -15,7 +15,7 @@ use crate::types::split_type;
 use jsonb_column::split_row;
 use std::alloc::Global;
 
-/// What a file is made of.
+/// The sections of a file.
 #[derive(Drop)]
 pub(crate) struct Layout<'a> {
     pub rests: Strings<'a>,
@@ -31,7 +31,7 @@ impl<'a> Layout<'a> {
     }
 }
 
-// Reads what a file is made of.
+// Reads the sections of a file.
 pub(crate) fn read_layout(alloc: Global, bytes: &[u8]) -> Result<Layout<'_>, FileError>
     ensures ok { IfOk result (λ l. IsLayout (layout_view l) bytes.now) }
     ensures same { (f : Contents) (front more : List ℕ) → IsLayout f front

@@ -1,4 +1,4 @@
-//! Files of typed columns: rows in which chosen members stand in typed buffers, and the other
+//! Files of typed columns: chosen members of the rows are kept in typed buffers, and the other
 //! members of each row in a document.
 #![tactic(auto)]
 

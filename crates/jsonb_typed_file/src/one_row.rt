@@ -1,4 +1,4 @@
-//! The layout of one row alone.
+//! The sections of a file that has one row of another.
 
 ghost use Rattle.std.specs.Prelude.{◌≡◌, ◌<◌, ◌-◌, ◌^◌, IfOk, map};
 ghost use Rattle.jsonb_typed_file.specs.OneRow.{column_of_row, file_of_row};
@@ -10,7 +10,7 @@ use crate::layout::Layout;
 use crate::strings::Strings;
 use std::alloc::{AllocError, Global};
 
-// The layout of one of the rows alone.
+// The sections of the file whose only row is the one at this index.
 pub(crate) fn layout_of_row<'a>(
     alloc: Global,
     layout: &Layout<'a>,
@@ -28,7 +28,7 @@ pub(crate) fn layout_of_row<'a>(
     Ok(Layout { rests, columns })
 }
 
-// The columns of one of so many rows alone.
+// The columns of the row at this index, of so many rows.
 fn columns_of_row<'a>(
     alloc: Global,
     columns: &[Buffers<'a>],

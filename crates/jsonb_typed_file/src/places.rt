@@ -18,32 +18,32 @@ use std::alloc::{AllocError, Global};
 /// Where bytes lie in a file.
 #[derive(Clone, Copy, Debug, PartialEq, Eq)]
 pub struct SectionPlace {
-    /// How many bytes are before them.
+    /// The number of bytes before them.
     pub offset: usize,
-    /// How many they are.
+    /// The number of these bytes.
     pub length: usize,
 }
 
 /// The number of rows and the type of a column, and where its name and its buffers lie in a file.
 #[derive(Clone, Copy, Debug, PartialEq, Eq)]
 pub struct ColumnPlaces {
-    /// How many rows the file has.
+    /// The number of rows of the file.
     pub rows: usize,
     /// The type of the values.
     pub column_type: StoredType,
-    /// The key of the members that stand in the column.
+    /// The key of the members that are kept in the column.
     pub name: SectionPlace,
-    /// Which rows have a value.
+    /// The flags, which say which rows have a value.
     pub flags: SectionPlace,
-    /// The numbers.
+    /// The numbers, or the offsets of texts or binary values.
     pub numbers: SectionPlace,
-    /// The bytes of all texts.
+    /// The bytes of all texts or binary values.
     pub texts: SectionPlace,
 }
 
-/// Where the columns of a file lie in its bytes. Each length is tested, and nothing is read in the
-/// buffers: whether texts, their offsets and the rests of the rows are in form is not checked. The
-/// errors are those of `TypedFile::new`, but for what is not checked.
+/// Where the columns of a file lie in its bytes. Each length is tested, but nothing in the buffers
+/// is read: it is not checked whether names ascend, texts are UTF-8, offsets are in order and rests
+/// are documents. The errors are those of `TypedFile::new`, but for what is not checked.
 pub fn column_places(alloc: Global, bytes: &[u8]) -> Result<Vec<ColumnPlaces>, FileError>
     ensures places { IfOk result (λ places. (f : Contents) × (IsLayout f bytes.now
         × (LengthsFit f × AllZip (IsColumnAt bytes.now (row_count f)) f.columns
@@ -68,7 +68,7 @@ pub fn column_places(alloc: Global, bytes: &[u8]) -> Result<Vec<ColumnPlaces>, F
     Ok(places_of(alloc, &layout.columns, layout.rows(), start)?)
 }
 
-// Where the columns lie of which so many bytes are before the first.
+// Where the columns lie if so many bytes are before the first.
 fn places_of(
     alloc: Global,
     columns: &[Buffers<'_>],
@@ -92,7 +92,7 @@ fn places_of(
     Ok(places)
 }
 
-// Where a column lies of which so many bytes are before the first; and where it ends.
+// Where a column lies if so many bytes are before it, and where it ends.
 fn places_in(column: Buffers<'_>, rows: usize, start: usize) -> (ColumnPlaces, usize)
     requires { start + length (column_bytes (buffers_view column)) < 2 ^ 64 }
     ensures places { (front later bytes : List ℕ) → length front ≡ start
@@ -115,7 +115,7 @@ fn places_in(column: Buffers<'_>, rows: usize, start: usize) -> (ColumnPlaces, u
     (places, end_of(texts))
 }
 
-// A section of so many bytes, behind its length.
+// Where a section of so many bytes lies, whose length is stored before it.
 fn section_at(start: usize, length: usize) -> SectionPlace
     requires { start + 8 + length < 2 ^ 64 }
     ensures { result ≡ record { offset = start + 8; length = length } }

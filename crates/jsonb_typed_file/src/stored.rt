@@ -1,4 +1,4 @@
-//! Which members stand in a column.
+//! Which members are kept in a column.
 
 ghost use Rattle.std.specs.Prelude.{◌≡◌, ◌↔◌, List, ℕ, IsTrue, Some, option_map};
 ghost use Rattle.jsonb_typed.specs.Words.{IsBinary, IsText};
@@ -14,7 +14,7 @@ use jsonb_typed::{
     ZonedTimestamps, binary_of, opened,
 };
 
-// What a column has of a row: the member of its name, if it is a value of the type.
+// The value of a row in a column: the member with its name, if that is a value of the type.
 pub(crate) fn cell_of<'a>(
     row: Document<'a>,
     name: &str,

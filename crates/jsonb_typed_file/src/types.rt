@@ -46,7 +46,8 @@ pub fn type_bytes(column_type: StoredType) -> [u8; 2]
     }
 }
 
-/// The type at the beginning of the bytes, and the bytes after it. `None` if none is there.
+/// The type at the beginning of the bytes, and the bytes after it. `None` if the bytes do not begin
+/// with a type.
 pub fn split_type(bytes: &[u8]) -> Option<(StoredType, &[u8])>
     ensures { MatchOption result
         ((type : StoredType) (later : List ℕ) → bytes.now ≡ type_bytes type ++ later → ⊥)

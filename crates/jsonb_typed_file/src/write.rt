@@ -18,8 +18,8 @@ use jsonb_column::append_row;
 use jsonb_functions::{Kept, pick};
 use std::alloc::{AllocError, Global};
 
-/// A column that is to be written: of the members at this key, it has those that are values of the
-/// type, with their kinds and their digits.
+/// A column to be written. A member with this key is kept in the column if the type holds its value
+/// with its kind and its digits; otherwise it stays in the rest of its row.
 #[derive(Clone, Copy, Debug)]
 pub struct ColumnPlan<'a> {
     /// The key.
@@ -28,11 +28,13 @@ pub struct ColumnPlan<'a> {
     pub column_type: StoredType,
 }
 
-/// The bytes of a file of these rows, with a column for each plan: a member stands in the column of
-/// its key if it is a value of the type with its kind and digits, and else in the row's rest.
-/// `NamesNotAscending` if the names of the plans do not ascend strictly by their bytes,
-/// `TooManyColumns` if there are 2^32 of them or more, `RowTooLarge` if a row exceeds a limit of
-/// the format, `OutOfMemory` if an allocation fails. The file is read again before it is returned;
+/// The bytes of a file of these rows, with a column for each plan. A member is kept in the column
+/// with its key if the column's type holds its value with its kind and its digits; otherwise it
+/// stays in the rest of its row.
+///
+/// `NamesNotAscending` if the names of the plans do not ascend strictly by their bytes, otherwise
+/// `TooManyColumns` if there are 2^32 plans or more; `RowTooLarge` if a row exceeds a limit of the
+/// format, `OutOfMemory` if an allocation fails. The file is read again before it is returned;
 /// `NotReadBack` if it does not give the rows back.
 #[tactic(auto, using(crate::proofs::WrittenLaws::file_fits))]
 pub fn write_file(
@@ -79,7 +81,7 @@ fn ascend(plans: &[ColumnPlan<'_>]) -> bool
     true
 }
 
-// The buffers of a column that is written.
+// The buffers of a column to be written.
 #[derive(Drop)]
 struct Filling {
     flags: Vec<u8>,
@@ -101,7 +103,7 @@ impl Filling {
         })
     }
 
-    // Appends what the row at an index has.
+    // Appends the value of the row at an index, if it has one.
     fn push(
         &mut self,
         index: usize,
@@ -151,7 +153,7 @@ struct Rests {
     documents: Vec<u8>,
 }
 
-// The file, which is yet to be read again.
+// The bytes of the file, which the caller reads again.
 fn file_of(
     alloc: Global,
     rows: &[Document<'_>],
@@ -196,7 +198,7 @@ fn rests_of(
     Ok(Rests { offsets, documents })
 }
 
-// Appends what a row has beside the columns.
+// Appends the rest of a row: its members that are not kept in columns.
 #[tactic(auto, using(crate::proofs::WrittenLaws::picked_fit))]
 fn append_rest(
     alloc: Global,
@@ -216,7 +218,7 @@ fn append_rest(
     }
 }
 
-// The names of the members of a row that stand in columns.
+// The names of the members of a row that are kept in columns.
 fn stored_names<'a>(
     alloc: Global,
     row: Document<'_>,
