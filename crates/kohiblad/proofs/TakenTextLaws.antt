@@ -4,21 +4,47 @@ use Rattle.std.proofs.Common.{length, map, take, drop, get_or, Result, Ok, Err, 
 use Rattle.std.proofs.Common.{subst, ap, ap₂, ◌∙◌, arith, append_assoc, length-append}
 use Rattle.std.specs.Prelude.{slice_set}
 use Rattle.std.specs.List.{AllZip, concat}
+use Rattle.std.specs.Str.{IsUtf8}
 use Rattle.std.proofs.Math.Nat.{mod-eq_of_lt}
 use Rattle.std.proofs.lemmas.List.{append-nil, length-map, length-take-le, map-append, take_more}
 use Rattle.std.proofs.lemmas.List.Folds.{concat-append}
 use Rattle.std.proofs.lemmas.Slice.Zip.{all_zipped_more}
+use Rattle.std.proofs.lemmas.Str.{IsUtf8-nil}
 use Rattle.jsonb_value.specs.Meaning.{Meaning}
 use Rattle.jsonb_functions.specs.declared.path.Step.{Step}
+use Rattle.kohiblad.specs.Located.{IsTakenAt}
 use Rattle.kohiblad.specs.OverRows.{OverRows}
-use Rattle.kohiblad.specs.Taking.{values_of}
+use Rattle.kohiblad.specs.Taking.{IsTakenUnchecked, values_of}
 use Rattle.kohiblad.specs.TakenTexts.{AreRowTextsTaken, AreTextsMade, AreTextsRefused}
-use Rattle.kohiblad.specs.TakenTexts.{AreTextsTaken, HandingOver, IsTextsOf, TextBuffers}
-use Rattle.kohiblad.specs.TakenTexts.{ends_from, low_half, text_offsets}
+use Rattle.kohiblad.specs.TakenTexts.{AreTextsTaken, HandingOver, IsBytes, IsBytesAt}
+use Rattle.kohiblad.specs.TakenTexts.{IsBytesUnchecked, IsTextsOf, TextBuffers, ends_from}
+use Rattle.kohiblad.specs.TakenTexts.{low_half, text_offsets}
+use Rattle.kohiblad.specs.declared.places.KohibladPlace.{KohibladPlace}
 use Rattle.kohiblad.specs.declared.taking.KohibladTaken.{KohibladTaken}
+use Rattle.kohiblad.specs.declared.taken_texts.BytesType.{BytesType}
+use Rattle.kohiblad.specs.declared.taken_texts.BytesType.TheVariants as bytes_types
 use Rattle.kohiblad.specs.declared.taken_texts.TakenTexts.{TakenTexts}
 use Rattle.kohiblad.proofs.OverRowsLaws.{not_refused, over_rows}
 use Rattle.kohiblad.proofs.TakingLaws.{one_more_in}
+
+-- No bytes are a text.
+pub no_bytes : (bytes_type : BytesType) → bytes_type ≡ bytes_types.Text → IsUtf8 []
+no_bytes bytes_type is = IsUtf8-nil
+
+-- What is taken at a place, and is UTF-8 if it is a text.
+pub bytes_at : (bytes_type : BytesType) (bytes : List ℕ) (place : KohibladPlace)
+    (taken : List ℕ × ℕ) → IsTakenAt (IsBytes bytes_type) [] bytes place taken
+    → (bytes_type ≡ bytes_types.Text → IsUtf8 taken.0) → IsBytesAt bytes_type bytes place taken
+bytes_at bytes_types.Text bytes place taken is utf8 = (is, utf8 refl)
+bytes_at bytes_types.Binary bytes place taken is utf8 = is
+
+-- The same of a row that is not checked.
+pub bytes_unchecked : (bytes_type : BytesType) (path : List Step) (row : List ℕ)
+    (taken : List ℕ × ℕ) → IsTakenUnchecked (IsBytes bytes_type) [] path row taken
+    → (bytes_type ≡ bytes_types.Text → IsUtf8 taken.0)
+    → IsBytesUnchecked bytes_type path row taken
+bytes_unchecked bytes_types.Text path row taken is utf8 = (is, utf8 refl)
+bytes_unchecked bytes_types.Binary path row taken is utf8 = is
 
 -- One text more ends where all of them do.
 pub one_more_end : (start : ℕ) (texts : List (List ℕ)) (text : List ℕ)

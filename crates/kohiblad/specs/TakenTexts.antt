@@ -2,23 +2,53 @@
 use Rattle.std.specs.Prelude.{◌≡◌, ◌<◌, ◌≤◌, ◌⊎◌, ◌+◌, ◌%◌, ◌^◌, ◌∷◌, [], ℕ, List, length}
 use Rattle.std.specs.Prelude.{Result, Err, IsOkAnd}
 use Rattle.std.specs.List.{AllZip, concat}
+use Rattle.std.specs.Str.{IsUtf8}
 use Rattle.jsonb_value.specs.declared.error.Error.TheVariants.{OutOfMemory}
 use Rattle.jsonb_value.specs.Meaning.{Meaning}
 use Rattle.jsonb_value.specs.Tree.{Tree}
 use Rattle.jsonb_functions.specs.declared.path.Step.{Step}
 use Rattle.jsonb_typed.specs.Types.{IsBinary, IsText}
+use Rattle.kohiblad.specs.declared.places.KohibladPlace.{KohibladPlace}
 use Rattle.kohiblad.specs.declared.taking.KohibladTaken.{KohibladTaken}
+use Rattle.kohiblad.specs.declared.taking.Reading.{Reading}
+use Rattle.kohiblad.specs.declared.taking.Reading.TheVariants.{Checked, Unchecked}
 use Rattle.kohiblad.specs.declared.taken_texts.BytesType.{BytesType}
 use Rattle.kohiblad.specs.declared.taken_texts.BytesType.TheVariants as bytes_types
 use Rattle.kohiblad.specs.declared.taken_texts.TakenTexts.{TakenTexts}
+use Rattle.kohiblad.specs.Located.{IsTakenAt}
 use Rattle.kohiblad.specs.OverRows.{OverRows}
 use Rattle.kohiblad.specs.Status.{code, no_room, IsCopied}
-use Rattle.kohiblad.specs.Taking.{not_taken, states_of, taken_answer, values_of}
+use Rattle.kohiblad.specs.Taking.{IsTakenRow, IsTakenUnchecked, not_taken, states_of}
+use Rattle.kohiblad.specs.Taking.{taken_answer, values_of}
 
 -- The bytes stand for the member, a text or a binary value.
 abbrev pub IsBytes : BytesType → List ℕ → Tree → Type 0
 IsBytes bytes_types.Text = IsText
 IsBytes bytes_types.Binary = IsBinary
+
+-- What is taken at a place as a text; also at a place where there is none it is UTF-8.
+abbrev pub IsTextAt : List ℕ → KohibladPlace → List ℕ × ℕ → Type 0
+IsTextAt bytes place taken = IsTakenAt IsText [] bytes place taken × IsUtf8 taken.0
+
+-- What is taken at a place as a text or as a binary value.
+abbrev pub IsBytesAt : BytesType → List ℕ → KohibladPlace → List ℕ × ℕ → Type 0
+IsBytesAt bytes_types.Text = IsTextAt
+IsBytesAt bytes_types.Binary = IsTakenAt IsBinary []
+
+-- What is written for a row that is not checked, as a text; also where the row is no document it is
+-- UTF-8.
+abbrev pub IsTextUnchecked : List Step → List ℕ → List ℕ × ℕ → Type 0
+IsTextUnchecked path row taken = IsTakenUnchecked IsText [] path row taken × IsUtf8 taken.0
+
+-- What is written for a row that is not checked, as a text or as a binary value.
+abbrev pub IsBytesUnchecked : BytesType → List Step → List ℕ → List ℕ × ℕ → Type 0
+IsBytesUnchecked bytes_types.Text = IsTextUnchecked
+IsBytesUnchecked bytes_types.Binary = IsTakenUnchecked IsBinary []
+
+-- The same by how rows are read.
+abbrev pub IsBytesRow : Reading → BytesType → List Step → List ℕ → List ℕ × ℕ → Type 0
+IsBytesRow (Checked depth) bytes_type = IsTakenRow (IsBytes bytes_type) [] depth
+IsBytesRow Unchecked bytes_type = IsBytesUnchecked bytes_type
 
 -- Where texts end, the first of which begins at an offset.
 abbrev pub ends_from : ℕ → List (List ℕ) → List ℕ

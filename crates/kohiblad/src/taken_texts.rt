@@ -1,14 +1,15 @@
 //! The calls that take the members of rows as texts.
 
 ghost use Rattle.std.specs.Prelude.{◌≡◌, ◌≤◌, ◌∷◌, ◌++◌, [], ℕ, Err, List, IfErr, IfOk, OnOk};
-ghost use Rattle.std.specs.Prelude.{IfSome, MatchOption, length, option_map};
+ghost use Rattle.std.specs.Prelude.{IfSome, IsUtf8, MatchOption, length, option_map};
 ghost use Rattle.std.specs.List.{AllZip};
 ghost use Rattle.jsonb_typed.specs.Words.{HoldsNoScalar, IsText, member_cell};
 ghost use Rattle.kohiblad.specs.OverRows.{OverRows};
 ghost use Rattle.kohiblad.specs.Status.{IsCopied};
-ghost use Rattle.kohiblad.specs.Taking.{IsReadRow, IsTakenCell, IsTakenRow, IsTakenUnchecked};
+ghost use Rattle.kohiblad.specs.Taking.{IsTakenCell, IsTakenRow};
 ghost use Rattle.kohiblad.specs.TakenTexts.{AreTextsHandedOver, AreTextsMade, AreTextsTaken};
-ghost use Rattle.kohiblad.specs.TakenTexts.{IsBytes, IsTextsOf};
+ghost use Rattle.kohiblad.specs.TakenTexts.{IsBytes, IsBytesRow, IsBytesUnchecked};
+ghost use Rattle.kohiblad.specs.TakenTexts.{IsTextUnchecked, IsTextsOf};
 ghost use Rattle.kohiblad.specs.Words.{meaning_within, node_tree};
 
 use crate::answer::{NO_ROOM, code};
@@ -89,7 +90,7 @@ pub extern "C" fn kohiblad_take_text_unchecked(
     text_offsets: &mut [usize],
     states: &mut [u8],
 ) -> KohibladTaken
-    ensures { AreTextsTaken AreTextsHandedOver (IsTakenUnchecked IsText []) bytes.now offsets.now
+    ensures { AreTextsTaken AreTextsHandedOver IsTextUnchecked bytes.now offsets.now
         (meaning_within depth path.now)
         (record {
           texts = out.old;
@@ -132,7 +133,7 @@ pub fn take_texts(
     states: &mut [u8],
 ) -> KohibladTaken
     ensures { AreTextsTaken AreTextsHandedOver
-        (IsReadRow (IsBytes bytes_type) [] source.entry.reading)
+        (IsBytesRow source.entry.reading bytes_type)
         source.entry.bytes.now source.entry.offsets.now
         (meaning_within source.entry.depth source.entry.path.now)
         (record {
@@ -160,8 +161,7 @@ pub fn source_texts(
     bytes_type: BytesType,
 ) -> Result<TakenTexts, u32>
     ensures { OverRows (λ status. result ≡ Err status)
-        (λ rows path. AreTextsMade (IsReadRow (IsBytes bytes_type) [] source.entry.reading path)
-        rows result)
+        (λ rows path. AreTextsMade (IsBytesRow source.entry.reading bytes_type path) rows result)
         source.entry.bytes.now source.entry.offsets.now
         (meaning_within source.entry.depth source.entry.path.now) }
 {
@@ -182,7 +182,7 @@ fn row_texts(
     reading: Reading,
     bytes_type: BytesType,
 ) -> Result<TakenTexts, u32>
-    ensures { AreTextsMade (IsReadRow (IsBytes bytes_type) [] reading path.now) rows.entry result }
+    ensures { AreTextsMade (IsBytesRow reading bytes_type path.now) rows.entry result }
 {
     match texts_of(alloc, rows, path, reading, bytes_type) {
         Ok(taken) => Ok(taken),
@@ -279,7 +279,7 @@ fn texts_of(
     bytes_type: BytesType,
 ) -> Result<TakenTexts, Error>
     ensures ok { IfOk result (λ texts. (taken : List (List ℕ × ℕ))
-        × (AllZip (IsReadRow (IsBytes bytes_type) [] reading path.now) rows.entry taken
+        × (AllZip (IsBytesRow reading bytes_type path.now) rows.entry taken
         × IsTextsOf taken texts)) }
     ensures memory { IfErr result (λ e. e ≡ Error.OutOfMemory) }
 {
@@ -299,8 +299,7 @@ fn read_text<'a>(
     reading: Reading,
     bytes_type: BytesType,
 ) -> (&'a [u8], u8)
-    ensures { IsReadRow (IsBytes bytes_type) [] reading path.now row.entry.now
-        (result.0.now, result.1) }
+    ensures { IsBytesRow reading bytes_type path.now row.entry.now (result.0.now, result.1) }
 {
     match reading {
         Reading::Checked(depth) => take_text(row, path, depth, bytes_type),
@@ -325,14 +324,13 @@ fn take_text<'a>(
 }
 
 // The same for a row that is not checked.
-#[tactic(auto, using(crate::proofs::UncheckedLaws::taken_member, crate::proofs::UncheckedLaws::taken_state, crate::proofs::UncheckedLaws::scalar_bytes))]
+#[tactic(auto, using(crate::proofs::UncheckedLaws::taken_member, crate::proofs::UncheckedLaws::taken_state, crate::proofs::UncheckedLaws::scalar_bytes, crate::proofs::TakenTextLaws::bytes_unchecked, crate::proofs::TakenTextLaws::no_bytes))]
 fn take_unchecked_text<'a>(
     row: &'a [u8],
     path: &[Step<'_>],
     bytes_type: BytesType,
 ) -> (&'a [u8], u8)
-    ensures { IsTakenUnchecked (IsBytes bytes_type) [] path.now row.entry.now
-        (result.0.now, result.1) }
+    ensures { IsBytesUnchecked bytes_type path.now row.entry.now (result.0.now, result.1) }
 {
     match unchecked_member(row, path) {
         Ok(member) => take_member_text(member, bytes_type),
@@ -341,10 +339,12 @@ fn take_unchecked_text<'a>(
 }
 
 /// The bytes of a row with this member, and the state of the row.
+#[tactic(auto, using(crate::proofs::TakenTextLaws::no_bytes))]
 pub fn take_member_text<'a>(member: Option<Node<'a>>, bytes_type: BytesType) -> (&'a [u8], u8)
     requires { IfSome member HoldsNoScalar }
-    ensures { IsTakenCell (IsBytes bytes_type) []
+    ensures cell { IsTakenCell (IsBytes bytes_type) []
         (member_cell (option_map node_tree member.entry)) (result.0.now, result.1) }
+    ensures utf8 { bytes_type ≡ BytesType.Text → IsUtf8 result.0.now }
 {
     let Some(member) = member else {
         return (&[], ABSENT);
@@ -358,9 +358,10 @@ pub fn take_member_text<'a>(member: Option<Node<'a>>, bytes_type: BytesType) -> 
 // The bytes of a member of this type. `None` if it is of another.
 fn bytes_of(member: Node<'_>, bytes_type: BytesType) -> Option<&[u8]>
     requires { HoldsNoScalar member }
-    ensures { MatchOption result
+    ensures bytes { MatchOption result
         ((bytes : List ℕ) → IsBytes bytes_type bytes (node_tree member.entry) → ⊥)
         (λ bytes. IsBytes bytes_type bytes.now (node_tree member.entry)) }
+    ensures utf8 { bytes_type ≡ BytesType.Text → IfSome result (λ bytes. IsUtf8 bytes.now) }
 {
     match bytes_type {
         BytesType::Text => text_of(member),
@@ -371,9 +372,10 @@ fn bytes_of(member: Node<'_>, bytes_type: BytesType) -> Option<&[u8]>
 // The UTF-8 of a text. `None` if the member is none.
 fn text_of(member: Node<'_>) -> Option<&[u8]>
     requires { HoldsNoScalar member }
-    ensures { MatchOption result
+    ensures text { MatchOption result
         ((bytes : List ℕ) → IsText bytes (node_tree member.entry) → ⊥)
         (λ bytes. IsText bytes.now (node_tree member.entry)) }
+    ensures utf8 { IfSome result (λ bytes. IsUtf8 bytes.now) }
 {
     match member {
         Node::String(text) => Some(text.as_bytes()),

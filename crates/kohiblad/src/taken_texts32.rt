@@ -3,8 +3,9 @@
 ghost use Rattle.std.specs.Prelude.{◌≡◌, ◌≤◌, ◌-◌, ◌^◌, [], ℕ, List, length, map};
 ghost use Rattle.jsonb_typed.specs.Words.{IsText};
 ghost use Rattle.kohiblad.specs.Status.{IsCopied};
-ghost use Rattle.kohiblad.specs.Taking.{IsReadRow, IsTakenRow, IsTakenUnchecked};
-ghost use Rattle.kohiblad.specs.TakenTexts.{AreTextsTaken, AreTextsWithin, IsTextsOf, low_half};
+ghost use Rattle.kohiblad.specs.Taking.{IsTakenRow};
+ghost use Rattle.kohiblad.specs.TakenTexts.{AreTextsTaken, AreTextsWithin, IsBytesRow};
+ghost use Rattle.kohiblad.specs.TakenTexts.{IsTextUnchecked, IsTextsOf, low_half};
 ghost use Rattle.kohiblad.specs.Words.{meaning_within};
 
 use crate::answer::NO_ROOM;
@@ -61,8 +62,8 @@ pub extern "C" fn kohiblad_take_text32_unchecked(
     text_offsets: &mut [u32],
     states: &mut [u8],
 ) -> KohibladTaken
-    ensures { AreTextsTaken (AreTextsWithin (2 ^ 31 - 1)) (IsTakenUnchecked IsText []) bytes.now
-        offsets.now (meaning_within depth path.now)
+    ensures { AreTextsTaken (AreTextsWithin (2 ^ 31 - 1)) IsTextUnchecked bytes.now offsets.now
+        (meaning_within depth path.now)
         (record {
           texts = out.old;
           texts_after = out.new;
@@ -87,7 +88,8 @@ fn take_texts32(
     text_offsets: &mut [u32],
     states: &mut [u8],
 ) -> KohibladTaken
-    ensures { AreTextsTaken (AreTextsWithin (2 ^ 31 - 1)) (IsReadRow IsText [] source.entry.reading)
+    ensures { AreTextsTaken (AreTextsWithin (2 ^ 31 - 1))
+        (IsBytesRow source.entry.reading BytesType.Text)
         source.entry.bytes.now source.entry.offsets.now
         (meaning_within source.entry.depth source.entry.path.now)
         (record {

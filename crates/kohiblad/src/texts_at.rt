@@ -2,10 +2,10 @@
 
 ghost use Rattle.std.specs.Prelude.{◌≡◌, ◌-◌, ◌^◌, [], ℕ, List, IfErr, IfOk};
 ghost use Rattle.std.specs.List.{AllZip};
-ghost use Rattle.jsonb_typed.specs.Words.{IsBinary, IsText};
+ghost use Rattle.jsonb_typed.specs.Words.{IsBinary};
 ghost use Rattle.kohiblad.specs.Located.{IsTakenAt, each_of};
 ghost use Rattle.kohiblad.specs.TakenTexts.{AreRowTextsTaken, AreTextsHandedOver};
-ghost use Rattle.kohiblad.specs.TakenTexts.{AreTextsWithin, IsBytes, IsTextsOf};
+ghost use Rattle.kohiblad.specs.TakenTexts.{AreTextsWithin, IsBytesAt, IsTextAt, IsTextsOf};
 ghost use Rattle.kohiblad.specs.Words.{Error};
 
 use crate::answer::code;
@@ -35,7 +35,7 @@ pub extern "C" fn kohiblad_take_text_at(
     text_offsets: &mut [usize],
     states: &mut [u8],
 ) -> KohibladTaken
-    ensures { AreRowTextsTaken AreTextsHandedOver (IsTakenAt IsText [] bytes.now)
+    ensures { AreRowTextsTaken AreTextsHandedOver (IsTextAt bytes.now)
         (each_of step places.now)
         (record {
           texts = out.old;
@@ -112,7 +112,7 @@ pub extern "C" fn kohiblad_take_text32_at(
     text_offsets: &mut [u32],
     states: &mut [u8],
 ) -> KohibladTaken
-    ensures { AreRowTextsTaken (AreTextsWithin (2 ^ 31 - 1)) (IsTakenAt IsText [] bytes.now)
+    ensures { AreRowTextsTaken (AreTextsWithin (2 ^ 31 - 1)) (IsTextAt bytes.now)
         (each_of step places.now)
         (record {
           texts = out.old;
@@ -142,7 +142,7 @@ fn take_texts_at(
     text_offsets: &mut [usize],
     states: &mut [u8],
 ) -> KohibladTaken
-    ensures { AreRowTextsTaken AreTextsHandedOver (IsTakenAt (IsBytes bytes_type) [] bytes.now)
+    ensures { AreRowTextsTaken AreTextsHandedOver (IsBytesAt bytes_type bytes.now)
         places.entry
         (record {
           texts = out.old;
@@ -170,7 +170,7 @@ fn texts_at(
     bytes_type: BytesType,
 ) -> Result<TakenTexts, Error>
     ensures ok { IfOk result (λ texts. (taken : List (List ℕ × ℕ))
-        × (AllZip (IsTakenAt (IsBytes bytes_type) [] bytes.now) places.entry taken
+        × (AllZip (IsBytesAt bytes_type bytes.now) places.entry taken
         × IsTextsOf taken texts)) }
     ensures memory { IfErr result (λ e. e ≡ Error.OutOfMemory) }
 {
@@ -184,9 +184,9 @@ fn texts_at(
 }
 
 // The bytes of the member at a place, or none, and the state of its row.
-#[tactic(auto, using(crate::proofs::LocatedLaws::taken_member, crate::proofs::LocatedLaws::taken_state, crate::proofs::UncheckedLaws::scalar_bytes))]
+#[tactic(auto, using(crate::proofs::LocatedLaws::taken_member, crate::proofs::LocatedLaws::taken_state, crate::proofs::UncheckedLaws::scalar_bytes, crate::proofs::TakenTextLaws::bytes_at, crate::proofs::TakenTextLaws::no_bytes))]
 fn text_at<'a>(bytes: &'a [u8], place: KohibladPlace, bytes_type: BytesType) -> (&'a [u8], u8)
-    ensures { IsTakenAt (IsBytes bytes_type) [] bytes.entry.now place (result.0.now, result.1) }
+    ensures { IsBytesAt bytes_type bytes.entry.now place (result.0.now, result.1) }
 {
     match member_at(bytes, place) {
         Ok(member) => take_member_text(member, bytes_type),

@@ -2,8 +2,7 @@ use Rattle.std.proofs.Common.{◌≡◌, true, Err, length, List, [], inr, subst
 use Rattle.jsonb.specs.Within.{meaning_within}
 use Rattle.jsonb_functions.specs.declared.path.Step.{Step}
 use Rattle.kohiblad.specs.Rows.{are_offsets, rows}
-use Rattle.kohiblad.specs.Taking.{IsReadRow}
-use Rattle.kohiblad.specs.TakenTexts.{AreTextsMade, IsBytes}
+use Rattle.kohiblad.specs.TakenTexts.{AreTextsMade, IsBytesRow}
 use Rattle.kohiblad.proofs.OverRowsLaws.{not_refused, same_path}
 use Rattle.kohiblad.proofs.taken_texts.source_texts.Goals as goal
 
@@ -15,13 +14,13 @@ returns-in-Ok-steps_of c =
     inr (
       good,
       same_path _ (λ status. c.row_texts.result ≡ Err status) _
-          (λ path. AreTextsMade (IsReadRow (IsBytes c.args.bytes_type) [] source.reading path)
+          (λ path. AreTextsMade (IsBytesRow source.reading c.args.bytes_type path)
           (rows source.bytes.now source.offsets.now) c.row_texts.result)
           (λ status refused. absurd (not_refused c.in-Ok-steps_of.steps status refused))
           (λ path is.
           subst
           (λ (path : List Step).
-          AreTextsMade (IsReadRow (IsBytes c.args.bytes_type) [] source.reading path)
+          AreTextsMade (IsBytesRow source.reading c.args.bytes_type path)
           (rows source.bytes.now source.offsets.now) c.row_texts.result)
           (c.deref.ensures.value ∙ is) (rw all at c.row_texts.ensures))
           (meaning_within source.depth source.path.now) c.in-Ok-steps_of.ensures,
