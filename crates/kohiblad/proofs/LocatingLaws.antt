@@ -2,7 +2,7 @@
 use Rattle.std.proofs.Common.{◌≡◌, ℕ, ◌+◌, ◌-◌, ◌*◌, ◌<◌, ◌≤◌, List, [], ◌∷◌, ◌++◌, length, drop}
 use Rattle.std.proofs.Common.{take, map, refl, sym, ap, ap₂, subst, ◌∙◌, arith, inl, inr}
 use Rattle.std.proofs.Common.{append_assoc, length-append, length-drop, zero-add, zero, suc, Bor}
-use Rattle.std.proofs.Common.{◌⊎◌, Option, nat_le, None, Some}
+use Rattle.std.proofs.Common.{◌⊎◌, ◌≢◌, Option, nat_le, None, Some}
 use Rattle.std.proofs.Common.{Result, Ok, option_map}
 use Rattle.std.specs.Prelude.{Bool, true, false, IfSome, ⊤, slice_index_or, slice_set, ◌&&◌}
 use Rattle.std.specs.List.{AllZip}
@@ -43,17 +43,17 @@ use Rattle.kohiblad.specs.declared.row_walk.RowWalk.{RowWalk}
 use Rattle.kohiblad.specs.declared.taking.Reading.{Reading}
 use Rattle.kohiblad.specs.declared.taking.Reading.TheVariants.{Checked, Unchecked}
 use Rattle.kohiblad.specs.Located.{IsPlaceOf}
-use Rattle.kohiblad.specs.Locating.{AreNamesLocated, ArePutBehind, IsKnownRow, IsLocated}
-use Rattle.kohiblad.specs.Locating.{IsMemberPlace, IsSomePlace, WithNames, WithNamesOf}
-use Rattle.kohiblad.specs.Locating.{joined_places, placed_answer}
+use Rattle.kohiblad.specs.Locating.{AreNamesLocated, ArePutBehind, IsInRow, IsKnownRow}
+use Rattle.kohiblad.specs.Locating.{IsLocated, IsLocatedIn, IsMemberPlace, IsSomePlace}
+use Rattle.kohiblad.specs.Locating.{WithNames, WithNamesOf, joined_places, placed_answer, row_at}
+use Rattle.kohiblad.specs.Locating.{spans_from}
 use Rattle.kohiblad.specs.Names.{names_in}
 use Rattle.kohiblad.specs.PlacedMembers.{name_place, name_under, names_ascend}
 use Rattle.kohiblad.specs.Places.{place_answer}
 use Rattle.kohiblad.specs.RowCells.{meaning_cell}
 use Rattle.kohiblad.specs.RowWalks.{IsFoundIn}
-use Rattle.kohiblad.specs.Rows.{are_offsets, rows_from}
+use Rattle.kohiblad.specs.Rows.{are_offsets}
 use Rattle.kohiblad.specs.Status.{code, other_kind}
-use Rattle.kohiblad.proofs.Orders.{row_count}
 use Rattle.kohiblad.proofs.TakingLaws.{one_more_in}
 use Rattle.kohiblad.proofs.UncheckedLaws.{no_document}
 
@@ -176,15 +176,32 @@ module _ (bytes row : List ℕ) (start end : ℕ) (is : row ≡ take (end - star
       (λ (m : Meaning). IsPlaceOf bytes (meaning_cell (Key name ∷ []) m) place) (sym means)
       ((member_located name place is_member).0 t document_is)
 
+  in_row : (name : Bor (List ℕ)) (place : KohibladPlace) → IsMemberPlace start row name place
+      → IsInRow (start, end) place
+  in_row name place (found, (same, (within, named))) =
+      subst (IsInRow (start, end)) (sym same) (entry_in_row found within)
+    where
+      entry_in_row : (found : Option Entry) → IfSome found (IsEntryIn row)
+          → IsInRow (start, end) (placed_answer start found)
+      entry_in_row None within there = absurd cc
+      entry_in_row (Some entry) within there =
+          let size = long in
+          let inner : entry.start + entry.length ≤ length row = within.0 in
+          (omega arith, omega (arith, size, inner))
+
   pub names_located : (reading : Reading) → IsKnownRow reading row
       → (names : List (Bor (List ℕ))) (places : List KohibladPlace)
       → AllZip (IsMemberPlace start row) names places
-      → AreNamesLocated reading bytes names row places
+      → AreNamesLocated reading bytes names (start, end) places
   names_located reading known [] [] are = tt
   names_located reading known [] (place ∷ places) are = absurd are
   names_located reading known (name ∷ names) [] are = absurd are
   names_located reading known (name ∷ names) (place ∷ places) are = (
-    known_located reading known name place are.0,
+    (
+      subst (λ (r : List ℕ). IsLocated reading bytes r name place) is
+          (known_located reading known name place are.0),
+      in_row name place are.0,
+    ),
     names_located reading known names places are.1,
   )
 
@@ -196,17 +213,20 @@ empty_located row place empty same bytes name =
     (λ t document. absurd (no_document row t document empty), (λ none. same, inl same))
 
 -- One place for all names.
-pub same_located : (reading : Reading) (bytes row : List ℕ) (same : KohibladPlace)
+pub same_located : (reading : Reading) (bytes : List ℕ) (span : ℕ × ℕ) (same : KohibladPlace)
     (names : List (Bor (List ℕ))) (places : List KohibladPlace)
-    → ((bytes : List ℕ) (name : Bor (List ℕ)) → IsLocated reading bytes row name same)
+    → ((bytes_now : List ℕ) (name : Bor (List ℕ))
+    → IsLocated reading bytes_now (row_at bytes span) name same)
+    → same.status ≢ 0
     → AllZip (λ (name : Bor (List ℕ)) one. one ≡ same) names places
-    → AreNamesLocated reading bytes names row places
-same_located reading bytes row same [] [] each are = tt
-same_located reading bytes row same [] (place ∷ places) each are = absurd are
-same_located reading bytes row same (name ∷ names) [] each are = absurd are
-same_located reading bytes row same (name ∷ names) (place ∷ places) each are = (
-  subst (IsLocated reading bytes row name) (sym are.0) (each bytes name),
-  same_located reading bytes row same names places each are.1,
+    → AreNamesLocated reading bytes names span places
+same_located reading bytes span same [] [] each none are = tt
+same_located reading bytes span same [] (place ∷ places) each none are = absurd are
+same_located reading bytes span same (name ∷ names) [] each none are = absurd are
+same_located reading bytes span same (name ∷ names) (place ∷ places) each none are = (
+  subst (IsLocatedIn reading bytes span name) (sym are.0)
+      (each bytes name, λ there. absurd (none there)),
+  same_located reading bytes span same names places each none are.1,
 )
 
 -- The places of the names that are left are still to be found in the walk.
@@ -398,24 +418,28 @@ room_left at m size end left later cut room =
 less_by : (n m : ℕ) → nat_le n m ≡ false → m < n
 less_by n m short = leb-false n m short
 
-pub no_place_for : (bytes ends : List ℕ) (start m : ℕ) (places : List KohibladPlace) (test : Bool)
+span_count : (start : ℕ) (ends : List ℕ) → length (spans_from start ends) ≡ length ends
+span_count start [] = refl
+span_count start (end ∷ ends) = ap suc (span_count end ends)
+
+pub no_place_for : (ends : List ℕ) (start m : ℕ) (places : List KohibladPlace) (test : Bool)
     → test ≡ nat_le (length ends * m) (length places) → test ≡ false
-    → length places < length (rows_from bytes start ends) * m
-no_place_for bytes ends start m places test is short =
-    subst (λ (n : ℕ). length places < n * m) (sym (row_count bytes start ends))
+    → length places < length (spans_from start ends) * m
+no_place_for ends start m places test is short =
+    subst (λ (n : ℕ). length places < n * m) (sym (span_count start ends))
     (less_by (length ends * m) (length places) (sym is ∙ short))
 
-pub place_for : (bytes ends : List ℕ) (start m : ℕ) (places : List KohibladPlace) (test : Bool)
+pub place_for : (ends : List ℕ) (start m : ℕ) (places : List KohibladPlace) (test : Bool)
     → test ≡ nat_le (length ends * m) (length places) → test ≡ true
-    → length (rows_from bytes start ends) * m ≤ length places
-place_for bytes ends start m places test is enough =
-    subst (λ (n : ℕ). n * m ≤ length places) (sym (row_count bytes start ends))
+    → length (spans_from start ends) * m ≤ length places
+place_for ends start m places test is enough =
+    subst (λ (n : ℕ). n * m ≤ length places) (sym (span_count start ends))
     (leb-true (length ends * m) (length places) (sym is ∙ enough))
 
 -- The places that are written so far for rows.
 pub record LocatedSoFar (reading : Reading) (bytes : List ℕ) (names : List (Bor (List ℕ)))
-    (rows left : List (List ℕ)) (at : ℕ) (places places_now : List KohibladPlace) : Type 0 where
-  pub done : List (List ℕ)
+    (rows left : List (ℕ × ℕ)) (at : ℕ) (places places_now : List KohibladPlace) : Type 0 where
+  pub done : List (ℕ × ℕ)
   pub found : List (List KohibladPlace)
   pub whole : rows ≡ done ++ left
   pub each : AllZip (AreNamesLocated reading bytes names) done found
@@ -423,7 +447,7 @@ pub record LocatedSoFar (reading : Reading) (bytes : List ℕ) (names : List (Bo
   pub places_are : places_now ≡ joined_places found ++ drop at places
 
 pub none_located : (reading : Reading) (bytes : List ℕ) (names : List (Bor (List ℕ)))
-    (rows : List (List ℕ)) (places : List KohibladPlace)
+    (rows : List (ℕ × ℕ)) (places : List KohibladPlace)
     → LocatedSoFar reading bytes names rows rows 0 places places
 none_located reading bytes names rows places = record {
   done = [];
@@ -443,7 +467,7 @@ all_zip_long R (x ∷ xs) (y ∷ ys) are =
     let rest = all_zip_long R xs ys are.1 in omega (arith, rest)
 
 pub one_more_located : (reading : Reading) (bytes : List ℕ) (names : List (Bor (List ℕ)))
-    (rows left later : List (List ℕ)) (row : List ℕ) (at : ℕ)
+    (rows left later : List (ℕ × ℕ)) (row : ℕ × ℕ) (at : ℕ)
     (places places_now places_after : List KohibladPlace) (found : List KohibladPlace)
     → LocatedSoFar reading bytes names rows left at places places_now
     → left ≡ row ∷ later → AreNamesLocated reading bytes names row found
@@ -452,8 +476,8 @@ pub one_more_located : (reading : Reading) (bytes : List ℕ) (names : List (Bor
 one_more_located reading bytes names rows left later row at places places_now places_after found
     so_far cut are put =
     let before = so_far.found in
-    let long : length found ≡ length names = all_zip_long (IsLocated reading bytes row) names found
-    are in
+    let long : length found ≡ length names = all_zip_long (IsLocatedIn reading bytes row) names
+    found are in
     let joined : joined_places (before ++ found ∷ []) ≡ joined_places before ++ found =
     flat_map-append (λ places. places) before (found ∷ [])
     ∙ ap (λ (xs : List KohibladPlace). joined_places before ++ xs) (append-nil found) in
@@ -463,7 +487,7 @@ one_more_located reading bytes names rows left later row at places places_now pl
       found = before ++ found ∷ [];
       whole =
           so_far.whole
-          ∙ ap (λ (xs : List (List ℕ)). so_far.done ++ xs) cut
+          ∙ ap (λ (xs : List (ℕ × ℕ)). so_far.done ++ xs) cut
           ∙ sym (append_assoc so_far.done (row ∷ []) later);
       each = all_zipped_more (AreNamesLocated reading bytes names) so_far.done before row found
           so_far.each are;
@@ -476,17 +500,17 @@ one_more_located reading bytes names rows left later row at places places_now pl
     }
 
 pub all_located : (reading : Reading) (bytes : List ℕ) (names : List (Bor (List ℕ)))
-    (rows left : List (List ℕ)) (at : ℕ) (places places_now : List KohibladPlace)
+    (rows left : List (ℕ × ℕ)) (at : ℕ) (places places_now : List KohibladPlace)
     → LocatedSoFar reading bytes names rows left at places places_now → left ≡ []
     → (found : List (List KohibladPlace))
     × (AllZip (AreNamesLocated reading bytes names) rows found
     × (places_now ≡ joined_places found ++ drop (length (joined_places found)) places))
 all_located reading bytes names rows left at places places_now so_far none =
     let whole : rows ≡ so_far.done =
-    so_far.whole ∙ ap (λ (xs : List (List ℕ)). so_far.done ++ xs) none ∙ append-nil so_far.done in (
+    so_far.whole ∙ ap (λ (xs : List (ℕ × ℕ)). so_far.done ++ xs) none ∙ append-nil so_far.done in (
       so_far.found,
       (
-        subst (λ (xs : List (List ℕ)). AllZip (AreNamesLocated reading bytes names) xs so_far.found)
+        subst (λ (xs : List (ℕ × ℕ)). AllZip (AreNamesLocated reading bytes names) xs so_far.found)
             (sym whole) so_far.each,
         so_far.places_are
             ∙ ap (λ (n : ℕ). joined_places so_far.found ++ drop n places) (sym so_far.many),

@@ -1,6 +1,6 @@
 -- The places of several members in rows, as C receives them.
-use Rattle.std.specs.Prelude.{◌≡◌, ◌<◌, ◌≤◌, ◌⊎◌, ◌+◌, ◌*◌, ◌++◌, ◌∷◌, [], ⊤, ℕ, true, false, List}
-use Rattle.std.specs.Prelude.{drop, length, map, Option, None, Some, IfSome, Ok}
+use Rattle.std.specs.Prelude.{◌≡◌, ◌<◌, ◌≤◌, ◌⊎◌, ◌+◌, ◌-◌, ◌*◌, ◌++◌, ◌∷◌, [], ⊤, ℕ, true}
+use Rattle.std.specs.Prelude.{false, List, drop, length, map, take, Option, None, Some, IfSome, Ok}
 use Rattle.std.specs.Borrow.{Bor}
 use Rattle.std.specs.List.{AllZip, flat_map}
 use Rattle.jsonb_value.specs.Meaning.{Meaning, document, other_bytes}
@@ -23,7 +23,7 @@ use Rattle.kohiblad.specs.Names.{names_in}
 use Rattle.kohiblad.specs.PlacedMembers.{name_place, names_ascend}
 use Rattle.kohiblad.specs.Places.{place_answer}
 use Rattle.kohiblad.specs.RowCells.{row_cell}
-use Rattle.kohiblad.specs.Rows.{are_offsets, rows}
+use Rattle.kohiblad.specs.Rows.{are_offsets}
 use Rattle.kohiblad.specs.Status.{code, no_room, other_kind}
 
 -- No place, or one inside the bytes.
@@ -41,10 +41,37 @@ IsLocated Unchecked bytes row name place =
     ((t : Tree) → Doc row t → IsPlaceOf bytes (member_cell (found_at (Key name ∷ []) t)) place)
     × ((row ≡ [] → place ≡ place_answer (Ok None)) × IsSomePlace bytes place)
 
+-- Where rows begin and end in all bytes: the first begins at `start`, and each other at the end of
+-- the previous one.
+abbrev pub spans_from : ℕ → List ℕ → List (ℕ × ℕ)
+spans_from start [] = []
+spans_from start (end ∷ ends) = (start, end) ∷ spans_from end ends
+
+-- Where the rows between these offsets begin and end.
+abbrev pub spans : List ℕ → List (ℕ × ℕ)
+spans [] = []
+spans (start ∷ ends) = spans_from start ends
+
+-- The bytes of the row that begins and ends there.
+abbrev pub row_at : List ℕ → ℕ × ℕ → List ℕ
+row_at bytes span = take (span.1 - span.0) (drop span.0 bytes)
+
+-- The place is one inside the row that begins and ends there, if it is any.
+abbrev pub IsInRow : ℕ × ℕ → KohibladPlace → Type 0
+IsInRow span place =
+    place.status ≡ 0 → (span.0 ≤ place.offset) × (place.offset + place.length ≤ span.1)
+
+-- The place of the member with a name of the row that begins and ends there, which is inside that
+-- row.
+abbrev pub IsLocatedIn : Reading → List ℕ → ℕ × ℕ → Bor (List ℕ) → KohibladPlace → Type 0
+IsLocatedIn reading bytes span name place =
+    IsLocated reading bytes (row_at bytes span) name place × IsInRow span place
+
 -- The places of the members with these names of a row.
-abbrev pub AreNamesLocated : Reading → List ℕ → List (Bor (List ℕ)) → List ℕ
+abbrev pub AreNamesLocated : Reading → List ℕ → List (Bor (List ℕ)) → ℕ × ℕ
     → List KohibladPlace → Type 0
-AreNamesLocated reading bytes names row places = AllZip (IsLocated reading bytes row) names places
+AreNamesLocated reading bytes names span places =
+    AllZip (IsLocatedIn reading bytes span) names places
 
 -- One list after another.
 abbrev pub joined_places : List (List KohibladPlace) → List KohibladPlace
@@ -52,7 +79,7 @@ joined_places = flat_map (λ places. places)
 
 -- The places of each row are at the start of the buffer, one row's after another's, and the rest is
 -- unchanged.
-abbrev pub AreRowsLocated : Reading → List ℕ → List (Bor (List ℕ)) → List (List ℕ)
+abbrev pub AreRowsLocated : Reading → List ℕ → List (Bor (List ℕ)) → List (ℕ × ℕ)
     → List KohibladPlace → List KohibladPlace → Type 0
 AreRowsLocated reading bytes names rows before after =
     (found : List (List KohibladPlace))
@@ -60,7 +87,7 @@ AreRowsLocated reading bytes names rows before after =
     × (after ≡ joined_places found ++ drop (length (joined_places found)) before))
 
 -- The places are written, if the buffer has room for those of all rows.
-abbrev pub ArePlacesWritten : Reading → List ℕ → List (Bor (List ℕ)) → List (List ℕ)
+abbrev pub ArePlacesWritten : Reading → List ℕ → List (Bor (List ℕ)) → List (ℕ × ℕ)
     → List KohibladPlace → List KohibladPlace → ℕ → Type 0
 ArePlacesWritten reading bytes names rows before after status =
     ((length before < length rows * length names) × ((status ≡ no_room) × (after ≡ before)))
@@ -92,7 +119,7 @@ AreLocated reading bytes offsets names before after status =
     × ((status ≡ code InvalidEOF) × (after ≡ before)))
     ⊎ ((are_offsets (length bytes) 0 offsets ≡ true)
     × WithNamesOf (λ refusal. (status ≡ refusal) × (after ≡ before))
-    (λ names. ArePlacesWritten reading bytes names (rows bytes offsets) before after status) names)
+    (λ names. ArePlacesWritten reading bytes names (spans offsets) before after status) names)
 
 -- The place in all bytes of an entry that was found in a row, which begins at `start`.
 abbrev pub placed_answer : ℕ → Option Entry → KohibladPlace

@@ -1,18 +1,18 @@
 //! The calls that find several members of rows in one walk over each row.
 
-ghost use Rattle.std.specs.Prelude.{◌≡◌, ◌≤◌, ◌<◌, ◌⊎◌, ◌+◌, ◌-◌, ◌*◌, ◌^◌, [], ℕ, List};
-ghost use Rattle.std.specs.Prelude.{IfErr, IfOk, IfSome, None, drop, false, length, map, nat_le, take, true};
+ghost use Rattle.std.specs.Prelude.{◌≡◌, ◌≢◌, ◌≤◌, ◌<◌, ◌⊎◌, ◌+◌, ◌*◌, ◌^◌, [], ℕ, List, IfErr};
+ghost use Rattle.std.specs.Prelude.{IfOk, IfSome, None, false, length, map, nat_le, true};
 ghost use Rattle.std.specs.Borrow.{Bor};
 ghost use Rattle.std.specs.List.{AllZip};
 ghost use Rattle.typed_vector.specs.Cells.{rest_cell};
 ghost use Rattle.kohiblad.specs.Located.{IsPlaceOf};
 ghost use Rattle.kohiblad.specs.Locating.{AreLocated, AreNamesLocated, ArePlacesWritten};
 ghost use Rattle.kohiblad.specs.Locating.{ArePutBehind, AreRowsLocated, IsKnownRow, IsLocated};
-ghost use Rattle.kohiblad.specs.Locating.{IsMemberPlace, placed_answer};
+ghost use Rattle.kohiblad.specs.Locating.{IsMemberPlace, placed_answer, spans, spans_from};
 ghost use Rattle.kohiblad.specs.PlacedMembers.{names_ascend};
 ghost use Rattle.kohiblad.specs.RowWalks.{IsFoundIn, IsWalk};
 ghost use Rattle.kohiblad.specs.Status.{code, other_kind};
-ghost use Rattle.kohiblad.specs.Words.{are_offsets, meaning_within, rows, rows_from};
+ghost use Rattle.kohiblad.specs.Words.{are_offsets, meaning_within};
 ghost use Rattle.kohiblad.specs.declared.places.KohibladPlace.{KohibladPlace};
 
 use crate::answer::{NO_ROOM, NONE, OK, OTHER_KIND, code};
@@ -57,7 +57,7 @@ pub extern "C" fn kohiblad_locate(
 
 /// Finds the members of rows as `kohiblad_locate` does, without checking the rows. Of each row that
 /// is a document, of any depth, or has no bytes, the places are as that call has them. Of any other
-/// bytes each place has the status `NONE`, or is one inside all bytes. The depth is that of the
+/// bytes each place has the status `NONE`, or is one inside the row. The depth is that of the
 /// names.
 #[unsafe(no_mangle)]
 pub extern "C" fn kohiblad_locate_unchecked(
@@ -129,7 +129,7 @@ fn locate_names(
     ensures order { names_ascend None (map (λ name. name.now) names.now) ≡ false
         → (result ≡ other_kind) × (places.new ≡ places.old) }
     ensures written { names_ascend None (map (λ name. name.now) names.now) ≡ true
-        → ArePlacesWritten reading bytes.now names.now (rows bytes.now offsets.now)
+        → ArePlacesWritten reading bytes.now names.now (spans offsets.now)
         places.old places.new result
         ⊎ ((result ≡ code Error.OutOfMemory) × (places.new ≡ places.old)) }
 {
@@ -145,8 +145,7 @@ fn locate_names(
 
 // Where the first row begins, and where each row ends.
 fn start_and_ends(offsets: &[usize]) -> (usize, &[usize])
-    ensures rows { (bytes : List ℕ)
-        → rows_from bytes result.0 result.1.now ≡ rows bytes offsets.entry.now }
+    ensures rows { spans_from result.0 result.1.now ≡ spans offsets.entry.now }
     ensures good { (size : ℕ) → are_offsets size 0 offsets.entry.now ≡ true
         → are_offsets size result.0 result.1.now ≡ true }
 {
@@ -169,7 +168,7 @@ fn locate_all(
     requires offsets { are_offsets (length bytes.now) start ends.now ≡ true }
     requires order { names_ascend None (map (λ name. name.now) names.now) ≡ true }
     requires passed { length passed.old ≡ length names.now }
-    ensures { ArePlacesWritten reading bytes.now names.now (rows_from bytes.now start ends.now)
+    ensures { ArePlacesWritten reading bytes.now names.now (spans_from start ends.now)
         places.old places.new result }
 {
     if have_room(ends.len(), names.len(), places.len()) {
@@ -224,7 +223,7 @@ fn locate_rows(
     requires order { names_ascend None (map (λ name. name.now) names.now) ≡ true }
     requires passed { length passed.old ≡ length names.now }
     requires room { length ends.now * length names.now ≤ length places.old }
-    ensures { AreRowsLocated reading bytes.now names.now (rows_from bytes.now start ends.now)
+    ensures { AreRowsLocated reading bytes.now names.now (spans_from start ends.now)
         places.old places.new }
 {
     let mut start = start;
@@ -255,8 +254,7 @@ fn locate_row(
     requires passed { length passed.old ≡ length names.now }
     requires room { at + length names.now ≤ length places.old }
     ensures { (found : List KohibladPlace)
-        × (AreNamesLocated reading bytes.now names.now (take (end - start) (drop start bytes.now))
-        found
+        × (AreNamesLocated reading bytes.now names.now (start, end) found
         × ArePutBehind at found places.old places.new) }
 {
     let row = &bytes[start..end];
@@ -276,6 +274,7 @@ fn walk_of<'a>(row: &'a [u8], reading: Reading) -> Result<RowWalk<'a>, KohibladP
     ensures known { IfOk result (λ walk. IsKnownRow reading row.entry.now) }
     ensures same { IfErr result (λ place. (bytes : List ℕ) (name : Bor (List ℕ))
         → IsLocated reading bytes row.entry.now name place) }
+    ensures none { IfErr result (λ place. place.status ≢ 0) }
 {
     match reading {
         Reading::Checked(depth) => match SortKey::within(row, depth) {
@@ -294,7 +293,8 @@ fn walk_of<'a>(row: &'a [u8], reading: Reading) -> Result<RowWalk<'a>, KohibladP
 
 // The place of all names in a row that is not a document.
 fn place_of_bytes(row: &[u8]) -> KohibladPlace
-    ensures { (bytes : List ℕ) → IsPlaceOf bytes (rest_cell row.now) result }
+    ensures place { (bytes : List ℕ) → IsPlaceOf bytes (rest_cell row.now) result }
+    ensures none { result.status ≢ 0 }
 {
     if row.is_empty() {
         no_place(NONE)

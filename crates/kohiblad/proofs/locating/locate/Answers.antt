@@ -1,8 +1,8 @@
 use Rattle.std.proofs.Common.{◌≡◌, ◌∙◌, Bor, List, Some, ap, inr, length, map, rules, true, ℕ}
 use Rattle.jsonb.specs.Document.{document_tree}
 use Rattle.jsonb.specs.Within.{meaning_within}
-use Rattle.kohiblad.specs.Locating.{ArePlacesWritten}
-use Rattle.kohiblad.specs.Rows.{are_offsets, rows}
+use Rattle.kohiblad.specs.Locating.{ArePlacesWritten, spans}
+use Rattle.kohiblad.specs.Rows.{are_offsets}
 use Rattle.kohiblad.proofs.LocatingLaws.{with_names}
 use Rattle.kohiblad.proofs.locating.locate.Goals as goal
 
@@ -15,7 +15,7 @@ returns-in-Ok-Some c =
           (λ refusal. (c.locate_names.result ≡ refusal)
           × (c.locate_names.new.places ≡ c.args.places.now))
           (λ names. ArePlacesWritten c.args.reading c.args.bytes.now names
-          (rows c.args.bytes.now c.args.offsets.now) c.args.places.now c.locate_names.new.places
+          (spans c.args.offsets.now) c.args.places.now c.locate_names.new.places
           c.locate_names.result)
           c.deref.result.now c.locate_names.ensures.order c.locate_names.ensures.written
           (document_tree c.in-Ok.names) (meaning_within c.args.depth c.args.names.now)

@@ -5,7 +5,7 @@ use Rattle.kohiblad.proofs.locating.locate_all.Goals as goal
 pub returns-then-have_room : goal.returns-then-have_room
 returns-then-have_room c =
     inr (
-      place_for c.args.bytes.now c.args.ends.now c.args.start (length c.args.names.now)
+      place_for c.args.ends.now c.args.start (length c.args.names.now)
           c.args.places.now c.have_room.result c.have_room.ensures c.if-have_room.true,
       (refl, c.locate_rows.ensures),
     )
@@ -13,7 +13,7 @@ returns-then-have_room c =
 pub returns : goal.returns
 returns c =
     inl (
-      no_place_for c.args.bytes.now c.args.ends.now c.args.start (length c.args.names.now)
+      no_place_for c.args.ends.now c.args.start (length c.args.names.now)
           c.args.places.now c.have_room.result c.have_room.ensures c.if-have_room.false,
       (refl, refl),
     )

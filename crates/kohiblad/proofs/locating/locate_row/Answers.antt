@@ -17,12 +17,11 @@ returns-in-Ok c =
 
 pub returns-in-Err : goal.returns-in-Err
 returns-in-Err c =
-    let row = take (c.args.end - c.args.start) (drop c.args.start c.args.bytes.now) in
     let (found, (are, put)) = c.put_same.ensures in (
       found,
       (
-        same_located c.args.reading c.args.bytes.now row c.in-Err.place c.args.names.now found
-            c.in-Err.ensures.same are,
+        same_located c.args.reading c.args.bytes.now (c.args.start, c.args.end) c.in-Err.place
+            c.args.names.now found c.in-Err.ensures.same c.in-Err.ensures.none are,
         put,
       ),
     )

@@ -1,6 +1,6 @@
-use Rattle.std.proofs.Common.{◌≡◌, ◌≤◌, ◌-◌, ◌∷◌, ℕ, drop, length, rules, subst, sym, take, ap}
+use Rattle.std.proofs.Common.{◌≡◌, ◌≤◌, ◌∷◌, ℕ, length, rules, subst, sym, ap}
 use Rattle.std.proofs.Common.{zero-add}
-use Rattle.kohiblad.specs.Rows.{rows_from}
+use Rattle.kohiblad.specs.Locating.{spans_from}
 use Rattle.kohiblad.proofs.LocatingLaws.{later_offsets, none_located, one_more_located, room_left}
 use Rattle.kohiblad.proofs.locating.locate_rows.Goals as goal
 
@@ -9,7 +9,7 @@ loop-end-init c = record {
   offsets = c.requires.offsets;
   room = subst (λ (n : ℕ). n ≤ length c.args.places.now) (sym (zero-add _)) c.requires.room;
   so_far = none_located c.args.reading c.args.bytes.now c.args.names.now
-      (rows_from c.args.bytes.now c.args.start c.args.ends.now) c.args.places.now;
+      (spans_from c.args.start c.args.ends.now) c.args.places.now;
 }
 
 pub loop-end-preserved : goal.loop-end-preserved
@@ -27,8 +27,8 @@ loop-end-preserved c =
       room = room_left walk.at (length names) (length c.args.places.now) end walk.left.now later cut
           walk.invariant.room;
       so_far = one_more_located c.args.reading bytes names
-          (rows_from bytes c.args.start c.args.ends.now) (rows_from bytes walk.start walk.left.now)
-          (rows_from bytes end later) (take (end - walk.start) (drop walk.start bytes)) walk.at
+          (spans_from c.args.start c.args.ends.now) (spans_from walk.start walk.left.now)
+          (spans_from end later) (walk.start, end) walk.at
           c.args.places.now walk.places c.locate_row.new.places found walk.invariant.so_far
-          (ap (rows_from bytes walk.start) cut) are put;
+          (ap (spans_from walk.start) cut) are put;
     }
