@@ -1,7 +1,7 @@
 -- What C receives where a file of typed columns is written.
 use Rattle.std.proofs.Common.{◌≡◌, ◌⊎◌, inl, inr, ℕ, ◌<◌, ◌≤◌, ◌-◌, ◌^◌, List, [], ◌∷◌, ◌++◌}
 use Rattle.std.proofs.Common.{map, length, take, drop, slice_index_or, refl, sym, ap, subst}
-use Rattle.std.proofs.Common.{arith, ◌∙◌, append_assoc, Bor, Option, None, Result, Err}
+use Rattle.std.proofs.Common.{arith, ◌∙◌, ◌↔◌, append_assoc, Bor, Option, None, Result, Err}
 use Rattle.std.specs.List.{flat_map}
 use Rattle.std.proofs.lemmas.Grind.{flat_map-append}
 use Rattle.std.proofs.lemmas.List.{append-nil, map-append, take_all}
@@ -195,19 +195,21 @@ refusal status = Err status
 pub write_refused : (documents : List Document) (plans : List ColumnPlan) (A : Type 0)
     (e : WriteError)
     → (◌≡◌ {A = Result A WriteError} (Err e) (Err errors.NamesNotAscending)
-    → AscendPlans None plans → ⊥)
+    ↔ (AscendPlans None plans → ⊥))
     → (◌≡◌ {A = Result A WriteError} (Err e) (Err errors.TooManyColumns)
     → 2 ^ 32 ≤ length plans)
     → (◌≡◌ {A = Result A WriteError} (Err e) (Err errors.RowTooLarge) → AllFit documents → ⊥)
     → BuildsDocuments documents plans (Err (write_code e))
 write_refused documents plans A errors.NamesNotAscending names many large =
-    inl (refl, names refl)
+    (λ other. refl, inl (refl, names.0 refl))
 write_refused documents plans A errors.TooManyColumns names many large =
-    inr (inl (refl, inr (many refl)))
+    (λ other. cc (names.1 other), inr (inl (refl, inr (many refl))))
 write_refused documents plans A errors.RowTooLarge names many large =
-    inr (inl (refl, inl (large refl)))
-write_refused documents plans A errors.NotReadBack names many large = inr (inr (inl refl))
-write_refused documents plans A errors.OutOfMemory names many large = inr (inr (inr refl))
+    (λ other. cc (names.1 other), inr (inl (refl, inl (large refl))))
+write_refused documents plans A errors.NotReadBack names many large =
+    (λ other. cc (names.1 other), inr (inr (inl refl)))
+write_refused documents plans A errors.OutOfMemory names many large =
+    (λ other. cc (names.1 other), inr (inr (inr refl)))
 
 pub rows_refused : (depth : ℕ) (rows : List (List ℕ)) (plans : List ColumnPlan) (e : Error)
     → ((e ≡ InvalidJsonb) × (AreWithin depth rows → ⊥)) ⊎ (e ≡ OutOfMemory)

@@ -43,14 +43,15 @@ AreRowsOf rows documents = map document_bytes documents ≡ rows
 
 -- A file of documents with these columns, or why there is none: the names do not ascend, a document
 -- exceeds a limit of the format or there are too many columns, the file was not read back, or there
--- is not enough memory.
+-- is not enough memory. Names that do not ascend are refused first.
 abbrev pub BuildsDocuments : List Document → List ColumnPlan → Result (List ℕ) ℕ → Type 0
 BuildsDocuments documents plans (Ok file) = IsFileOf documents plans file
 BuildsDocuments documents plans (Err status) =
-    ((status ≡ other_kind) × (AscendPlans None plans → ⊥))
+    ((AscendPlans None plans → ⊥) → status ≡ other_kind)
+    × (((status ≡ other_kind) × (AscendPlans None plans → ⊥))
     ⊎ (((status ≡ code InvalidJsonb)
     × ((AllFit documents → ⊥) ⊎ (2 ^ 32 ≤ length plans)))
-    ⊎ ((status ≡ not_read_back) ⊎ (status ≡ code OutOfMemory)))
+    ⊎ ((status ≡ not_read_back) ⊎ (status ≡ code OutOfMemory))))
 
 -- The same of rows, which are refused if one is not a document of at most this depth.
 abbrev pub BuildsRows : ℕ → List (List ℕ) → List ColumnPlan → Result (List ℕ) ℕ → Type 0

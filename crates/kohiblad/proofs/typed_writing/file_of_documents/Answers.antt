@@ -9,4 +9,4 @@ returns-in-Err c =
     subst (λ (s : ℕ). BuildsDocuments c.args.documents.now c.args.plans.now (refusal s))
     (sym c.write_code.ensures)
     (write_refused c.args.documents.now c.args.plans.now (Vec ℕ) c.in-Err.error
-    c.in-Err.ensures.names.0 c.in-Err.ensures.many c.in-Err.ensures.large)
+    c.in-Err.ensures.names c.in-Err.ensures.many c.in-Err.ensures.large)
