@@ -1,5 +1,5 @@
 -- The bytes of a file determine what it is made of.
-use Rattle.std.proofs.Common.{◌≡◌, ℕ, true, false, Result, Ok, Err, ◌<◌}
+use Rattle.std.proofs.Common.{◌≡◌, ◌⊎◌, ℕ, true, false, Result, Ok, Err, ◌<◌, inl, inr}
 use Rattle.std.proofs.Common.{◌≤◌, ◌^◌, List, [], ◌∷◌, ◌++◌, length, take, drop}
 use Rattle.std.proofs.Common.{refl, sym, ap, ap₂, subst, ◌∙◌, arith, append_assoc}
 use Rattle.std.specs.Prelude.{◌==◌, All, IfErr, IsErrAnd, if◌then◌else◌}
@@ -10,11 +10,14 @@ use Rattle.std.proofs.lemmas.List.{append-nil, length-append}
 use Rattle.std.proofs.lemmas.List.Elements.{All-head, All-tail}
 use Rattle.std.proofs.lemmas.Nat.{from_be_bytes-to_be_bytes_4, from_be_bytes-to_be_bytes_8}
 use Rattle.jsonb_column.specs.Storage.{row_bytes}
+use Rattle.jsonb_typed_file.specs.declared.error.FileError.{FileError}
+use Rattle.jsonb_typed_file.specs.declared.error.FileError.TheVariants as errors
 use Rattle.jsonb_typed_file.specs.declared.types.StoredType.{StoredType}
 use Rattle.jsonb_typed_file.specs.declared.types.StoredType.TheVariants as types
 use Rattle.jsonb_typed_file.specs.Layout.{Contents, IsColumn, IsLayout, Parts, column_bytes}
 use Rattle.jsonb_typed_file.specs.Layout.{columns_bytes, file_bytes, header, type_bytes}
-use Rattle.jsonb_typed_file.specs.Layout.{EndsEarly, HasTrailingData}
+use Rattle.jsonb_typed_file.specs.Layout.{EndsEarly, HasOtherVersion, HasTrailingData, IsCutOff}
+use Rattle.jsonb_typed_file.specs.Layout.{magic}
 
 -- Equal concatenations whose first parts have equal lengths have equal parts.
 pub same_parts : (a b x y : List ℕ) → length a ≡ length b → a ++ x ≡ b ++ y → (a ≡ b) × (x ≡ y)
@@ -298,6 +301,62 @@ pub behind_documents : (f : Contents) (front more y d z : List ℕ) → IsLayout
     → y ≡ row_bytes d ++ z → (d ≡ f.documents) × (z ≡ columns_bytes f.columns ++ more)
 behind_documents f front more y d z layout behind short split =
     same_row d f.documents z _ short layout.documents (sym split ∙ behind)
+
+-- Bytes that begin with a part go on with what is behind it.
+pub goes_behind : (front later bytes more : List ℕ) → bytes ≡ front ++ later
+    → bytes ++ more ≡ front ++ (later ++ more)
+goes_behind front later bytes more split =
+    ap (λ b. b ++ more) split ∙ append_assoc front later more
+
+-- More bytes after none are these.
+pub none_more : (rest more : List ℕ) → rest ++ more ≡ [] → more ≡ []
+none_more [] more is = is
+none_more (x ∷ rest) more is = absurd cc
+
+-- A file that was cut off has no other version.
+pub not_other_version : (bytes : List ℕ) → IsCutOff bytes → HasOtherVersion bytes → ⊥
+not_other_version bytes cut other =
+    let count = length cut.file.columns in
+    let later = row_bytes cut.file.offsets ++ (row_bytes cut.file.documents
+    ++ columns_bytes cut.file.columns) in
+    let here : bytes ++ cut.more
+    ≡ magic ++ ((to_be_bytes w32 other.version ++ other.later) ++ cut.more) =
+    goes_behind magic (to_be_bytes w32 other.version ++ other.later) bytes cut.more
+    other.written in
+    let there : bytes ++ cut.more
+    ≡ magic ++ ((to_be_bytes w32 1 ++ to_be_bytes w32 count) ++ later) =
+    cut.layout.written ∙ append_assoc magic (to_be_bytes w32 1 ++ to_be_bytes w32 count) later in
+    let (_, versions) = same_parts magic magic _ _ refl (sym here ∙ there) in
+    let (is, _) = same_parts (to_be_bytes w32 other.version) (to_be_bytes w32 1) _ _ refl
+    (sym (append_assoc (to_be_bytes w32 other.version) other.later cut.more) ∙ versions
+    ∙ append_assoc (to_be_bytes w32 1) (to_be_bytes w32 count) later) in
+    other.other (sym (from_be_bytes-to_be_bytes_4 other.version other.few)
+    ∙ ap (from_be_bytes w32) is)
+
+-- With what error a header is refused that was cut off.
+pub header_cut : (bytes : List ℕ) (e : FileError) → IsCutOff bytes
+    → (e ≡ errors.BadMagic) ⊎ ((e ≡ errors.UnknownVersion) ⊎ (e ≡ errors.Cut))
+    → (e ≡ errors.UnknownVersion → HasOtherVersion bytes)
+    → (e ≡ errors.BadMagic) ⊎ ((e ≡ errors.Cut) ⊎ (e ≡ errors.OutOfMemory))
+header_cut bytes e cut (inl is) version = inl is
+header_cut bytes e cut (inr (inl is)) version =
+    absurd (not_other_version bytes cut (version is))
+header_cut bytes e cut (inr (inr is)) version = inr (inl is)
+
+-- The columns of a file that was cut off are cut off.
+pub columns_cut : (bytes x o y d z : List ℕ) (n : ℕ) (cut : IsCutOff bytes) → n < 2 ^ 32
+    → bytes ≡ header n ++ x → length o < 2 ^ 64 → x ≡ row_bytes o ++ y → length d < 2 ^ 64
+    → y ≡ row_bytes d ++ z
+    → (length cut.file.columns ≡ n) × (z ++ cut.more ≡ columns_bytes cut.file.columns)
+columns_cut bytes x o y d z n cut few head short split small next =
+    let whole = bytes ++ cut.more in
+    let behind = behind_header cut.file whole [] whole (x ++ cut.more) n cut.layout
+    (sym (append-nil whole)) few (goes_behind (header n) x bytes cut.more head) in
+    let (_, documents) = behind_offsets cut.file whole [] (x ++ cut.more) o (y ++ cut.more) n
+    cut.layout behind short (goes_behind (row_bytes o) y x cut.more split) in
+    let (_, columns) = behind_documents cut.file whole [] (y ++ cut.more) d (z ++ cut.more)
+    cut.layout documents small (goes_behind (row_bytes d) z y cut.more next) in
+    (sym behind.count, columns ∙ append-nil (columns_bytes cut.file.columns))
 
 -- Bytes after the columns that a header says are bytes after a file.
 pub trailing : (n : ℕ) (bytes x o y d z : List ℕ) → n < 2 ^ 32 → bytes ≡ header n ++ x

@@ -18,10 +18,11 @@ use Rattle.jsonb_codec.specs.Doc.{IsDocument}
 use Rattle.jsonb.specs.Document.{tree_in}
 use Rattle.jsonb_typed_file.specs.declared.types.StoredType.{StoredType}
 use Rattle.jsonb_typed_file.specs.declared.types.StoredType.TheVariants as types
-use Rattle.jsonb_typed_file.specs.File.{AscendNames, HaveRows, HaveTexts, IsInForm, IsRest}
+use Rattle.jsonb_typed_file.specs.File.{AscendNames, HaveRows, HaveTexts, IsFile, IsRest}
 use Rattle.jsonb_typed_file.specs.File.{LengthsFit, NestWithin, row_count}
 use Rattle.jsonb_typed_file.specs.Layout.{Contents, Parts}
-use Rattle.jsonb_typed_file.specs.OneRow.{IsRowOf, IsRowWithin, column_of_row, cut, file_of_row}
+use Rattle.jsonb_typed_file.specs.OneRow.{IsRowInForm, IsRowOf, IsRowWithin, column_of_row, cut}
+use Rattle.jsonb_typed_file.specs.OneRow.{file_of_row}
 use Rattle.jsonb_typed_file.specs.Rows.{column_members, with_cell, with_members}
 use Rattle.jsonb_typed_file.specs.Values.{HasRows, IsText, IsWithin, cell_at}
 use Rattle.jsonb_typed_file.specs.Values.{is_set, number_at, number_size, string_at, value_tree}
@@ -362,11 +363,12 @@ rest_alone f index is = (
       is.1,
 )
 
--- The row of a file is in form.
-pub row_in_form : (f : Contents) (index : ℕ) → LengthsFit f → IsInForm f → index < row_count f
-    → IsInForm (file_of_row f index)
-row_in_form f index fit form low =
-    let one = count_alone f index fit low in
+-- Each row of a file is in form.
+pub form_of_row : (f : Contents) (bytes : List ℕ) (index : ℕ) → IsFile f bytes
+    → IsRowInForm f index
+form_of_row f bytes index file low =
+    let form = file.form in
+    let one = count_alone f index file.lengths low in
     record {
       names = names_alone None f.columns index form.names;
       texts = subst (λ n. HaveTexts n (map (λ p. column_of_row p index) f.columns)) (sym one)

@@ -86,6 +86,13 @@ pub record HasOtherVersion (bytes : List ℕ) : Type 0 where
   pub few : version < 2 ^ 32
   pub other : version ≢ 1
 
+-- The bytes are the first ones of a file, which goes on after them.
+pub record IsCutOff (bytes : List ℕ) : Type 0 where
+  pub file : Contents
+  pub more : List ℕ
+  pub layout : IsLayout file (bytes ++ more)
+  pub some : more ≢ []
+
 -- There are bytes after so many columns.
 pub record EndsEarly (count : ℕ) (bytes : List ℕ) : Type 0 where
   pub columns : List Parts

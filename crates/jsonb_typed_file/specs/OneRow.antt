@@ -2,7 +2,7 @@
 use Rattle.std.specs.Prelude.{◌≡◌, ◌<◌, ◌-◌, ◌+◌, ◌*◌, if◌then◌else◌, ℕ, List, [], ◌∷◌, map}
 use Rattle.std.specs.Prelude.{take, drop}
 use Rattle.jsonb_codec.specs.Depth.{IsDocumentWithin}
-use Rattle.jsonb_typed_file.specs.File.{row_count}
+use Rattle.jsonb_typed_file.specs.File.{IsInForm, row_count}
 use Rattle.jsonb_typed_file.specs.Layout.{Contents, Parts}
 use Rattle.jsonb_typed_file.specs.Rows.{row_tree}
 use Rattle.jsonb_typed_file.specs.Values.{is_set, number_size, string_at}
@@ -39,6 +39,11 @@ pub record IsRowOf (f : Contents) (index : ℕ) (g : Contents) : Type 0 where
   pub count : row_count g ≡ 1
   pub rest : string_at g.offsets g.documents 0 ≡ string_at f.offsets f.documents index
   pub tree : row_tree g 0 ≡ row_tree f index
+
+-- If there is such a row, it is in form: its rest is a document, its texts are texts, and the names
+-- ascend.
+abbrev pub IsRowInForm : Contents → ℕ → Type 0
+IsRowInForm f index = index < row_count f → IsInForm (file_of_row f index)
 
 -- If there is such a row, its rest nests at most so deep.
 abbrev pub IsRowWithin : ℕ → Contents → ℕ → Type 0

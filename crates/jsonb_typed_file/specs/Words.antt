@@ -5,7 +5,7 @@ pub use Rattle.jsonb_column.specs.Storage.{row_bytes}
 pub use Rattle.jsonb_typed_file.specs.Layout.{Contents, HasOtherVersion, IsColumn, IsLayout, Parts}
 pub use Rattle.jsonb_typed_file.specs.Layout.{column_bytes, columns_bytes, header}
 pub use Rattle.jsonb_typed_file.specs.Layout.{magic, type_bytes, EndsEarly, HasNoMagic}
-pub use Rattle.jsonb_typed_file.specs.Layout.{HasTrailingData}
+pub use Rattle.jsonb_typed_file.specs.Layout.{HasTrailingData, IsCutOff}
 pub use Rattle.jsonb_typed_file.specs.Views.{buffers_view, layout_view}
 pub use Rattle.jsonb_typed_file.specs.declared.types.StoredType.{StoredType}
 pub use Rattle.jsonb_typed_file.specs.Values.{AreTexts, Column, HasRows, HasTexts, IsChecked}

@@ -5,11 +5,11 @@ ghost use Rattle.std.specs.Prelude.{◌<◌, ◌≤◌, IfSome, MatchOption, Non
 ghost use Rattle.std.specs.Prelude.{option_map};
 ghost use Rattle.jsonb_typed_file.specs.Words.{Contents, HasNoMagic, HasOtherVersion};
 ghost use Rattle.jsonb_typed_file.specs.Words.{HasTrailingData, IsFile, IsFileWithin, IsInForm};
-ghost use Rattle.jsonb_typed_file.specs.Words.{IsLayout, layout_view};
+ghost use Rattle.jsonb_typed_file.specs.Words.{IsCutOff, IsLayout, layout_view};
 ghost use Rattle.jsonb_typed_file.specs.Words.{LengthsFit, buffers_view, column_named};
 ghost use Rattle.jsonb_typed_file.specs.Words.{IsMade, document_bytes, rest_at, row_count};
-ghost use Rattle.jsonb_typed_file.specs.Words.{HaveRows, HaveTexts, row_tree};
-ghost use Rattle.jsonb_typed_file.specs.OneRow.{IsRowOf, IsRowWithin};
+ghost use Rattle.jsonb_typed_file.specs.Words.{HaveRows, HaveTexts, NestWithin, row_tree};
+ghost use Rattle.jsonb_typed_file.specs.OneRow.{IsRowInForm, IsRowOf, IsRowWithin};
 
 use crate::buffers::Buffers;
 use crate::column::StoredColumn;
@@ -71,6 +71,9 @@ impl<'a> TypedFile<'a> {
         ensures version { result ≡ Err FileError.UnknownVersion ↔ HasOtherVersion bytes.entry.now }
         ensures cut { result ≡ Err FileError.Cut → (f : Contents) (front more : List ℕ)
             → IsLayout f front → bytes.entry.now ≡ front ++ more → ⊥ }
+        ensures cut_refused { IsCutOff bytes.entry.now → IsErrAnd result
+            (λ e. (e ≡ FileError.BadMagic)
+            ⊎ ((e ≡ FileError.Cut) ⊎ (e ≡ FileError.OutOfMemory))) }
         ensures trailing { result ≡ Err FileError.TrailingData → HasTrailingData bytes.entry.now }
         ensures trailing_refused { HasTrailingData bytes.entry.now → IsErrAnd result
             (λ e. (e ≡ FileError.TrailingData) ⊎ (e ≡ FileError.OutOfMemory)) }
@@ -100,6 +103,9 @@ impl<'a> TypedFile<'a> {
         ensures version { result ≡ Err FileError.UnknownVersion ↔ HasOtherVersion bytes.entry.now }
         ensures cut { result ≡ Err FileError.Cut → (f : Contents) (front more : List ℕ)
             → IsLayout f front → bytes.entry.now ≡ front ++ more → ⊥ }
+        ensures cut_refused { IsCutOff bytes.entry.now → IsErrAnd result
+            (λ e. (e ≡ FileError.BadMagic)
+            ⊎ ((e ≡ FileError.Cut) ⊎ (e ≡ FileError.OutOfMemory))) }
         ensures trailing { result ≡ Err FileError.TrailingData → HasTrailingData bytes.entry.now }
         ensures trailing_refused { HasTrailingData bytes.entry.now → IsErrAnd result
             (λ e. (e ≡ FileError.TrailingData) ⊎ (e ≡ FileError.OutOfMemory)) }
@@ -111,7 +117,7 @@ impl<'a> TypedFile<'a> {
         ensures form { result ≡ Err FileError.OutOfForm → (f : Contents)
             → IsFile f bytes.entry.now → ⊥ }
         ensures deep { result ≡ Err FileError.TooDeep → (f : Contents)
-            → IsFileWithin (Some depth) f bytes.entry.now → ⊥ }
+            → IsLayout f bytes.entry.now → LengthsFit f → NestWithin (Some depth) f → ⊥ }
         ensures refused { (f : Contents) → IsFile f bytes.entry.now
             → IfErr result (λ e. (e ≡ FileError.TooDeep) ⊎ (e ≡ FileError.OutOfMemory)) }
     {
@@ -129,6 +135,9 @@ impl<'a> TypedFile<'a> {
         ensures version { result ≡ Err FileError.UnknownVersion ↔ HasOtherVersion bytes.entry.now }
         ensures cut { result ≡ Err FileError.Cut → (f : Contents) (front more : List ℕ)
             → IsLayout f front → bytes.entry.now ≡ front ++ more → ⊥ }
+        ensures cut_refused { IsCutOff bytes.entry.now → IsErrAnd result
+            (λ e. (e ≡ FileError.BadMagic)
+            ⊎ ((e ≡ FileError.Cut) ⊎ (e ≡ FileError.OutOfMemory))) }
         ensures trailing { result ≡ Err FileError.TrailingData → HasTrailingData bytes.entry.now }
         ensures trailing_refused { HasTrailingData bytes.entry.now → IsErrAnd result
             (λ e. (e ≡ FileError.TrailingData) ⊎ (e ≡ FileError.OutOfMemory)) }
@@ -140,7 +149,7 @@ impl<'a> TypedFile<'a> {
         ensures form { result ≡ Err FileError.OutOfForm → (f : Contents)
             → IsFile f bytes.entry.now → ⊥ }
         ensures deep { result ≡ Err FileError.TooDeep → (f : Contents)
-            → IsFileWithin depth f bytes.entry.now → ⊥ }
+            → IsLayout f bytes.entry.now → LengthsFit f → NestWithin depth f → ⊥ }
         ensures refused { (f : Contents) → IsFile f bytes.entry.now
             → IfErr result (λ e. (e ≡ FileError.TooDeep) ⊎ (e ≡ FileError.OutOfMemory)) }
         ensures unlimited { depth ≡ None → IfErr result (λ e. e ≢ FileError.TooDeep) }
@@ -159,8 +168,10 @@ impl<'a> TypedFile<'a> {
     /// A file whose only row is the one at this index, counted from 0. The other rows are not read;
     /// this one is checked as `within` checks all. `None` if the index is not below the number of
     /// rows. `TooDeep` if the rest of the row nests deeper than `depth` levels; levels beyond are
-    /// not examined. `OutOfMemory` if a list of columns cannot be allocated; the other errors are
-    /// those of `new`, where `OutOfForm` means the names, the types or this row.
+    /// not examined. `OutOfForm` if the names do not ascend strictly, a text of the row is not
+    /// UTF-8, or its rest is not a document. `OutOfMemory` if a list of columns cannot be allocated;
+    /// the other errors are those of `new`.
+    #[tactic(auto, using(crate::proofs::OneRowLaws::form_of_row))]
     pub fn of_row(
         alloc: Global,
         bytes: &'a [u8],
@@ -173,14 +184,24 @@ impl<'a> TypedFile<'a> {
         ensures laid_out { IfOk result (λ one. (f : Contents) × (IsLayout f bytes.entry.now
             × LengthsFit f)) }
         ensures within { IfOk result (λ one. IfSome one (λ g. IsRowWithin depth g 0)) }
-        ensures memory { (f : Contents) → IsFile f bytes.entry.now → IsRowWithin depth f index
+        ensures memory { (f : Contents) → IsLayout f bytes.entry.now → LengthsFit f
+            → IsRowInForm f index → IsRowWithin depth f index
             → IfErr result (λ e. e ≡ FileError.OutOfMemory) }
-        ensures refused { (f : Contents) → IsFile f bytes.entry.now
+        ensures refused { (f : Contents) → IsLayout f bytes.entry.now → LengthsFit f
+            → IsRowInForm f index
             → IfErr result (λ e. (e ≡ FileError.TooDeep) ⊎ (e ≡ FileError.OutOfMemory)) }
+        ensures each { (f : Contents) → IsFile f bytes.entry.now → IsRowInForm f index }
+        ensures form { IfOk result (λ one. (f : Contents) → IsLayout f bytes.entry.now
+            → LengthsFit f → IsRowInForm f index) }
+        ensures deep { result ≡ Err FileError.TooDeep → (f : Contents)
+            → IsLayout f bytes.entry.now → LengthsFit f → IsRowWithin depth f index → ⊥ }
         ensures magic { result ≡ Err FileError.BadMagic ↔ HasNoMagic bytes.entry.now }
         ensures version { result ≡ Err FileError.UnknownVersion ↔ HasOtherVersion bytes.entry.now }
         ensures cut { result ≡ Err FileError.Cut → (f : Contents) (front more : List ℕ)
             → IsLayout f front → bytes.entry.now ≡ front ++ more → ⊥ }
+        ensures cut_refused { IsCutOff bytes.entry.now → IsErrAnd result
+            (λ e. (e ≡ FileError.BadMagic)
+            ⊎ ((e ≡ FileError.Cut) ⊎ (e ≡ FileError.OutOfMemory))) }
         ensures trailing { result ≡ Err FileError.TrailingData → HasTrailingData bytes.entry.now }
         ensures trailing_refused { HasTrailingData bytes.entry.now → IsErrAnd result
             (λ e. (e ≡ FileError.TrailingData) ⊎ (e ≡ FileError.OutOfMemory)) }
@@ -289,6 +310,8 @@ pub(crate) fn read_sized(alloc: Global, bytes: &[u8]) -> Result<Layout<'_>, File
     ensures version { result ≡ Err FileError.UnknownVersion ↔ HasOtherVersion bytes.now }
     ensures cut { result ≡ Err FileError.Cut → (f : Contents) (front more : List ℕ)
         → IsLayout f front → bytes.now ≡ front ++ more → ⊥ }
+    ensures cut_refused { IsCutOff bytes.now → IsErrAnd result (λ e. (e ≡ FileError.BadMagic)
+        ⊎ ((e ≡ FileError.Cut) ⊎ (e ≡ FileError.OutOfMemory))) }
     ensures trailing { result ≡ Err FileError.TrailingData → HasTrailingData bytes.now }
     ensures trailing_refused { HasTrailingData bytes.now → IsErrAnd result
         (λ e. (e ≡ FileError.TrailingData) ⊎ (e ≡ FileError.OutOfMemory)) }

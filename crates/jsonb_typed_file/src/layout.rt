@@ -1,11 +1,11 @@
 //! The sections of a file.
 
 ghost use Rattle.std.specs.Prelude.{◌≡◌, ◌<◌, ◌^◌, ◌++◌, ◌⊎◌, ◌≢◌, [], ℕ, List, All, Err, IfErr};
-ghost use Rattle.std.specs.Prelude.{IfOk, IsOk, length, map, ◌↔◌};
+ghost use Rattle.std.specs.Prelude.{IfOk, IsErrAnd, IsOk, length, map, ◌↔◌};
 ghost use Rattle.jsonb_typed_file.specs.Words.{IsColumn, IsLayout, Parts, Contents, column_bytes};
 ghost use Rattle.jsonb_typed_file.specs.Words.{buffers_view, columns_bytes, layout_view, row_bytes};
 ghost use Rattle.jsonb_typed_file.specs.Words.{EndsEarly, HasNoMagic, HasOtherVersion};
-ghost use Rattle.jsonb_typed_file.specs.Words.{HasTrailingData, row_count};
+ghost use Rattle.jsonb_typed_file.specs.Words.{HasTrailingData, IsCutOff, row_count};
 
 use crate::buffers::Buffers;
 use crate::error::FileError;
@@ -42,6 +42,8 @@ pub(crate) fn read_layout(alloc: Global, bytes: &[u8]) -> Result<Layout<'_>, Fil
         ⊎ ((e ≡ FileError.TrailingData) × (more ≢ []))) }
     ensures magic { result ≡ Err FileError.BadMagic ↔ HasNoMagic bytes.now }
     ensures version { result ≡ Err FileError.UnknownVersion ↔ HasOtherVersion bytes.now }
+    ensures cut_refused { IsCutOff bytes.now → IsErrAnd result (λ e. (e ≡ FileError.BadMagic)
+        ⊎ ((e ≡ FileError.Cut) ⊎ (e ≡ FileError.OutOfMemory))) }
     ensures trailing { result ≡ Err FileError.TrailingData → HasTrailingData bytes.now }
     ensures lengths { IfErr result (λ e. e ≢ FileError.WrongLength) }
     ensures deep { IfErr result (λ e. e ≢ FileError.TooDeep) }
@@ -69,6 +71,9 @@ fn read_columns(alloc: Global, count: u32, bytes: &[u8]) -> Result<Vec<Buffers<'
         → bytes.now ≡ columns_bytes ps ++ more
         → IfErr result (λ e. (e ≡ FileError.OutOfMemory)
         ⊎ ((e ≡ FileError.TrailingData) × (more ≢ []))) }
+    ensures cut { (ps : List Parts) (more : List ℕ) → All IsColumn ps → length ps ≡ count
+        → bytes.now ++ more ≡ columns_bytes ps → more ≢ []
+        → IsErrAnd result (λ e. (e ≡ FileError.Cut) ⊎ (e ≡ FileError.OutOfMemory)) }
     ensures trailing { result ≡ Err FileError.TrailingData → EndsEarly count bytes.now }
     ensures only { IfErr result (λ e. (e ≡ FileError.Cut) ⊎ ((e ≡ FileError.OutOfForm)
         ⊎ ((e ≡ FileError.TrailingData) ⊎ (e ≡ FileError.OutOfMemory)))) }
@@ -93,6 +98,9 @@ fn split_column(bytes: &[u8]) -> Result<(Buffers<'_>, &[u8]), FileError>
     ensures column { IfOk result (λ x. IsColumn (buffers_view x.0)) }
     ensures begun { (p : Parts) (later : List ℕ) → IsColumn p
         → bytes.now ≡ column_bytes p ++ later → IsOk result }
+    ensures cut { (p : Parts) (more later : List ℕ) → IsColumn p
+        → bytes.now ++ more ≡ column_bytes p ++ later
+        → IfErr result (λ e. e ≡ FileError.Cut) }
     ensures only { IfErr result (λ e. (e ≡ FileError.Cut) ⊎ (e ≡ FileError.OutOfForm)) }
 {
     let (head, later) = split_section(bytes)?;

@@ -5,7 +5,7 @@ ghost use Rattle.std.specs.Prelude.{IfErr, IfOk, IsErrAnd, length, map};
 ghost use Rattle.std.specs.List.{AllZip};
 ghost use Rattle.jsonb_typed_file.specs.Places.{IsColumnAt};
 ghost use Rattle.jsonb_typed_file.specs.Words.{Contents, HasNoMagic, HasOtherVersion};
-ghost use Rattle.jsonb_typed_file.specs.Words.{HasTrailingData, IsLayout, LengthsFit};
+ghost use Rattle.jsonb_typed_file.specs.Words.{HasTrailingData, IsCutOff, IsLayout, LengthsFit};
 ghost use Rattle.jsonb_typed_file.specs.Words.{buffers_view, column_bytes, columns_bytes};
 ghost use Rattle.jsonb_typed_file.specs.Words.{row_count};
 
@@ -54,6 +54,8 @@ pub fn column_places(alloc: Global, bytes: &[u8]) -> Result<Vec<ColumnPlaces>, F
     ensures version { result ≡ Err FileError.UnknownVersion ↔ HasOtherVersion bytes.now }
     ensures cut { result ≡ Err FileError.Cut → (f : Contents) (front more : List ℕ)
         → IsLayout f front → bytes.now ≡ front ++ more → ⊥ }
+    ensures cut_refused { IsCutOff bytes.now → IsErrAnd result (λ e. (e ≡ FileError.BadMagic)
+        ⊎ ((e ≡ FileError.Cut) ⊎ (e ≡ FileError.OutOfMemory))) }
     ensures trailing { result ≡ Err FileError.TrailingData → HasTrailingData bytes.now }
     ensures trailing_refused { HasTrailingData bytes.now → IsErrAnd result
         (λ e. (e ≡ FileError.TrailingData) ⊎ (e ≡ FileError.OutOfMemory)) }

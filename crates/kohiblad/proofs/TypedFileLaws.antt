@@ -16,14 +16,14 @@ use Rattle.jsonb_typed_file.specs.declared.error.FileError.TheVariants as errors
 use Rattle.jsonb_typed_file.specs.declared.places.ColumnPlaces.{ColumnPlaces}
 use Rattle.jsonb_typed_file.specs.File.{LengthsFit, row_count}
 use Rattle.jsonb_typed_file.specs.Layout.{Contents, HasNoMagic, HasOtherVersion, HasTrailingData}
-use Rattle.jsonb_typed_file.specs.Layout.{IsLayout, Parts, type_bytes}
-use Rattle.jsonb_typed_file.specs.OneRow.{IsRowOf, IsRowWithin}
+use Rattle.jsonb_typed_file.specs.Layout.{IsCutOff, IsLayout, Parts, type_bytes}
+use Rattle.jsonb_typed_file.specs.OneRow.{IsRowInForm, IsRowOf, IsRowWithin}
 use Rattle.jsonb_typed_file.specs.Places.{IsColumnAt}
 use Rattle.jsonb_typed_file.specs.Rows.{IsMade, row_tree}
 use Rattle.kohiblad.specs.declared.typed_files.KohibladTypedColumn.{KohibladTypedColumn}
 use Rattle.kohiblad.specs.Status.{IsAnswered, IsRefused, code, too_deep}
 use Rattle.kohiblad.specs.TypedFiles.{IsColumnPlaced, IsFileRow, IsLayoutRefused}
-use Rattle.kohiblad.specs.TypedFiles.{IsStatusAnswered, column_struct, file_code}
+use Rattle.kohiblad.specs.TypedFiles.{IsRowRefused, column_struct, file_code}
 use Rattle.kohiblad.specs.WithMemory.{WritesWithMemory}
 
 -- The structs of columns lie where the columns do.
@@ -83,20 +83,13 @@ made_writes t (Err e) made = refused made.limits.only
         subst (λ x. WritesWithMemory t (Err x)) (sym is) (made.limits.past (named InvalidJsonb is))
     refused (inr is) = subst (λ x. WritesWithMemory t (Err x)) (sym is) tt
 
--- A result is handed over, or a status returned.
-pub some_answer : (r : Result (List ℕ) Error) (before after : List ℕ) (size status : ℕ)
-    → IsAnswered r before after size status
-    → (made : Result (List ℕ) ℕ) × IsStatusAnswered made before after size status
-some_answer (Ok answer) before after size status handed = (Ok answer, handed)
-some_answer (Err e) before after size status refused = (Err (code e), refused)
-
 -- The row of a file.
 pub row_handed : (f g : Contents) (index : ℕ) (r : Result OwnedJsonb Error)
     (before after : List ℕ) (size status : ℕ) → index < row_count f → IsRowOf f index g
     → IsMade (row_tree g 0) r → IsAnswered (result_bytes r) before after size status
     → IsFileRow f index before after size status
 row_handed f g index r before after size status low one made handed =
-    inr (inl (
+    inr (
       low,
       (
         result_bytes r,
@@ -105,14 +98,14 @@ row_handed f g index r before after size status low one made handed =
           handed,
         ),
       ),
-    ))
+    )
 
-pub no_memory : (f : Contents) (index : ℕ) (e : FileError) (before after : List ℕ)
-    (size status : ℕ) → e ≡ errors.OutOfMemory
-    → IsRefused (file_code e) before after size status
-    → IsFileRow f index before after size status
-no_memory f index e before after size status is refused =
-    inr (inr (subst (λ x. IsRefused (file_code x) before after size status) is refused))
+-- What is refused for want of memory.
+pub no_memory : (e : FileError) (before after : List ℕ) (size status : ℕ)
+    → e ≡ errors.OutOfMemory → IsRefused (file_code e) before after size status
+    → IsRefused (code OutOfMemory) before after size status
+no_memory e before after size status is refused =
+    subst (λ x. IsRefused (file_code x) before after size status) is refused
 
 pub has_a_row : (f g : Contents) (index : ℕ) → IsRowOf f index g → row_count g ≤ 0 → ⊥
 has_a_row f g index one few = omega (arith, few, one.count)
@@ -162,6 +155,8 @@ pub layout_refused : (bytes : List ℕ) (A : Type 0) (e : FileError)
     ↔ HasOtherVersion bytes)
     → (◌≡◌ {A = Result A FileError} (Err e) (Err errors.Cut) → (f : Contents)
     (front more : List ℕ) → IsLayout f front → bytes ≡ front ++ more → ⊥)
+    → (IsCutOff bytes
+    → (e ≡ errors.BadMagic) ⊎ ((e ≡ errors.Cut) ⊎ (e ≡ errors.OutOfMemory)))
     → (◌≡◌ {A = Result A FileError} (Err e) (Err errors.TrailingData) → HasTrailingData bytes)
     → (HasTrailingData bytes → (e ≡ errors.TrailingData) ⊎ (e ≡ errors.OutOfMemory))
     → (◌≡◌ {A = Result A FileError} (Err e) (Err errors.WrongLength) → (f : Contents)
@@ -170,17 +165,52 @@ pub layout_refused : (bytes : List ℕ) (A : Type 0) (e : FileError)
     → (e ≡ errors.WrongLength) ⊎ (e ≡ errors.OutOfMemory))
     → e ≢ errors.TooDeep
     → IsLayoutRefused bytes e
-layout_refused bytes A e memory magic version cut trailing more lengths unfit shallow = record {
+layout_refused bytes A e memory magic version cut off trailing more lengths unfit shallow = record {
   memory = memory;
   magic = (λ is. magic.0 (ap Err is), λ none. cc (magic.1 none));
   version = (λ is. version.0 (ap Err is), λ other. cc (version.1 other));
   cut = λ is. cut (ap Err is);
+  cut_refused = off;
   trailing = λ is. trailing (ap Err is);
   trailing_refused = more;
   lengths = λ is. lengths (ap Err is);
   lengths_refused = unfit;
   shallow = shallow;
 }
+
+-- Bytes are refused with the error with which their row is.
+pub row_refused : (depth index : ℕ) (bytes : List ℕ) (A : Type 0) (e : FileError)
+    → (◌≡◌ {A = Result A FileError} (Err e) (Err errors.BadMagic) ↔ HasNoMagic bytes)
+    → (◌≡◌ {A = Result A FileError} (Err e) (Err errors.UnknownVersion)
+    ↔ HasOtherVersion bytes)
+    → (◌≡◌ {A = Result A FileError} (Err e) (Err errors.Cut) → (f : Contents)
+    (front more : List ℕ) → IsLayout f front → bytes ≡ front ++ more → ⊥)
+    → (IsCutOff bytes
+    → (e ≡ errors.BadMagic) ⊎ ((e ≡ errors.Cut) ⊎ (e ≡ errors.OutOfMemory)))
+    → (◌≡◌ {A = Result A FileError} (Err e) (Err errors.TrailingData) → HasTrailingData bytes)
+    → (HasTrailingData bytes → (e ≡ errors.TrailingData) ⊎ (e ≡ errors.OutOfMemory))
+    → (◌≡◌ {A = Result A FileError} (Err e) (Err errors.WrongLength) → (f : Contents)
+    → IsLayout f bytes → LengthsFit f → ⊥)
+    → ((f : Contents) → IsLayout f bytes → (LengthsFit f → ⊥)
+    → (e ≡ errors.WrongLength) ⊎ (e ≡ errors.OutOfMemory))
+    → ((f : Contents) → IsLayout f bytes → LengthsFit f → IsRowInForm f index
+    → (e ≡ errors.TooDeep) ⊎ (e ≡ errors.OutOfMemory))
+    → (◌≡◌ {A = Result A FileError} (Err e) (Err errors.TooDeep) → (f : Contents)
+    → IsLayout f bytes → LengthsFit f → IsRowWithin depth f index → ⊥)
+    → IsRowRefused depth index bytes e
+row_refused depth index bytes A e magic version cut off trailing more lengths unfit form deep =
+    record {
+      magic = (λ is. magic.0 (ap Err is), λ none. cc (magic.1 none));
+      version = (λ is. version.0 (ap Err is), λ other. cc (version.1 other));
+      cut = λ is. cut (ap Err is);
+      cut_refused = off;
+      trailing = λ is. trailing (ap Err is);
+      trailing_refused = more;
+      lengths = λ is. lengths (ap Err is);
+      lengths_refused = unfit;
+      form = form;
+      deep = λ is. deep (ap Err is);
+    }
 
 -- For want of memory only bytes are refused that are laid out as a file.
 pub memory_refused : (bytes : List ℕ) (A : Type 0) (a : A)
@@ -199,6 +229,7 @@ memory_refused bytes A a magic version = record {
     λ other. absurd (no_both (version.1 other)),
   );
   cut = λ is. absurd (not_memory errors.Cut is refl);
+  cut_refused = λ off. inr (inr refl);
   trailing = λ is. absurd (not_memory errors.TrailingData is refl);
   trailing_refused = λ more. inr refl;
   lengths = λ is. absurd (not_memory errors.WrongLength is refl);

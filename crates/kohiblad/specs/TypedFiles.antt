@@ -6,10 +6,10 @@ use Rattle.jsonb_value.specs.declared.error.Error.TheVariants.{InvalidEOF, OutOf
 use Rattle.jsonb_typed_file.specs.declared.error.FileError.{FileError}
 use Rattle.jsonb_typed_file.specs.declared.error.FileError.TheVariants as errors
 use Rattle.jsonb_typed_file.specs.declared.places.ColumnPlaces.{ColumnPlaces}
-use Rattle.jsonb_typed_file.specs.File.{IsFile, IsFileWithin, LengthsFit, row_count}
+use Rattle.jsonb_typed_file.specs.File.{IsFile, IsFileWithin, LengthsFit, NestWithin, row_count}
 use Rattle.jsonb_typed_file.specs.Layout.{Contents, HasNoMagic, HasOtherVersion, HasTrailingData}
-use Rattle.jsonb_typed_file.specs.Layout.{IsLayout, Parts, type_bytes}
-use Rattle.jsonb_typed_file.specs.OneRow.{IsRowWithin}
+use Rattle.jsonb_typed_file.specs.Layout.{IsCutOff, IsLayout, Parts, type_bytes}
+use Rattle.jsonb_typed_file.specs.OneRow.{IsRowInForm, IsRowWithin}
 use Rattle.jsonb_typed_file.specs.Places.{LiesAt}
 use Rattle.jsonb_typed_file.specs.Rows.{row_tree}
 use Rattle.kohiblad.specs.declared.typed_files.KohibladTypedColumn.{KohibladTypedColumn}
@@ -46,6 +46,8 @@ pub record IsFileRead (depth : ℕ) (bytes : List ℕ) (read : Result Contents F
   pub version : read ≡ Err errors.UnknownVersion ↔ HasOtherVersion bytes
   pub cut : read ≡ Err errors.Cut → (f : Contents) (front more : List ℕ) → IsLayout f front
       → bytes ≡ front ++ more → ⊥
+  pub cut_refused : IsCutOff bytes → IsErrAnd read (λ e. (e ≡ errors.BadMagic)
+      ⊎ ((e ≡ errors.Cut) ⊎ (e ≡ errors.OutOfMemory)))
   pub trailing : read ≡ Err errors.TrailingData → HasTrailingData bytes
   pub trailing_refused : HasTrailingData bytes
       → IsErrAnd read (λ e. (e ≡ errors.TrailingData) ⊎ (e ≡ errors.OutOfMemory))
@@ -54,7 +56,8 @@ pub record IsFileRead (depth : ℕ) (bytes : List ℕ) (read : Result Contents F
   pub lengths_refused : (f : Contents) → IsLayout f bytes → (LengthsFit f → ⊥)
       → IsErrAnd read (λ e. (e ≡ errors.WrongLength) ⊎ (e ≡ errors.OutOfMemory))
   pub form : read ≡ Err errors.OutOfForm → (f : Contents) → IsFile f bytes → ⊥
-  pub deep : read ≡ Err errors.TooDeep → (f : Contents) → IsFileWithin (Some depth) f bytes → ⊥
+  pub deep : read ≡ Err errors.TooDeep → (f : Contents) → IsLayout f bytes → LengthsFit f
+      → NestWithin (Some depth) f → ⊥
   pub refused : (f : Contents) → IsFile f bytes
       → IfErr read (λ e. (e ≡ errors.TooDeep) ⊎ (e ≡ errors.OutOfMemory))
 
@@ -106,6 +109,8 @@ pub record IsLayoutRefused (bytes : List ℕ) (error : FileError) : Type 0 where
   pub version : error ≡ errors.UnknownVersion ↔ HasOtherVersion bytes
   pub cut : error ≡ errors.Cut → (f : Contents) (front more : List ℕ) → IsLayout f front
       → bytes ≡ front ++ more → ⊥
+  pub cut_refused : IsCutOff bytes
+      → (error ≡ errors.BadMagic) ⊎ ((error ≡ errors.Cut) ⊎ (error ≡ errors.OutOfMemory))
   pub trailing : error ≡ errors.TrailingData → HasTrailingData bytes
   pub trailing_refused : HasTrailingData bytes
       → (error ≡ errors.TrailingData) ⊎ (error ≡ errors.OutOfMemory)
@@ -131,21 +136,52 @@ IsStatusAnswered (Ok answer) before after size status =
 IsStatusAnswered (Err reason) before after size status =
     IsRefused reason before after size status
 
--- The canonical document of a row is handed over, or there is no such row, or not enough memory.
+-- The bytes, or what is read of them for the row, are refused with an error, which says the truth.
+pub record IsRowRefused (depth index : ℕ) (bytes : List ℕ) (error : FileError) : Type 0 where
+  pub magic : error ≡ errors.BadMagic ↔ HasNoMagic bytes
+  pub version : error ≡ errors.UnknownVersion ↔ HasOtherVersion bytes
+  pub cut : error ≡ errors.Cut → (f : Contents) (front more : List ℕ) → IsLayout f front
+      → bytes ≡ front ++ more → ⊥
+  pub cut_refused : IsCutOff bytes
+      → (error ≡ errors.BadMagic) ⊎ ((error ≡ errors.Cut) ⊎ (error ≡ errors.OutOfMemory))
+  pub trailing : error ≡ errors.TrailingData → HasTrailingData bytes
+  pub trailing_refused : HasTrailingData bytes
+      → (error ≡ errors.TrailingData) ⊎ (error ≡ errors.OutOfMemory)
+  pub lengths : error ≡ errors.WrongLength → (f : Contents) → IsLayout f bytes
+      → LengthsFit f → ⊥
+  pub lengths_refused : (f : Contents) → IsLayout f bytes → (LengthsFit f → ⊥)
+      → (error ≡ errors.WrongLength) ⊎ (error ≡ errors.OutOfMemory)
+  pub form : (f : Contents) → IsLayout f bytes → LengthsFit f → IsRowInForm f index
+      → (error ≡ errors.TooDeep) ⊎ (error ≡ errors.OutOfMemory)
+  pub deep : error ≡ errors.TooDeep → (f : Contents) → IsLayout f bytes → LengthsFit f
+      → IsRowWithin depth f index → ⊥
+
+-- The canonical document of a row is handed over, or there is no such row.
 abbrev pub IsFileRow : Contents → ℕ → List ℕ → List ℕ → ℕ → ℕ → Type 0
 IsFileRow f index before after size status =
     ((row_count f ≤ index) × IsRefused none before after size status)
-    ⊎ (((index < row_count f)
+    ⊎ ((index < row_count f)
     × IsOneAnswered (WritesWithMemory (row_tree f index)) before after size status)
-    ⊎ IsRefused (code OutOfMemory) before after size status)
 
--- A row of the file is handed over, if its rest nests at most so deep, and else it is refused. Of
--- any other bytes something is handed over or a status is returned.
+-- The same of a row of bytes laid out as a file, which is in form and nests at most so deep.
+abbrev pub IsLaidOutRow : ℕ → ℕ → List ℕ → List ℕ → List ℕ → ℕ → ℕ → Type 0
+IsLaidOutRow depth index bytes before after size status =
+    (f : Contents) × ((IsLayout f bytes × LengthsFit f)
+    × ((IsRowInForm f index × IsRowWithin depth f index)
+    × IsFileRow f index before after size status))
+
+-- A row of the file is handed over, if it is in form and its rest nests at most so deep, and else
+-- it is refused, whatever the other rows are.
 pub record IsRowCopied (depth index : ℕ) (bytes before after : List ℕ) (size status : ℕ)
     : Type 0 where
-  pub answered : (made : Result (List ℕ) ℕ) × IsStatusAnswered made before after size status
-  pub row : (f : Contents) → IsFile f bytes → IsRowWithin depth f index
-      → IsFileRow f index before after size status
-  pub deep : (f : Contents) → IsFile f bytes → (IsRowWithin depth f index → ⊥)
+  pub answered : IsLaidOutRow depth index bytes before after size status
+      ⊎ ((error : FileError) × (IsRowRefused depth index bytes error
+      × IsRefused (file_code error) before after size status))
+  pub each : (f : Contents) → IsFile f bytes → IsRowInForm f index
+  pub row : (f : Contents) → IsLayout f bytes → LengthsFit f → IsRowInForm f index
+      → IsRowWithin depth f index → IsFileRow f index before after size status
+      ⊎ IsRefused (code OutOfMemory) before after size status
+  pub deep : (f : Contents) → IsLayout f bytes → LengthsFit f → IsRowInForm f index
+      → (IsRowWithin depth f index → ⊥)
       → IsRefused too_deep before after size status
       ⊎ IsRefused (code OutOfMemory) before after size status

@@ -1,6 +1,7 @@
-use Rattle.std.proofs.Common.{sym, subst, ◌∙◌}
+use Rattle.std.proofs.Common.{◌++◌, sym, subst, ◌∙◌}
 use Rattle.std.specs.Str.{IsUtf8}
-use Rattle.jsonb_typed_file.proofs.LayoutLaws.{after_head, no_true, same_head}
+use Rattle.jsonb_column.specs.Storage.{row_bytes}
+use Rattle.jsonb_typed_file.proofs.LayoutLaws.{after_head, goes_behind, no_true, same_head}
 use Rattle.jsonb_typed_file.proofs.LayoutLaws.{same_row}
 use Rattle.jsonb_typed_file.proofs.layout.split_column.Goals as goal
 
@@ -38,6 +39,24 @@ pub returns-in_default-from_utf8-clause-begun : goal.returns-in_default-from_utf
 returns-in_default-from_utf8-clause-begun c p later column written =
     let (heads, _) = after_head p later c.args.bytes.now c.in_ok-head.head.now
     c.in_ok-head.later.now column written c.in_ok-head.ensures.short c.in_ok-head.ensures.ok in
+    let (_, name) = same_head c.in-Some.column_type p.type c.in-Some.name.now p.name
+    (sym c.in-Some.ensures ∙ heads) in
+    absurd (c.in_default-from_utf8.ensures.cases.0 (subst IsUtf8 (sym name) column.name))
+
+pub returns-in_default-clause-cut : goal.returns-in_default-clause-cut
+returns-in_default-clause-cut c p more later column written =
+    let (heads, _) = after_head p later (c.args.bytes.now ++ more) c.in_ok-head.head.now
+    (c.in_ok-head.later.now ++ more) column written c.in_ok-head.ensures.short
+    (goes_behind (row_bytes c.in_ok-head.head.now) c.in_ok-head.later.now c.args.bytes.now more
+    c.in_ok-head.ensures.ok) in
+    absurd (c.in_default.ensures p.type p.name heads)
+
+pub returns-in_default-from_utf8-clause-cut : goal.returns-in_default-from_utf8-clause-cut
+returns-in_default-from_utf8-clause-cut c p more later column written =
+    let (heads, _) = after_head p later (c.args.bytes.now ++ more) c.in_ok-head.head.now
+    (c.in_ok-head.later.now ++ more) column written c.in_ok-head.ensures.short
+    (goes_behind (row_bytes c.in_ok-head.head.now) c.in_ok-head.later.now c.args.bytes.now more
+    c.in_ok-head.ensures.ok) in
     let (_, name) = same_head c.in-Some.column_type p.type c.in-Some.name.now p.name
     (sym c.in-Some.ensures ∙ heads) in
     absurd (c.in_default-from_utf8.ensures.cases.0 (subst IsUtf8 (sym name) column.name))

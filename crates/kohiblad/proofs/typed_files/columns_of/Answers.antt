@@ -33,7 +33,8 @@ returns-in_err-places-clause-err c =
     c.from_residual.ensures.1
     (layout_refused c.args.bytes.now (Vec ColumnPlaces) c.in_err-places.field-0.0
     c.in_err-places.ensures.memory c.in_err-places.ensures.magic c.in_err-places.ensures.version
-    c.in_err-places.ensures.cut c.in_err-places.ensures.trailing
+    c.in_err-places.ensures.cut c.in_err-places.ensures.cut_refused
+    c.in_err-places.ensures.trailing
     c.in_err-places.ensures.trailing_refused c.in_err-places.ensures.length
     c.in_err-places.ensures.length_refused c.in_err-places.ensures.deep)
 

@@ -36,7 +36,7 @@ pub returns-clause-same : goal.returns-clause-same
 returns-clause-same c f file = c.in_ok-layout.ensures.same f file.file.layout file.file.lengths
 
 pub returns-in_err-layout-clause-deep : goal.returns-in_err-layout-clause-deep
-returns-in_err-layout-clause-deep c refused f file =
+returns-in_err-layout-clause-deep c refused f layout lengths within =
     c.in_err-layout.ensures.deep (told_error c.from_residual.result c.in_err-layout.field-0.0
     TooDeep c.from_residual.ensures.1 refused)
 
@@ -53,10 +53,10 @@ returns-then-nest_deeper-clause-memory c f file =
     absurd (deeper (subst (NestWithin c.args.depth) (sym same) file.shallow))
 
 pub returns-then-nest_deeper-clause-deep : goal.returns-then-nest_deeper-clause-deep
-returns-then-nest_deeper-clause-deep c refused f file =
-    let same = c.in_ok-layout.ensures.same f file.file.layout file.file.lengths in
+returns-then-nest_deeper-clause-deep c refused f layout lengths within =
+    let same = c.in_ok-layout.ensures.same f layout lengths in
     let deeper = rw c.if-nest_deeper.true at c.nest_deeper.ensures.deeper in
-    deeper (subst (NestWithin c.args.depth) (sym same) file.shallow)
+    deeper (subst (NestWithin c.args.depth) (sym same) within)
 
 pub returns-then-not-is_in_form-clause-refused : goal.returns-then-not-is_in_form-clause-refused
 returns-then-not-is_in_form-clause-refused c f file =
