@@ -1138,7 +1138,7 @@ static inline uint32_t kohiblad_locate(const uint8_t *bytes, size_t size, const 
 
 /* Finds the members of rows as kohiblad_locate does, without checking the rows. Of each row that is
  * a document, of any depth, or has no bytes, the places are as that call has them. Of any other
- * bytes each place has the status NONE, or is one inside all bytes. The depth is that of the
+ * bytes each place has the status NONE, or is one inside the row. The depth is that of the
  * names. */
 static inline uint32_t kohiblad_locate_unchecked(const uint8_t *bytes, size_t size,
     const size_t *offsets, size_t count, const uint8_t *names, size_t names_size, size_t depth,
