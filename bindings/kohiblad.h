@@ -1074,29 +1074,31 @@ static inline uint32_t kohiblad_zones_date(const int32_t *values, size_t values_
     size_t room, size_t *count) KOHIBLAD_INLINE("kohiblad_zones_date");
 
 /* Writes rows as a file of typed columns, and copies it to `out`. `names` is the document of an
- * array of texts, which ascend by their bytes: the keys of the members that stand in columns.
+ * array of texts, which ascend by their bytes: the keys of the members that are kept in columns.
  * `types` has two bytes for each of them, the type and the digits after the point: 0 and 0 for
  * truth values, 1 and 0 for whole numbers of 64 bits with a sign, 2 and 0 for those without one, 3
  * and the digits for decimals, 4 and 0 for texts, 5 and 0 for dates, 6 and 0 for timestamps, 7 and
- * 0 for timestamps with a zone, 8 and 0 for intervals, 9 and 0 for binary values. A member stands
- * in its column if it is a value of that type with its kind and its digits, and else in the rest of
- * its row. INVALID_EOF if an offset is below the previous one or beyond the bytes; then
+ * 0 for timestamps with a zone, 8 and 0 for intervals, 9 and 0 for binary values. A member is kept
+ * in its column if it is a value of that type with its kind and its digits, and otherwise in the
+ * rest of its row. INVALID_EOF if an offset is below the previous one or beyond the bytes; then
  * INVALID_JSONB if the names are not a document of at most this depth; OTHER_KIND if they are not
- * an array of texts, or `types` are not those of so many columns; INVALID_JSONB if a row is not a
- * document of at most this depth; OTHER_KIND if a text is not greater than the one before it;
- * INVALID_JSONB if a row exceeds a limit of the format; OUT_OF_MEMORY if an allocation fails. The
- * file is read again before it is handed over: NOT_READ_BACK if it does not give the rows back. */
+ * an array of texts, or `types` has not two bytes for each of them, or an unknown type;
+ * INVALID_JSONB if a row is not a document of at most this depth; OTHER_KIND if a text is not
+ * greater than the one before it; INVALID_JSONB if a row exceeds a limit of the format;
+ * OUT_OF_MEMORY if an allocation fails. The file is read again before it is handed over:
+ * NOT_READ_BACK if it does not give the rows back. */
 static inline uint32_t kohiblad_build_typed_file(const uint8_t *bytes, size_t size,
     const size_t *offsets, size_t count, const uint8_t *names, size_t names_size,
     const uint8_t *types, size_t types_size, size_t depth, uint8_t *out, size_t room,
     size_t *length) KOHIBLAD_INLINE("kohiblad_build_typed_file");
 
-/* Checks the bytes of a file of typed columns, and tells how many rows and columns it has.
+/* Checks the bytes of a file of typed columns, and returns how many rows and columns it has.
  * BAD_MAGIC if they do not begin as one, UNKNOWN_VERSION if they have another version than 1,
  * INVALID_EOF if they end before the file does, TRAILING_DATA if they go on after it, WRONG_LENGTH
  * if a length does not fit the number of rows, TOO_DEEP if the rest of a row nests deeper than this
- * depth, OUT_OF_FORM if a type is unknown, the names are not texts that ascend strictly, a text is
- * none or the rest of a row is not a document; OUT_OF_MEMORY if an allocation fails. */
+ * depth, OUT_OF_FORM if a type is unknown, the names are not UTF-8 or do not ascend strictly, a
+ * text is not UTF-8 or the rest of a row is not a document; OUT_OF_MEMORY if an allocation
+ * fails. */
 static inline struct kohiblad_typed_file kohiblad_check_typed_file(const uint8_t *bytes,
     size_t size, size_t depth) KOHIBLAD_INLINE("kohiblad_check_typed_file");
 
@@ -1114,10 +1116,11 @@ static inline uint32_t kohiblad_typed_columns(const uint8_t *bytes, size_t size,
     KOHIBLAD_INLINE("kohiblad_typed_columns");
 
 /* Copies the canonical document of a row of a file of typed columns, counted from 0, to `out`: its
- * rest with the members that stand in columns. Only that row is read, and checked before. NONE if
- * the index is not below the number of rows; TOO_DEEP if the rest of the row nests deeper than this
- * depth; OUT_OF_FORM if the rest is not a document, or its texts are none; INVALID_JSONB if the row
- * exceeds a limit of the format; and otherwise the statuses of kohiblad_check_typed_file. */
+ * rest with the members that are kept in columns. Only that row is read, and checked before. NONE
+ * if the index is not below the number of rows; TOO_DEEP if the rest of the row nests deeper than
+ * this depth; OUT_OF_FORM if the rest is not a document, or a text is not UTF-8; INVALID_JSONB if
+ * the row exceeds a limit of the format; and otherwise the statuses of
+ * kohiblad_check_typed_file. */
 static inline uint32_t kohiblad_typed_row(const uint8_t *bytes, size_t size, size_t index,
     size_t depth, uint8_t *out, size_t room, size_t *length)
     KOHIBLAD_INLINE("kohiblad_typed_row");

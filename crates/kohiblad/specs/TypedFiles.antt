@@ -163,15 +163,15 @@ IsFileRow f index before after size status =
     ⊎ ((index < row_count f)
     × IsOneAnswered (WritesWithMemory (row_tree f index)) before after size status)
 
--- The same of a row of bytes laid out as a file, which is in form and nests at most so deep.
+-- The same of a row of bytes laid out as a file: it is well formed and nests at most so deep.
 abbrev pub IsLaidOutRow : ℕ → ℕ → List ℕ → List ℕ → List ℕ → ℕ → ℕ → Type 0
 IsLaidOutRow depth index bytes before after size status =
     (f : Contents) × ((IsLayout f bytes × LengthsFit f)
     × ((IsRowInForm f index × IsRowWithin depth f index)
     × IsFileRow f index before after size status))
 
--- A row of the file is handed over, if it is in form and its rest nests at most so deep, and else
--- it is refused, whatever the other rows are.
+-- A row of the file is handed over if it is well formed and its rest nests at most so deep, and
+-- otherwise it is refused, whatever the other rows are.
 pub record IsRowCopied (depth index : ℕ) (bytes before after : List ℕ) (size status : ℕ)
     : Type 0 where
   pub answered : IsLaidOutRow depth index bytes before after size status

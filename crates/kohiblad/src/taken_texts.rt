@@ -369,7 +369,7 @@ fn bytes_of(member: Node<'_>, bytes_type: BytesType) -> Option<&[u8]>
     }
 }
 
-// The UTF-8 of a text. `None` if the member is none.
+// The UTF-8 of a text. `None` if the member is not a text.
 fn text_of(member: Node<'_>) -> Option<&[u8]>
     requires { HoldsNoScalar member }
     ensures text { MatchOption result

@@ -42,14 +42,14 @@ pub struct KohibladTypedColumn {
     pub texts_length: u64,
 }
 
-/// Checks the bytes of a file of typed columns, and tells how many rows and columns it has.
+/// Checks the bytes of a file of typed columns, and returns how many rows and columns it has.
 /// `BAD_MAGIC` if they do not begin as one, `UNKNOWN_VERSION` if they have another version than 1,
 /// `InvalidEOF` if they end before the file does, `TRAILING_DATA` if they go on after it,
 /// `WRONG_LENGTH` if a length does not fit the number of rows, `TOO_DEEP` if the rest of a row
-/// nests deeper than this depth, `OUT_OF_FORM` if a type is unknown, the names are not texts that
-/// ascend strictly, a text is none or the rest of a row is not a document; `OutOfMemory` if an
-/// allocation fails. A scalar has depth 0, an array or object one more than its deepest child, and
-/// at least 1. Deeper levels are not examined.
+/// nests deeper than this depth, `OUT_OF_FORM` if a type is unknown, the names are not UTF-8 or do
+/// not ascend strictly, a text is not UTF-8 or the rest of a row is not a document; `OutOfMemory`
+/// if an allocation fails. A scalar has depth 0, an array or object one more than its deepest
+/// child, and at least 1. Deeper levels are not examined.
 #[unsafe(no_mangle)]
 pub extern "C" fn kohiblad_check_typed_file(
     alloc: Global,
@@ -159,9 +159,9 @@ fn column_struct(column: ColumnPlaces) -> KohibladTypedColumn
 }
 
 /// Copies the canonical document of a row of a file of typed columns, counted from 0, to `out`: its
-/// rest with the members that stand in columns. Only that row is read, and checked before. `NONE`
-/// if the index is not below the number of rows; `TOO_DEEP` if the rest of the row nests deeper
-/// than this depth; `OUT_OF_FORM` if the rest is not a document, or its texts are none;
+/// rest with the members that are kept in columns. Only that row is read, and checked before.
+/// `NONE` if the index is not below the number of rows; `TOO_DEEP` if the rest of the row nests
+/// deeper than this depth; `OUT_OF_FORM` if the rest is not a document, or a text is not UTF-8;
 /// `InvalidJsonb` if the row exceeds a limit of the format; and otherwise the statuses of
 /// `kohiblad_check_typed_file`.
 #[unsafe(no_mangle)]

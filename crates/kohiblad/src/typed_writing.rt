@@ -17,19 +17,19 @@ use jsonb_typed_file::{ColumnPlan, WriteError, split_type, write_file};
 use std::alloc::{AllocError, Global};
 
 /// Writes rows as a file of typed columns, and copies it to `out`. `names` is the document of an
-/// array of texts, which ascend by their bytes: the keys of the members that stand in columns.
+/// array of texts, which ascend by their bytes: the keys of the members that are kept in columns.
 /// `types` has two bytes for each of them, the type and the digits after the point: 0 and 0 for
 /// truth values, 1 and 0 for whole numbers of 64 bits with a sign, 2 and 0 for those without one, 3
 /// and the digits for decimals, 4 and 0 for texts, 5 and 0 for dates, 6 and 0 for timestamps, 7 and
-/// 0 for timestamps with a zone, 8 and 0 for intervals, 9 and 0 for binary values. A member stands
-/// in its column if it is a value of that type with its kind and its digits, and else in the rest
-/// of its row. `InvalidEOF` if an
-/// offset is below the previous one or beyond the bytes; then `InvalidJsonb` if the names are not a
-/// document of at most this depth; `OTHER_KIND` if they are not an array of texts, or `types` are
-/// not those of so many columns; `InvalidJsonb` if a row is not a document of at most this depth;
-/// `OTHER_KIND` if a text is not greater than the one before it; `InvalidJsonb` if a row exceeds a
-/// limit of the format; `OutOfMemory` if an allocation fails. The file is read again before it is
-/// handed over: `NOT_READ_BACK` if it does not give the rows back.
+/// 0 for timestamps with a zone, 8 and 0 for intervals, 9 and 0 for binary values. A member is kept
+/// in its column if it is a value of that type with its kind and its digits, and otherwise in the
+/// rest of its row. `InvalidEOF` if an offset is below the previous one or beyond the bytes; then
+/// `InvalidJsonb` if the names are not a document of at most this depth; `OTHER_KIND` if they are
+/// not an array of texts, or `types` has not two bytes for each of them, or an unknown type;
+/// `InvalidJsonb` if a row is not a document of at most this depth; `OTHER_KIND` if a text is not
+/// greater than the one before it; `InvalidJsonb` if a row exceeds a limit of the format;
+/// `OutOfMemory` if an allocation fails. The file is read again before it is handed over:
+/// `NOT_READ_BACK` if it does not give the rows back.
 #[unsafe(no_mangle)]
 pub extern "C" fn kohiblad_build_typed_file(
     alloc: Global,

@@ -1,4 +1,4 @@
-"""Files of typed columns: rows in which chosen members stand in typed buffers.
+"""Files of typed columns: rows of which chosen members are kept in typed buffers.
 
     >>> from kohiblad import Document
     >>> from kohiblad.typed_file import TypedFile
@@ -7,7 +7,7 @@
     >>> file.column("price")[0], list(file.column("at")), file[0]
     (Decimal('1.50'), [5, None], <ObjectDocument {"at":5,"price":1.50,"sku":"k7"}>)
 
-docs/TYPED.md has the format, and says which members stand in a column.
+docs/TYPED.md has the format, and says which members are kept in a column.
 """
 import ctypes
 from typing import (Any, Callable, Dict, Iterable, Iterator, List, Mapping, Sequence, Union,
@@ -216,7 +216,7 @@ class TypedFile(Sequence[Document]):
 
         ``documents`` are documents or Python values, as for ``Document.of``. A type is boolean,
         int64, uint64, text, date, timestamp, timestamp_tz, interval, binary, or decimal with a
-        scale, as decimal 2. A member stands in its column if it is a value of the type with its
+        scale, as decimal 2. A member is kept in its column if it is a value of the type with its
         kind and its digits, and else in the rest of its row. ValueError: there is no such type.
         InvalidDocumentError: a row exceeds a limit of the format.
         """
@@ -264,8 +264,8 @@ class TypedFile(Sequence[Document]):
         return self.row(index % self._length)
 
     def row(self, index: int) -> Document:
-        """The canonical document of a row, counted from 0: its rest with the members that stand in
-        columns. InvalidDocumentError: the row is out of form. TooDeepError: its rest nests too
+        """The canonical document of a row, counted from 0: its rest with the members that are kept
+        in columns. InvalidDocumentError: the row is out of form. TooDeepError: its rest nests too
         deep. IndexError: there is no such row."""
         if not 0 <= index < self._length:
             raise IndexError("row out of range")
