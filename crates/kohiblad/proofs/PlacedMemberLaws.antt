@@ -2,7 +2,7 @@
 use Rattle.std.proofs.Common.{◌≡◌, ◌⊎◌, ℕ, zero, suc, ◌+◌, ◌-◌, ◌*◌, ◌≤◌, List, [], ◌∷◌, map}
 use Rattle.std.proofs.Common.{Option, None, Some, Ok, Err, Result, refl, sym, ap, ap₂, subst, ◌∙◌}
 use Rattle.std.proofs.Common.{inl, inr, arith, drop, length, length-drop, drop-drop}
-use Rattle.std.specs.Prelude.{Bool, IfSome, MatchOption, true, false, nat_eq}
+use Rattle.std.specs.Prelude.{Bool, IfSome, MatchOption, true, false, nat_eq, if◌then◌else◌}
 use Rattle.std.specs.Cmp.Lexicographic.{pointwise, slice_cmp, texts_ties}
 use Rattle.std.specs.Map.{keys_of, values_of}
 use Rattle.std.specs.declared.cmp.Ordering.{Ordering}
@@ -30,7 +30,8 @@ use Rattle.jsonb_functions.proofs.KeyOrder.{Below, below_trans, flipped, is_eq_f
 use Rattle.jsonb_functions.proofs.KeyOrder.{not_itself}
 use Rattle.jsonb_functions.proofs.PathPlaceLaws.{are_read, read_all}
 use Rattle.kohiblad.specs.PlacedMembers.{AreAllRead, AreWhole, ArePassed, KeysAscend, keys_from}
-use Rattle.kohiblad.specs.PlacedMembers.{keys_left, name_place, name_under, place_among, values_left}
+use Rattle.kohiblad.specs.PlacedMembers.{first_named, keys_left, name_place, name_under}
+use Rattle.kohiblad.specs.PlacedMembers.{place_after, place_among, values_left}
 use Rattle.kohiblad.specs.declared.placed_members.PlacedMembers.{PlacedMembers}
 
 other_key : (a b : List ℕ) → (slice_cmp nat_cmp a b ≡ Equal → ⊥) → pointwise nat_eq a b ≡ false
@@ -45,6 +46,21 @@ pub names_equal : (a b : List ℕ) (same : Bool) → same ≡ pointwise nat_eq a
     → slice_cmp nat_cmp a b ≡ Equal
 names_equal a b same is passes =
     is_equal (slice_cmp nat_cmp a b) (sym (texts_ties a b) ∙ sym is ∙ passes)
+
+-- The first value that is left after so many members, if its key is the name.
+pub named_after : (b name : List ℕ) (count : ℕ) (left after : PlacedMembers) (key : Entry)
+    (same : Bool) (payload : List ℕ) → ArePassed b count left after → after.first ≡ Some key
+    → same ≡ pointwise nat_eq payload name → payload ≡ (entry_there b key).payload
+    → same ≡ true → place_after name b count left ≡ first_entry (values_left after)
+named_after b name count left after key same payload passed first is read passes =
+    let values = values_left after in
+    let equal : pointwise nat_eq (entry_there b key).payload name ≡ true =
+    ap (λ (k : List ℕ). pointwise nat_eq k name) (sym read) ∙ sym is ∙ passes in
+    ap₂ (λ (ks vs : List Entry). first_named name b ks vs) (sym passed.keys) (sym passed.values)
+    ∙ ap
+    (λ (f : Option Entry). first_named name b (keys_from f (read_entries after.keys.entries))
+    values) first
+    ∙ ap (λ (t : Bool). if t then first_entry values else None) equal
 
 -- Where no value is left nothing is found.
 pub no_values : (name b : List ℕ) (keys : List Entry) → named_entry name b keys [] ≡ None

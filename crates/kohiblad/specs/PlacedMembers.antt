@@ -1,7 +1,8 @@
 -- The members of an object in its bytes: their keys, and the places of their values.
 use Rattle.std.specs.Prelude.{◌≡◌, ◌==◌, ℕ, List, [], ◌∷◌, Bool, true, Option, None, Some, IfSome}
 use Rattle.std.specs.Prelude.{⊤, ◌&&◌, ◌-◌, ◌≤◌, Result, Ok, Err, if◌then◌else◌, drop, length, map}
-use Rattle.std.specs.Cmp.Lexicographic.{slice_cmp}
+use Rattle.std.specs.Prelude.{nat_eq}
+use Rattle.std.specs.Cmp.Lexicographic.{pointwise, slice_cmp}
 use Rattle.std.specs.declared.cmp.Ordering.TheVariants.{Less}
 use Rattle.std.specs.Ordering.{is_lt, nat_cmp}
 use Rattle.jsonb_value.specs.declared.error.Error.{Error}
@@ -10,7 +11,7 @@ use Rattle.jsonb_codec.specs.WordBytes.{header_at}
 use Rattle.jsonb.specs.Entry.{IsEntryIn, entry_there}
 use Rattle.jsonb.specs.Entries.{key_run, value_run}
 use Rattle.jsonb.specs.declared.entries.Entry.{Entry}
-use Rattle.jsonb_functions.specs.PathPlaces.{named_entry, read_entries, run_entries}
+use Rattle.jsonb_functions.specs.PathPlaces.{first_entry, named_entry, read_entries, run_entries}
 use Rattle.kohiblad.specs.declared.placed_members.PlacedMembers.{PlacedMembers}
 
 -- The entries of the keys that are left: that of the first member, and those after it. No first one
@@ -38,6 +39,17 @@ pub record AreMembersIn (bytes : List ℕ) (left : PlacedMembers) : Type 0 where
 -- The place of the value of a name among members that are left.
 abbrev pub place_among : List ℕ → List ℕ → PlacedMembers → Option Entry
 place_among name bytes left = named_entry name bytes (keys_left left) (values_left left)
+
+-- The place of the first of these values, if the first of the keys is the name.
+abbrev pub first_named : List ℕ → List ℕ → List Entry → List Entry → Option Entry
+first_named name bytes [] values = None
+first_named name bytes (key ∷ keys) values =
+    if pointwise nat_eq (entry_there bytes key).payload name then first_entry values else None
+
+-- The place of the value of the member after so many others, if its key is the name.
+abbrev pub place_after : List ℕ → List ℕ → ℕ → PlacedMembers → Option Entry
+place_after name bytes passed left =
+    first_named name bytes (drop passed (keys_left left)) (drop passed (values_left left))
 
 -- The keys ascend by their bytes, and the first is greater than `before`, if there is one.
 abbrev pub KeysAscend : List ℕ → Option (List ℕ) → List Entry → Type 0

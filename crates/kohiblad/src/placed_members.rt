@@ -11,7 +11,8 @@ ghost use Rattle.jsonb.specs.Entries.{others_left};
 ghost use Rattle.jsonb.specs.Entry.{IsEntryIn};
 ghost use Rattle.jsonb_functions.specs.PathPlaces.{first_entry, read_entries};
 ghost use Rattle.kohiblad.specs.PlacedMembers.{AreAllRead, AreMembersIn, ArePassed, AreWhole};
-ghost use Rattle.kohiblad.specs.PlacedMembers.{keys_left, name_place, place_among, values_left};
+ghost use Rattle.kohiblad.specs.PlacedMembers.{keys_left, name_place, place_after, place_among};
+ghost use Rattle.kohiblad.specs.PlacedMembers.{values_left};
 ghost use Rattle.kohiblad.specs.Words.{Doc, Tree};
 
 use jsonb::layer::{Cursor, Entry};
@@ -118,6 +119,8 @@ impl<'a> PlacedMembers<'a> {
     pub fn place_after(&mut self, bytes: &[u8], name: &[u8], passed: usize) -> Option<Entry>
         requires { AreMembersIn bytes.now self.old }
         ensures there { AreMembersIn bytes.now self.new }
+        ensures exact { AreWhole bytes.now self.old
+            → result ≡ place_after name.now bytes.now passed self.old }
         ensures found { AreWhole bytes.now self.old
             → IfSome result (λ entry. place_among name.now bytes.now self.old ≡ Some entry) }
         ensures later { AreWhole bytes.now self.old → IfSome result (λ entry. (k : List ℕ)

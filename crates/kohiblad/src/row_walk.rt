@@ -4,7 +4,8 @@ ghost use Rattle.std.specs.Prelude.{◌≡◌, ℕ, List, IfSome, MatchOption};
 ghost use Rattle.std.specs.Ordering.{nat_cmp};
 ghost use Rattle.std.specs.Cmp.Lexicographic.{slice_cmp};
 ghost use Rattle.jsonb.specs.Entry.{IsEntryIn};
-ghost use Rattle.kohiblad.specs.RowWalks.{IsFoundAs, IsFoundIn, IsWalk};
+ghost use Rattle.kohiblad.specs.RowWalks.{IsFoundAs, IsFoundIn, IsWalk, place_alike};
+ghost use Rattle.kohiblad.specs.Words.{Doc, Tree};
 
 use crate::placed_members::PlacedMembers;
 use jsonb::layer::Entry;
@@ -67,6 +68,8 @@ impl<'a> RowWalk<'a> {
         ensures walk { IsWalk self.new }
         ensures row { self.new.row ≡ self.old.row }
         ensures inside { IfSome result (IsEntryIn self.old.row.now) }
+        ensures exact { (t : Tree) → Doc self.old.row.now t
+            → result ≡ place_alike name.now passed self.old }
         ensures found { IfSome result (λ entry. IsFoundIn name.now self.old
             → IsFoundAs self.old.row.now name.now result) }
         ensures later { MatchOption result ((k : List ℕ) → IsFoundIn k self.old

@@ -6,7 +6,7 @@ use Rattle.jsonb.specs.Entry.{entry_there}
 use Rattle.jsonb_functions.proofs.KeyOrder.{key_equal, not_before, not_itself}
 use Rattle.kohiblad.specs.PlacedMembers.{place_among}
 use Rattle.kohiblad.proofs.PlacedMemberLaws.{guess_law, if_found, if_some, later_law, met_law}
-use Rattle.kohiblad.proofs.PlacedMemberLaws.{names_equal}
+use Rattle.kohiblad.proofs.PlacedMemberLaws.{named_after, names_equal}
 use Rattle.kohiblad.proofs.placed_members.PlacedMembers.place_after.Goals as goal
 
 pub returns-then-eq-clause-found : goal.returns-then-eq-clause-found
@@ -48,3 +48,13 @@ pub returns-then-eq-clause-whole : goal.returns-then-eq-clause-whole
 returns-then-eq-clause-whole c whole =
     (c.take_value.ensures.taken c.args.bytes.now c.in-Some.key c.in-Some.is
     (c.pass.ensures.passed c.args.bytes.now whole).whole).1.whole
+
+pub returns-then-eq-clause-exact : goal.returns-then-eq-clause-exact
+returns-then-eq-clause-exact c whole =
+    let b = c.args.bytes.now in
+    let key = c.in-Some.key in
+    let passed = c.pass.ensures.passed b whole in
+    (c.take_value.ensures.taken b key c.in-Some.is passed.whole).0
+    ∙ sym (named_after b c.args.name.now c.args.passed c.args.self.now c.pass.new.self key
+    c.eq.result c.payload.result.now passed c.in-Some.is c.eq.ensures c.payload.ensures.bytes
+    c.if-eq.true)
