@@ -1,16 +1,19 @@
 -- What is read and taken at the places of members.
 use Rattle.std.proofs.Common.{◌≡◌, ◌⊎◌, ◌-◌, ◌∷◌, [], ℕ, zero, suc, List, drop}
-use Rattle.std.proofs.Common.{refl, ap, arith, inl, inr, subst, Option, Some}
-use Rattle.std.proofs.Common.{Result, Ok, Err, option_map}
+use Rattle.std.proofs.Common.{refl, ap, arith, inr, subst, Option, Some}
+use Rattle.std.proofs.Common.{Result, Ok, Err, None, option_map}
+use Rattle.std.specs.Borrow.{Bor}
 use Rattle.jsonb_value.specs.Tree.{Tree}
+use Rattle.jsonb_codec.specs.Parts.{IsPayloadOf}
 use Rattle.jsonb.specs.Node.{node_tree}
 use Rattle.jsonb.specs.declared.node.Node.{Node}
 use Rattle.typed_vector.specs.Cells.{Cell, absent, value, other}
 use Rattle.jsonb_typed.specs.Surveys.{member_cell}
 use Rattle.kohiblad.specs.declared.places.KohibladPlace.{KohibladPlace}
-use Rattle.kohiblad.specs.Located.{IsCellRead, IsPlaceOf, IsTakenAt, each_after, each_of}
+use Rattle.kohiblad.specs.Located.{IsCellRead, IsPayloadRead, IsPlaceOf, IsTakenAt, each_after}
+use Rattle.kohiblad.specs.Located.{each_of}
 use Rattle.kohiblad.specs.Taking.{HoldsScalars, IsSomeTaken, IsTakenCell}
-use Rattle.kohiblad.proofs.UncheckedLaws.{some_taken, state_found}
+use Rattle.kohiblad.proofs.UncheckedLaws.{known_state, some_taken, state_found}
 
 -- The elements after some are those of what is left after these.
 pub each_dropped : {A : Type 0} (step passed : ℕ) (xs : List A)
@@ -48,6 +51,58 @@ module _ {V : Type 0} (Stands : V → Tree → Type 0) (blank : V) where
     some_taken Stands blank (option_map node_tree member) taken is,
   )
 
+  -- What is taken of the payload that was read at its place.
+  payload_cell : (cell : Cell Tree) (type : ℕ) (payload : Bor (List ℕ)) (taken : V × ℕ)
+      → IsPayloadRead type cell (Ok (Some payload))
+      → ((t : Tree) → IsPayloadOf type payload.now t
+      → IsTakenCell Stands blank (member_cell (Some t)) taken)
+      → IsTakenCell Stands blank cell taken
+  payload_cell absent type payload taken read entry = absurd cc
+  payload_cell (value t) type payload taken read entry = entry t read
+  payload_cell (other b) type payload taken read entry = absurd cc
+
+  pub taken_payload : (bytes : List ℕ) (place : KohibladPlace) (payload : Bor (List ℕ))
+      (taken : V × ℕ)
+      → ((cell : Cell Tree) → IsPlaceOf bytes cell place
+      → IsPayloadRead place.type_code cell (Ok (Some payload)))
+      → ((t : Tree) → IsPayloadOf place.type_code payload.now t
+      → IsTakenCell Stands blank (member_cell (Some t)) taken)
+      → IsSomeTaken blank taken → IsTakenAt Stands blank bytes place taken
+  taken_payload bytes place payload taken read entry some = (
+    λ cell there. payload_cell cell place.type_code payload taken (read cell there) entry,
+    some,
+  )
+
+  none_cell : (cell : Cell Tree) (type : ℕ) → IsPayloadRead type cell (Ok None)
+      → IsTakenCell Stands blank cell (blank, 0)
+  none_cell absent type read = refl
+  none_cell (value t) type read = absurd read
+  none_cell (other b) type read = absurd cc
+
+  pub taken_none : (bytes : List ℕ) (place : KohibladPlace)
+      → ((cell : Cell Tree) → IsPlaceOf bytes cell place
+      → IsPayloadRead place.type_code cell (Ok None))
+      → IsTakenAt Stands blank bytes place (blank, 0)
+  taken_none bytes place read = (
+    λ cell there. none_cell cell place.type_code (read cell there),
+    inr (refl, omega arith),
+  )
+
+  fault_cell : (cell : Cell Tree) (type state : ℕ) → state ≡ 4
+      → IsPayloadRead type cell (Err state) → IsTakenCell Stands blank cell (blank, state)
+  fault_cell absent type state is read = absurd cc
+  fault_cell (value t) type state is read = absurd read
+  fault_cell (other b) type state is read = ap (λ (n : ℕ). (blank, n)) is
+
+  pub taken_fault : (bytes : List ℕ) (place : KohibladPlace) (state : ℕ) → state ≡ 4
+      → ((cell : Cell Tree) → IsPlaceOf bytes cell place
+      → IsPayloadRead place.type_code cell (Err state))
+      → IsTakenAt Stands blank bytes place (blank, state)
+  taken_fault bytes place state is read = (
+    λ cell there. fault_cell cell place.type_code state is (read cell there),
+    known_state Stands blank state (inr is),
+  )
+
   state_cell : (cell : Cell Tree) (state : ℕ) → HoldsScalars Stands
       → IsCellRead cell (Err state) → IsTakenCell Stands blank cell (blank, state)
   state_cell absent state scalars read = absurd read
@@ -57,13 +112,9 @@ module _ {V : Type 0} (Stands : V → Tree → Type 0) (blank : V) where
       state_is : ◌≡◌ {A = Result (Option Node) ℕ} (Err state) (Err 4) → state ≡ 4
       state_is same = cc
 
-  known_state : (state : ℕ) → (state ≡ 3) ⊎ (state ≡ 4) → IsSomeTaken blank (blank, state)
-  known_state state (inl is) = inr (refl, omega (arith, is))
-  known_state state (inr is) = inr (refl, omega (arith, is))
-
   pub taken_state : (bytes : List ℕ) (place : KohibladPlace) (state : ℕ) → HoldsScalars Stands
       → ((cell : Cell Tree) → IsPlaceOf bytes cell place → IsCellRead cell (Err state))
       → (state ≡ 3) ⊎ (state ≡ 4)
       → IsTakenAt Stands blank bytes place (blank, state)
   taken_state bytes place state scalars read known =
-      (λ cell there. state_cell cell state scalars (read cell there), known_state state known)
+      (λ cell there. state_cell cell state scalars (read cell there), known_state Stands blank state known)

@@ -4,11 +4,14 @@ use Rattle.std.proofs.Common.{false, List, [], ◌∷◌, length, Option, None, 
 use Rattle.std.proofs.Common.{Ok, Err, IsOkAnd, get_or, inl, inr, refl, sym, ap, subst, arith}
 use Rattle.std.specs.Borrow.{Bor}
 use Rattle.std.specs.Map.{keys_of, values_of}
+use Rattle.jsonb_value.specs.NumCode.{NumCode}
 use Rattle.jsonb_value.specs.Tree as trees
 use Rattle.jsonb_value.specs.Tree.{Tree, Pairs, no_pairs, pair, array, object}
 use Rattle.jsonb_value.specs.declared.error.Error.{Error}
+use Rattle.jsonb_value.specs.declared.number.Number.{Number}
 use Rattle.jsonb_codec.specs.Doc.{Doc}
 use Rattle.jsonb_codec.specs.Parts.{IsPayloadOf}
+use Rattle.jsonb_codec.specs.declared.constants.TheConstants.{NUMBER_TAG}
 use Rattle.jsonb.specs.Entry.{entry_there, Code}
 use Rattle.jsonb.specs.Lookup.{find_pair}
 use Rattle.jsonb.specs.Node.{IsContainer, node_tree, value_of_key}
@@ -34,6 +37,7 @@ use Rattle.kohiblad.specs.Taking.{IsDate, IsInt128, IsInterval, IsTimestamp, IsT
 use Rattle.kohiblad.specs.Taking.{IsZonedTimestamp}
 use Rattle.kohiblad.specs.TakenTexts.{IsBytes}
 use Rattle.kohiblad.specs.UncheckedRows.{IsReadAs}
+use Rattle.kohiblad.proofs.ScalarReads.{number_read}
 
 pub no_document : (b : List ℕ) (t : Tree) → Doc b t → b ≡ [] → ⊥
 no_document b t document empty =
@@ -148,6 +152,78 @@ module _ {V : Type 0} (Stands : V → Tree → Type 0) (blank : V) where
     ),
   )
 
+  -- The same of what was read by its entry.
+  pub read_taken : (o : Option Tree) (member : Option Node) (taken : V × ℕ)
+      → IsReadAs o (Ok member)
+      → IsTakenCell Stands blank (member_cell (option_map node_tree member)) taken
+      → IsTakenCell Stands blank (member_cell o) taken
+  read_taken o member taken read is =
+      subst (λ (o : Option Tree). IsTakenCell Stands blank (member_cell o) taken) read is
+
+  pub number_taken : (p : List ℕ) (t : Tree) (x : Number) (taken : V × ℕ)
+      → IsPayloadOf NUMBER_TAG p t → NumCode p x
+      → IsTakenCell Stands blank (member_cell (Some (trees.number x))) taken
+      → IsTakenCell Stands blank (member_cell (Some t)) taken
+  number_taken p t x taken means code is =
+      subst (λ (o : Option Tree). IsTakenCell Stands blank (member_cell o) taken)
+      (number_read p t x means code) is
+
+  -- What is taken of a row by the place of its member.
+  pub empty_taken : (path : List Step) (row : List ℕ) → row ≡ []
+      → IsTakenUnchecked Stands blank path row (blank, 0)
+  empty_taken path row empty = (
+    λ t document. absurd (no_document row t document empty),
+    (λ none. refl, inr (refl, omega arith)),
+  )
+
+  held_taken : (row : List ℕ) (place : Entry) (payload : List ℕ) (taken : V × ℕ)
+      → payload ≡ (entry_there row place).payload
+      → ((t : Tree) → IsPayloadOf place.type_code payload t
+      → IsTakenCell Stands blank (member_cell (Some t)) taken)
+      → (o : Option Tree) → HoldsFound row (Some place) o
+      → IsTakenCell Stands blank (member_cell o) taken
+  held_taken row place payload taken same entry (Some t) holds =
+      entry t (subst (λ (p : List ℕ). IsPayloadOf place.type_code p t) (sym same) holds)
+  held_taken row place payload taken same entry None holds = absurd holds
+
+  pub place_taken : (path : List Step) (row : List ℕ) (place : Entry) (payload : List ℕ)
+      (taken : V × ℕ)
+      → ((t : Tree) → Doc row t → HoldsFound row (Some place) (found_at path t))
+      → payload ≡ (entry_there row place).payload
+      → ((t : Tree) → IsPayloadOf place.type_code payload t
+      → IsTakenCell Stands blank (member_cell (Some t)) taken)
+      → IsSomeTaken blank taken → (row ≡ [] → ⊥)
+      → IsTakenUnchecked Stands blank path row taken
+  place_taken path row place payload taken found same entry some full = (
+    λ t document.
+        held_taken row place payload taken same entry (found_at path t) (found t document),
+    (λ none. absurd (full none), some),
+  )
+
+  absent_taken : (row : List ℕ) (o : Option Tree) → HoldsFound row None o
+      → IsTakenCell Stands blank (member_cell o) (blank, 0)
+  absent_taken row None holds = refl
+  absent_taken row (Some t) holds = absurd holds
+
+  pub none_taken : (path : List Step) (row : List ℕ)
+      → ((t : Tree) → Doc row t → HoldsFound row None (found_at path t))
+      → IsTakenUnchecked Stands blank path row (blank, 0)
+  none_taken path row found = (
+    λ t document. absent_taken row (found_at path t) (found t document),
+    (λ none. refl, inr (refl, omega arith)),
+  )
+
+  pub error_taken : (path : List Step) (row : List ℕ) → ((t : Tree) → Doc row t → ⊥)
+      → (row ≡ [] → ⊥) → IsTakenUnchecked Stands blank path row (blank, 4)
+  error_taken path row none full = (
+    λ t document. absurd (none t document),
+    (λ empty. absurd (full empty), inr (refl, omega arith)),
+  )
+
+  pub known_state : (state : ℕ) → (state ≡ 3) ⊎ (state ≡ 4) → IsSomeTaken blank (blank, state)
+  known_state state (inl is) = inr (refl, omega (arith, is))
+  known_state state (inr is) = inr (refl, omega (arith, is))
+
   pub state_found : (o : Option Tree) (state : ℕ) → HoldsScalars Stands → IsReadAs o (Err state)
       → IsTakenCell Stands blank (member_cell o) (blank, state)
   state_found (Some t) state scalars (is, container) =
@@ -163,13 +239,9 @@ module _ {V : Type 0} (Stands : V → Tree → Type 0) (blank : V) where
     λ t document. state_found (found_at path t) state scalars (read t document),
     (
       λ none. let same = empty none in absurd cc,
-      known_state known,
+      known_state state known,
     ),
   )
-    where
-      known_state : (state ≡ 3) ⊎ (state ≡ 4) → IsSomeTaken blank (blank, state)
-      known_state (inl is) = inr (refl, omega (arith, is))
-      known_state (inr is) = inr (refl, omega (arith, is))
 
 -- No value of a type stands for an array or object.
 scalar_texts : HoldsScalars IsText

@@ -1,6 +1,8 @@
 -- The places of members in rows, and the values that are taken there.
 use Rattle.std.specs.Prelude.{◌≡◌, ◌≤◌, ◌+◌, ◌-◌, ◌∷◌, [], ℕ, zero, suc, List, length}
-use Rattle.std.specs.Prelude.{take, drop, Option, None, Some, Result, Ok, Err}
+use Rattle.std.specs.Prelude.{take, drop, Option, None, Some, Result, Ok, Err, IsOkAnd}
+use Rattle.std.specs.Prelude.{IsSomeAnd}
+use Rattle.std.specs.Borrow.{Bor}
 use Rattle.jsonb_value.specs.Tree.{Tree}
 use Rattle.jsonb_value.specs.declared.error.Error.TheVariants.{InvalidJsonb}
 use Rattle.jsonb_codec.specs.Parts.{IsPayloadOf}
@@ -19,6 +21,13 @@ IsPlaceOf bytes (value t) place = (place.status ≡ 0)
     × ((place.offset + place.length ≤ length bytes)
     × IsPayloadOf place.type_code (take place.length (drop place.offset bytes)) t)
 IsPlaceOf bytes (other b) place = place ≡ place_answer (Err InvalidJsonb)
+
+-- What is read of the payload of a row's member at its place.
+abbrev pub IsPayloadRead : ℕ → Cell Tree → Result (Option (Bor (List ℕ))) ℕ → Type 0
+IsPayloadRead type absent result = result ≡ Ok None
+IsPayloadRead type (value t) result =
+    IsOkAnd result (λ found. IsSomeAnd found (λ payload. IsPayloadOf type payload.now t))
+IsPayloadRead type (other b) result = result ≡ Err 4
 
 -- What is read of a row's member at its place.
 abbrev pub IsCellRead : Cell Tree → Result (Option Node) ℕ → Type 0

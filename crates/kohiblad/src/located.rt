@@ -4,7 +4,7 @@ ghost use Rattle.std.specs.Prelude.{◌≡◌, ◌∷◌, ◌⊎◌, ◌+◌, �
 ghost use Rattle.std.specs.Prelude.{MatchOption, drop, length, nat_le, take};
 ghost use Rattle.typed_vector.specs.Cells.{Cell};
 ghost use Rattle.jsonb_typed.specs.Words.{HoldsNoScalar};
-ghost use Rattle.kohiblad.specs.Located.{IsCellRead, IsPlaceOf, each_of};
+ghost use Rattle.kohiblad.specs.Located.{IsCellRead, IsPayloadRead, IsPlaceOf, each_of};
 ghost use Rattle.kohiblad.specs.Words.{Tree};
 ghost use Rattle.kohiblad.specs.declared.places.KohibladPlace.{KohibladPlace};
 
@@ -90,26 +90,40 @@ fn places_after(places: &[KohibladPlace], passed: usize) -> &[KohibladPlace]
 
 /// The member of a row at its place, if it is a scalar; or the state of the row. At any other place
 /// it is some scalar, none, or a state.
-#[inline(always)]
 pub fn member_at<'a>(bytes: &'a [u8], place: KohibladPlace) -> Result<Option<Node<'a>>, u8>
     ensures cell { (cell : Cell Tree) → IsPlaceOf bytes.entry.now cell place
         → IsCellRead cell result }
     ensures scalar { IfOk result (λ member. IfSome member HoldsNoScalar) }
     ensures state { IfErr result (λ state. (state ≡ 3) ⊎ (state ≡ 4)) }
 {
+    match payload_at(bytes, place) {
+        Ok(Some(payload)) => scalar_at(place.type_code, payload),
+        Ok(None) => Ok(None),
+        Err(state) => Err(state),
+    }
+}
+
+/// The payload of a row's member at its place, or the state of the row. At any other place it is
+/// some part of the bytes, none, or a state.
+#[inline(always)]
+pub fn payload_at<'a>(bytes: &'a [u8], place: KohibladPlace) -> Result<Option<&'a [u8]>, u8>
+    ensures cell { (cell : Cell Tree) → IsPlaceOf bytes.entry.now cell place
+        → IsPayloadRead place.type_code cell result }
+    ensures state { IfErr result (λ state. state ≡ 4) }
+{
     match place.status {
         NONE => Ok(None),
-        OK => match payload_at(bytes, place) {
-            Some(payload) => scalar_at(place.type_code, payload),
+        OK => match bytes_within(bytes, place) {
+            Some(payload) => Ok(Some(payload)),
             None => Err(NO_DOCUMENT),
         },
         _ => Err(NO_DOCUMENT),
     }
 }
 
-// The payload at a place. `None` if it is not inside the bytes.
+// The bytes at a place. `None` if they are not all there.
 #[inline(always)]
-fn payload_at<'a>(bytes: &'a [u8], place: KohibladPlace) -> Option<&'a [u8]>
+fn bytes_within<'a>(bytes: &'a [u8], place: KohibladPlace) -> Option<&'a [u8]>
     ensures { MatchOption result (place.offset + place.length ≤ length bytes.entry.now → ⊥)
         (λ payload. payload.now ≡ take place.length (drop place.offset bytes.entry.now)) }
 {

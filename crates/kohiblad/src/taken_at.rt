@@ -5,9 +5,9 @@ ghost use Rattle.kohiblad.specs.Located.{IsTakenAt};
 ghost use Rattle.kohiblad.specs.Taking.{AreRowsPut, AreRowsTaken, HoldsScalars, taken_answer};
 
 use crate::answer::NO_ROOM;
-use crate::located::{Places, member_at};
+use crate::located::{Places, payload_at};
 use crate::places::KohibladPlace;
-use crate::taking::{KohibladTaken, not_taken, take_member, taken_answer};
+use crate::taking::{ABSENT, KohibladTaken, not_taken, take_entry, taken_answer};
 use jsonb_typed::ColumnType;
 
 /// Takes the members at places as values of a type, and writes them and the states of their rows to
@@ -70,7 +70,7 @@ fn put_places<T: ColumnType>(
 
 // What is written for the member at a place: its value, or the blank one, and the state of its row.
 #[inline(always)]
-#[tactic(auto, using(crate::proofs::LocatedLaws::taken_member, crate::proofs::LocatedLaws::taken_state))]
+#[tactic(auto, using(crate::proofs::LocatedLaws::taken_payload, crate::proofs::LocatedLaws::taken_none, crate::proofs::LocatedLaws::taken_fault))]
 fn take_place<T: ColumnType>(
     bytes: &[u8],
     place: KohibladPlace,
@@ -80,8 +80,9 @@ fn take_place<T: ColumnType>(
     requires { HoldsScalars (T.stands column_type.now) }
     ensures { IsTakenAt (T.stands column_type.now) blank bytes.now place result }
 {
-    match member_at(bytes, place) {
-        Ok(member) => take_member(member, column_type, blank),
+    match payload_at(bytes, place) {
+        Ok(Some(payload)) => take_entry(place.type_code, payload, column_type, blank),
+        Ok(None) => (blank, ABSENT),
         Err(state) => (blank, state),
     }
 }

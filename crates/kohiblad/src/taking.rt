@@ -1,20 +1,23 @@
 //! The members of rows as values of one type, written to the caller's buffers.
 
-ghost use Rattle.std.specs.Prelude.{◌≡◌, ◌≤◌, ℕ, IfSome, List, length, map, nat_le, option_map};
+ghost use Rattle.std.specs.Prelude.{◌≡◌, ◌≤◌, ℕ, IfSome, List, Some, length, map, nat_le};
+ghost use Rattle.std.specs.Prelude.{option_map};
+ghost use Rattle.jsonb_codec.specs.declared.constants.TheConstants.{NUMBER_TAG};
 ghost use Rattle.jsonb_functions.specs.Found.{found_at};
 ghost use Rattle.jsonb_typed.specs.Words.{HoldsNoScalar, member_cell};
 ghost use Rattle.kohiblad.specs.Taking.{AreRowsPut, AreRowsTaken, AreTaken, HoldsScalars};
-ghost use Rattle.kohiblad.specs.Taking.{IsReadRow, IsTakenCell, IsTakenRow, IsTakenUnchecked};
-ghost use Rattle.kohiblad.specs.Taking.{bytes_state, first_unfit, fit_of, not_taken};
-ghost use Rattle.kohiblad.specs.Taking.{taken_answer, tree_state, unfit_count};
-ghost use Rattle.kohiblad.specs.Words.{document_tree, meaning_within, node_tree};
+ghost use Rattle.kohiblad.specs.Taking.{IsReadRow, IsSomeTaken, IsTakenCell, IsTakenRow};
+ghost use Rattle.kohiblad.specs.Taking.{IsTakenUnchecked, bytes_state, first_unfit, fit_of};
+ghost use Rattle.kohiblad.specs.Taking.{not_taken, taken_answer, tree_state, unfit_count};
+ghost use Rattle.kohiblad.specs.Words.{IsPayloadOf, Tree, document_tree, meaning_within, node_tree};
 
 use crate::answer::{NO_ROOM, OK, code};
 use crate::row_paths::steps_of;
 use crate::rows::Rows;
-use crate::unchecked_rows::unchecked_member;
-use jsonb::{Document, Error, Node, SortKey};
-use jsonb_functions::Step;
+use crate::unchecked_rows::{member_place, scalar_at};
+use jsonb::{Document, Error, Node, NumberItem, SortKey};
+use jsonb_codec::constants::NUMBER_TAG;
+use jsonb_functions::{Step, bytes_at};
 use jsonb_typed::{ColumnType, Fit, member_of, opened};
 use std::alloc::Global;
 
@@ -250,7 +253,7 @@ pub fn opened_member<'a>(document: Document<'a>, path: &[Step<'_>]) -> Option<No
 
 // The same for a row that is not checked.
 #[inline(always)]
-#[tactic(auto, using(crate::proofs::UncheckedLaws::taken_member, crate::proofs::UncheckedLaws::taken_state))]
+#[tactic(auto, using(crate::proofs::UncheckedLaws::empty_taken, crate::proofs::UncheckedLaws::place_taken, crate::proofs::UncheckedLaws::none_taken, crate::proofs::UncheckedLaws::error_taken))]
 fn take_unchecked<T: ColumnType>(
     row: &[u8],
     path: &[Step<'_>],
@@ -260,9 +263,52 @@ fn take_unchecked<T: ColumnType>(
     requires { HoldsScalars (T.stands column_type.now) }
     ensures { IsTakenUnchecked (T.stands column_type.now) blank path.now row.now result }
 {
-    match unchecked_member(row, path) {
+    if row.is_empty() {
+        return (blank, ABSENT);
+    }
+    match member_place(row, path) {
+        Ok(Some(place)) => take_entry(place.type_code, bytes_at(row, place), column_type, blank),
+        Ok(None) => (blank, ABSENT),
+        Err(_) => (blank, NO_DOCUMENT),
+    }
+}
+
+/// What is written for a row whose member has an entry of this type and this payload.
+#[inline(always)]
+#[tactic(auto, using(crate::proofs::UncheckedLaws::read_taken, crate::proofs::UncheckedLaws::state_found, crate::proofs::UncheckedLaws::some_taken, crate::proofs::UncheckedLaws::known_state))]
+pub fn take_entry<T: ColumnType>(
+    type_code: u32,
+    payload: &[u8],
+    column_type: &T,
+    blank: T::Value,
+) -> (T::Value, u8)
+    requires { HoldsScalars (T.stands column_type.now) }
+    ensures entry { (t : Tree) → IsPayloadOf type_code payload.now t
+        → IsTakenCell (T.stands column_type.now) blank (member_cell (Some t)) result }
+    ensures some { IsSomeTaken blank result }
+{
+    // A number is not handed on as one of many kinds of scalars: to copy such a value takes longer
+    // than to read the number.
+    if type_code == NUMBER_TAG {
+        return take_number(payload, column_type, blank);
+    }
+    match scalar_at(type_code, payload) {
         Ok(member) => take_member(member, column_type, blank),
         Err(state) => (blank, state),
+    }
+}
+
+// What is written for a row whose member has an entry of a number and this payload.
+#[inline(always)]
+#[tactic(auto, using(crate::proofs::ScalarReads::some_number, crate::proofs::UncheckedLaws::number_taken, crate::proofs::UncheckedLaws::some_taken))]
+fn take_number<T: ColumnType>(payload: &[u8], column_type: &T, blank: T::Value) -> (T::Value, u8)
+    ensures number { (t : Tree) → IsPayloadOf NUMBER_TAG payload.now t
+        → IsTakenCell (T.stands column_type.now) blank (member_cell (Some t)) result }
+    ensures some { IsSomeTaken blank result }
+{
+    match NumberItem::from_bytes(payload) {
+        Ok(number) => take_value(Node::Number(number), column_type, blank),
+        Err(_) => (blank, NO_DOCUMENT),
     }
 }
 
@@ -277,9 +323,19 @@ pub fn take_member<T: ColumnType>(
     ensures { IsTakenCell (T.stands column_type.now) blank
         (member_cell (option_map node_tree member.entry)) result }
 {
-    let Some(member) = member else {
-        return (blank, ABSENT);
-    };
+    match member {
+        Some(member) => take_value(member, column_type, blank),
+        None => (blank, ABSENT),
+    }
+}
+
+// What is written for a row that has this member.
+#[inline(always)]
+fn take_value<T: ColumnType>(member: Node<'_>, column_type: &T, blank: T::Value) -> (T::Value, u8)
+    requires { HoldsNoScalar member }
+    ensures { IsTakenCell (T.stands column_type.now) blank
+        (member_cell (Some (node_tree member.entry))) result }
+{
     match column_type.value_of(member) {
         Some(value) => (value, VALUE),
         None => (blank, state_of(member)),

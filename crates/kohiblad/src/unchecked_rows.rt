@@ -2,7 +2,7 @@
 
 ghost use Rattle.std.specs.Prelude.{◌≡◌, ◌≢◌, ◌⊎◌, [], IfErr, IfOk, IfSome, IsOkAnd, None, Ok};
 ghost use Rattle.std.specs.Prelude.{Some, option_map};
-ghost use Rattle.jsonb_codec.specs.declared.constants.TheConstants.{CONTAINER_TAG, NUMBER_TAG};
+ghost use Rattle.jsonb_codec.specs.declared.constants.TheConstants.{CONTAINER_TAG};
 ghost use Rattle.jsonb_functions.specs.Found.{found_at};
 ghost use Rattle.jsonb_functions.specs.PathPlaces.{HoldsFound, IsPlaceWithin};
 ghost use Rattle.jsonb_typed.specs.Words.{HoldsNoScalar};
@@ -22,7 +22,6 @@ use simdutf8::basic;
 /// The member of a row at the end of a path, if it is a scalar; or the state of the row. `Ok(None)`
 /// if the row has no such member, or no bytes. Of any other bytes than a document it is some
 /// scalar, none, or a state.
-#[inline(always)]
 pub fn unchecked_member<'a>(row: &'a [u8], path: &[Step<'_>]) -> Result<Option<Node<'a>>, u8>
     ensures document { (t : Tree) → Doc row.entry.now t → IsReadAs (found_at path.now t) result }
     ensures scalar { IfOk result (λ member. IfSome member HoldsNoScalar) }
@@ -39,9 +38,10 @@ pub fn unchecked_member<'a>(row: &'a [u8], path: &[Step<'_>]) -> Result<Option<N
     }
 }
 
-// The position of the member at the end of a path.
+/// The position of the member at the end of a path. `None` if a document has no such member; of any
+/// other bytes it is some position in them, none, or an error.
 #[inline(always)]
-fn member_place(row: &[u8], path: &[Step<'_>]) -> Result<Option<Entry>, Error>
+pub fn member_place(row: &[u8], path: &[Step<'_>]) -> Result<Option<Entry>, Error>
     ensures document { (t : Tree) → Doc row.now t
         → IsOkAnd result (λ found. HoldsFound row.now found (found_at path.now t)) }
     ensures inside { IfOk result (λ found. IfSome found (IsPlaceWithin row.now)) }
@@ -70,7 +70,6 @@ fn path_end(row: &[u8], path: &[Step<'_>]) -> Result<Option<Entry>, Error>
 }
 
 /// The scalar of an entry with this type and payload, or the state of its row.
-#[inline(always)]
 pub fn scalar_at<'a>(type_code: u32, payload: &'a [u8]) -> Result<Option<Node<'a>>, u8>
     ensures entry { (t : Tree) → IsPayloadOf type_code payload.entry.now t
         → IsReadAs (Some t) result }
@@ -87,30 +86,9 @@ pub fn scalar_at<'a>(type_code: u32, payload: &'a [u8]) -> Result<Option<Node<'a
 }
 
 // The scalar with this type and payload. `None` if there is none.
-#[inline(always)]
-#[tactic(auto, using(crate::proofs::ScalarReads::number_read, crate::proofs::ScalarReads::some_number))]
+#[tactic(auto, using(crate::proofs::ScalarReads::null_read, crate::proofs::ScalarReads::true_read, crate::proofs::ScalarReads::false_read, crate::proofs::ScalarReads::number_read, crate::proofs::ScalarReads::some_number, crate::proofs::ScalarReads::text_read, crate::proofs::ScalarReads::some_text, crate::proofs::ScalarReads::extension_read, crate::proofs::ScalarReads::some_extension, crate::proofs::ScalarReads::tagged))]
 fn scalar_of<'a>(type_code: u32, payload: &'a [u8]) -> Option<Node<'a>>
     ensures means { (t : Tree) → type_code ≢ CONTAINER_TAG
-        → IsPayloadOf type_code payload.entry.now t → option_map node_tree result ≡ Some t }
-    ensures scalar { IfSome result HoldsNoScalar }
-{
-    // Most members that are taken are numbers. The others are out of line, so that a number is not
-    // copied from one frame to another with room for all of them.
-    if type_code != NUMBER_TAG {
-        return other_scalar(type_code, payload);
-    }
-    match NumberItem::from_bytes(payload) {
-        Ok(number) => Some(Node::Number(number)),
-        Err(_) => None,
-    }
-}
-
-// The scalar with this type, which is not that of numbers, and this payload. `None` if there is
-// none.
-#[inline(never)]
-#[tactic(auto, using(crate::proofs::ScalarReads::null_read, crate::proofs::ScalarReads::true_read, crate::proofs::ScalarReads::false_read, crate::proofs::ScalarReads::text_read, crate::proofs::ScalarReads::some_text, crate::proofs::ScalarReads::extension_read, crate::proofs::ScalarReads::some_extension, crate::proofs::ScalarReads::tagged))]
-fn other_scalar<'a>(type_code: u32, payload: &'a [u8]) -> Option<Node<'a>>
-    ensures means { (t : Tree) → type_code ≢ CONTAINER_TAG → type_code ≢ NUMBER_TAG
         → IsPayloadOf type_code payload.entry.now t → option_map node_tree result ≡ Some t }
     ensures scalar { IfSome result HoldsNoScalar }
 {
@@ -118,6 +96,10 @@ fn other_scalar<'a>(type_code: u32, payload: &'a [u8]) -> Option<Node<'a>>
         NULL_TAG => Some(Node::Null),
         FALSE_TAG => Some(Node::Boolean(false)),
         TRUE_TAG => Some(Node::Boolean(true)),
+        NUMBER_TAG => match NumberItem::from_bytes(payload) {
+            Ok(number) => Some(Node::Number(number)),
+            Err(_) => None,
+        },
         STRING_TAG => match basic::from_utf8(payload) {
             Ok(text) => Some(Node::String(text)),
             Err(_) => None,
