@@ -25,10 +25,15 @@ def stored_documents(documents):
     return b"".join(len(bytes(it)).to_bytes(8, "big") + bytes(it) for it in documents)
 
 
-def run(*arguments, given=b"", path=None):
+# The program, which reports a hundred times a second: so a quick run has reports too.
+OFTEN = ("import sys, kohiblad.__main__ as program; program._SECONDS_BETWEEN_REPORTS = 0.01; "
+         "sys.exit(program.main())")
+
+
+def run(*arguments, given=b"", path=None, program=("-m", "kohiblad")):
     """The status of the program, its output and its messages; `path` is where it looks for others.
     """
-    done = subprocess.run([sys.executable, "-m", "kohiblad", *arguments], input=given,
+    done = subprocess.run([sys.executable, *program, *arguments], input=given,
                           env=dict(os.environ, **({} if path is None else {"PATH": path})),
                           stdout=subprocess.PIPE, stderr=subprocess.PIPE)
     return done.returncode, done.stdout, done.stderr.decode()
@@ -172,13 +177,14 @@ class CommandTest(unittest.TestCase):
 
     def test_progress_is_on_standard_error(self):
         given = b"1\n" * 300_000
-        status, output, message = run("encode", "--progress", given=given)
+        status, output, message = run("encode", "--progress", given=given, program=("-c", OFTEN))
         self.assertEqual((status, output), (0, stored("1") * 300_000))
         self.assertTrue(message.endswith("300,000 lines\n"), message[-50:])
 
     def test_progress_of_a_file_has_the_part_that_was_read(self):
         source = self.path("in", b"[1,2,3]\n" * 300_000)
-        status, _, message = run("encode", source, "-o", self.path("out"), "--progress")
+        status, _, message = run("encode", source, "-o", self.path("out"), "--progress",
+                                 program=("-c", OFTEN))
         self.assertEqual(status, 0)
         self.assertRegex(message, r"^\r[\d,]+ lines, \d+%, \d+ s left")
         self.assertEqual(message.split("\r")[-1].split(), ["300,000", "lines,", "100%"])
@@ -267,7 +273,8 @@ class CommandTest(unittest.TestCase):
 
     def test_extract_counts_the_documents(self):
         given = stored("[7]") * 300_000
-        status, output, message = run("extract", "$[0]", "int64", "--progress", given=given)
+        status, output, message = run("extract", "$[0]", "int64", "--progress", given=given,
+                                      program=("-c", OFTEN))
         self.assertEqual((status, output.count(b"\n")), (0, 300_001))
         self.assertTrue(message.endswith("300,000 documents\n"), message[-50:])
 
