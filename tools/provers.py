@@ -5,16 +5,18 @@ import os
 import shutil
 import sys
 
-# The most memory, in bytes, that one prover of one job was seen to take, and a little more.
+# The most memory, in bytes, that one prover of one job was seen to take, and a little more; and
+# what each further job takes.
 MEMORY = 3_300_000_000
+MORE = 1_500_000_000
 
 
-def loaded(path):
+def loaded(path, name="rt"):
     """A program of Python as a module."""
     # Nothing is to be left in the kit's folder.
     sys.dont_write_bytecode = True
-    loader = importlib.machinery.SourceFileLoader("rt", path)
-    made = importlib.util.module_from_spec(importlib.util.spec_from_loader("rt", loader))
+    loader = importlib.machinery.SourceFileLoader(name, path)
+    made = importlib.util.module_from_spec(importlib.util.spec_from_loader(name, loader))
     loader.exec_module(made)
     return made
 
@@ -26,3 +28,8 @@ rtlib = rt.rtlib
 def lanes():
     """How many provers run side by side: one a processor, as far as the free memory goes."""
     return max(1, min(rt.processors(), rt.free() // MEMORY))
+
+
+def kept_archive(crate):
+    """Where the archive of the library for C is kept that is built of these very files."""
+    return f"{rt.STORE}/kohiblad-{rt.stamp_of(crate, {})}.a"
