@@ -7,12 +7,14 @@ program answers; and the exports for C. Their clauses cite definitions of `specs
 others: all of them must be believed. All else in `specs/` is cited by the contracts of inner
 functions alone, and counts as a helper: a mistake in it can make a proof fail, and no public
 contract say less. A name that a file passes on by `pub use`, as `Words` does, is a name of the file
-that defines it, and a file that only passes names on is not listed.
+that defines it, and a file that only passes names on is not listed. What the examples of a crate
+show stands beside the definitions, and each definition of the first promise has some.
 """
 import os
 import re
 import textwrap
 
+from examples import FILES, block, examples_of, uncited
 from rattle import (PROGRAMS, TOP, cited, exported, facts_of, files_of, functions_of, imports_of,
                     specs_of, text_of)
 
@@ -33,6 +35,13 @@ through all crates. All other words in them are the library's (`List`, `≡`, `A
 constants that the code declares (`Number` ..). At the end are all definitions by notion and by
 file. `tools/pages --write` makes this page of the code.
 
+Below definitions are examples of them, which are proved with the crates: bytes and what they mean,
+two values and their order, a text and its value, a path and what it selects. So a definition that
+said something else would fail there. `hex` is the bytes that hexadecimal digits spell, and `codes`
+those of a text; `minus n` is -n; `whole n`, `string s`, `items` and `members` are the trees of an
+unsigned integer, a string, an array and an object; `scaled v s` and `wide v s` are decimals of 64
+and of 128 bits; and `P → ⊥` says that P does not hold.
+
 """
 IN_WORDS = """In words: if the bytes b are a document of the tree t and a document of the tree u,
 then t and u are the same tree."""
@@ -48,6 +57,11 @@ call returns needs no definition: the prover requires it of each function.
 CARRIED = """
 After each promise come the clauses that carry it, the definitions that they cite themselves, which
 is where to begin, and how many lines of which files they reach beyond those of the headline.
+
+"""
+SHOWN = """## Examples
+
+Of the definitions beyond those of the first promise, by the file that defines what they show.
 
 """
 EVERY = """## Every file
@@ -111,6 +125,9 @@ class Promise:
         self.sentence, self.carried, self.wanted, self.clauses = sentence, [], set(), []
         for line in lines:
             crate, call, *names = line.split()
+            if call == "exports":
+                self.add_exports(crate)
+                continue
             path, found = self.clauses_of(crate, call)
             found = [it for it in found if it[0] in names or not names]
             if not found or len({name for name, _ in found}) < len(set(names)):
@@ -121,6 +138,19 @@ class Promise:
             for _, code in found:
                 self.wanted |= cited("\n".join(code), *imports)
         self.parts = reached(files, self.wanted)
+
+    def add_exports(self, crate):
+        """Adds the clauses of all exports of a crate."""
+        count = 0
+        for path in files_of(crate):
+            imports = imports_of(text_of(path))
+            for it in functions_of(path):
+                if it.is_export:
+                    count += 1
+                    code = [line for kind, _, lines in it.clauses if kind == "ensures"
+                            for line in lines]
+                    self.wanted |= cited("\n".join(code), *imports)
+        self.carried.append((crate, f"each of the {count} exports", []))
 
     @staticmethod
     def clauses_of(crate, call):
@@ -194,7 +224,21 @@ def item(text, mark="-"):
                          break_on_hyphens=False)
 
 
-def headline(files, promise):
+def shown(files):
+    """The examples, by the file of the definitions that each is one of."""
+    order, found = in_order(files), {}
+    for it in examples_of(files):
+        if where := it.place(files, order):
+            found.setdefault(where, []).append(it)
+    return found
+
+
+def link(where):
+    path = f"{where[0]}/specs/{where[1]}.antt"
+    return f"[{path}](../crates/{path})"
+
+
+def headline(files, promise, examples):
     """What must be believed of the first promise, definition by definition."""
     made = f"## {promise.sentence.rstrip('.')}\n\n"
     code = "\n".join(line.strip() for it in promise.clauses for line in it)
@@ -203,20 +247,20 @@ def headline(files, promise):
     made += filled(f"{IN_WORDS} It rests on {counted(files, promise.parts)} of `specs/`. In "
                    "reading order, each with its number of lines:") + "\n\n"
     for where, places in by_file(files, promise.parts):
-        path = f"{where[0]}/specs/{where[1]}.antt"
         lines = lines_of(files, [(where, at) for at in places])
         names = ", ".join(f"`{' '.join(files[where].heads[at])}` {files[where].lines(at)}"
                           for at in places)
-        made += item(f"[{path}](../crates/{path}), {lines} lines. {files[where].about} "
-                     f"{names}.") + "\n"
+        made += item(f"{link(where)}, {lines} lines. {files[where].about} {names}.") + "\n"
+        if where in examples:
+            made += f"\n{block(examples[where], '  ')}\n"
     return made + "\n"
 
 
 def other(files, promise, first):
     """What must be believed of a promise: where to begin, and how much is beyond the first."""
     clauses = "; ".join(
-        f"`{call}`" + (": " + ", ".join(f"`{it}`" for it in names) if names != ["_"] else "")
-        for _, call, names in promise.carried)
+        (f"`{call}`" + (": " + ", ".join(f"`{it}`" for it in names) if names != ["_"] else ""))
+        if names else call for _, call, names in promise.carried)
     begins = [(where, files[where].defined[name]) for where, name in promise.wanted
               if where in files and name in files[where].defined]
     begins = [f"`{name}`" for where, places in by_file(files, begins) for at in places
@@ -254,6 +298,8 @@ def listing():
     parts = believed(files)
     listed, total, helpers = {}, 0, 0
     for where in in_order(files):
+        if where[1] in FILES:
+            continue
         file = files[where]
         lines = sum(file.lines(at) for it, at in parts if it == where)
         others = sum(map(file.lines, range(len(file.parts)))) - lines
@@ -262,13 +308,18 @@ def listing():
             counts = f"{lines} + {others}" if others else f"{lines}"
             listed.setdefault(where[0], []).append(f"`{where[1]}` ({counts}): {file.about}")
     alone = [f"`{where[0]}/specs/{where[1]}`" for where in in_order(files)
-             if not any(it == where for it, _ in parts)]
+             if where[1] not in FILES and not any(it == where for it, _ in parts)]
     count = f"{total:,} lines must be believed, in {sum(map(len, listed.values()))} files"
     first, *others = promises(files)
-    made = HEAD + headline(files, first) + BEYOND + "".join(table(files, [first, *others]))
+    examples = shown(files)
+    made = HEAD + headline(files, first, examples) + BEYOND + "".join(table(files, [first, *others]))
     made += CARRIED + "".join(other(files, it, first) for it in others)
     notions = text_of(f"{TOP}/tools/data/notions").partition("\n")[2]
-    made += f"## By notion\n\n{notions}\n{EVERY}{count}; {helpers:,} more lines are helpers.\n\n"
+    made += f"## By notion\n\n{notions}\n{SHOWN}"
+    for where in in_order(files):
+        if where in examples and where not in {it for it, _ in first.parts}:
+            made += f"- {link(where)}\n\n{block(examples[where], '  ')}\n"
+    made += f"{EVERY}{count}; {helpers:,} more lines are helpers.\n\n"
     for crate, items in listed.items():
         items = [textwrap.fill(f"- {it}", 100, subsequent_indent="  ") for it in items]
         made += f"### In {crate}\n\n" + "\n".join(items) + "\n\n"
@@ -276,9 +327,21 @@ def listing():
     return f"{made}### Helpers\n\n{helpers}\n"
 
 
+def unshown():
+    """The definitions of the first promise of which no example says anything."""
+    files = specs_of(CRATES)
+    parts, crates = promises(files)[0].parts, {crate for crate, name in files if name == "Examples"}
+    beside = [it for where, its in shown(files).items() if where in {it for it, _ in parts}
+              for it in its]
+    wanted = set().union(*(it.wanted for it in beside))
+    for where, at in sorted(parts - reached(files, wanted)):
+        if where[0] in crates:
+            yield f"crates/{where[0]}/specs/{where[1]}.antt: no example of {files[where].heads[at]}"
+
+
 def compare(is_to_write):
     """The faults, and how many lines must be believed."""
-    made, faults = listing(), []
+    made, faults = listing(), [*uncited(specs_of(CRATES)), *unshown()]
     if is_to_write:
         with open(PAGE, "w", encoding="utf-8") as file:
             file.write(made)

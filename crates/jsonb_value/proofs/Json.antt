@@ -20,7 +20,6 @@ pub mod StringSteps
 pub mod ValueSteps
 pub mod Documents
 pub mod Allowed
-pub mod Examples
 pub mod Scanned
 pub mod Levels
 pub mod Within

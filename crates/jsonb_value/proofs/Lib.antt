@@ -19,7 +19,6 @@ pub mod LaneRuns
 pub mod RunLaws
 pub mod AsciiLaws
 pub mod BlankLaws
-pub mod TextVectors
 pub mod BigEndian
 pub mod PayloadLaws
 pub mod PayloadDecision
@@ -28,3 +27,4 @@ pub mod Output
 pub mod NormTexts
 pub mod ScanLaws
 pub mod DepthLaws
+pub mod ExampleLaws

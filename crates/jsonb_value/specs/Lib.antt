@@ -20,4 +20,6 @@ pub mod Json
 pub mod Text
 pub mod TextDepth
 pub mod Reader
+pub mod Notation
+pub mod Examples
 pub mod Words

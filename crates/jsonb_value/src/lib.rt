@@ -4,6 +4,7 @@
 mod ast;
 pub mod constants;
 mod error;
+mod examples;
 mod extension;
 mod json_string;
 pub mod laws;
