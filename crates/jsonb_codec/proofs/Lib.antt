@@ -8,6 +8,7 @@ pub mod TreeShapes
 pub mod PartLaws
 pub mod ValueShapes
 pub mod MadeLaws
+mod CopyLaws
 pub mod Encoding
 pub mod StoredLaws
 pub mod Entries
@@ -29,7 +30,7 @@ pub mod WellFormed
 pub mod Decision
 pub mod ZeroLaws
 pub mod DocumentLaws
-pub mod Vectors
+pub mod ExampleLaws
 pub mod SortOrder
 pub mod Building
 pub mod AsciiLaws

@@ -24,6 +24,7 @@ pub mod Stored
 pub mod Encoder
 pub mod Made
 pub mod Ascii
+pub mod Examples
 pub mod Words
 pub mod Keys
 pub mod Tape

@@ -6,6 +6,7 @@ mod canonical;
 pub mod constants;
 mod de;
 mod document;
+mod examples;
 mod jentry;
 pub mod laws;
 pub mod layer;

@@ -7,6 +7,7 @@ ghost use Rattle.jsonb_codec.specs.Words.{Tree, IsTree, Doc, IsDocument, canon, 
 ghost use Rattle.jsonb_codec.specs.Words.{LevelIs, MadeIfFit};
 ghost use Rattle.jsonb_codec.specs.Words.{bytes_of, part_meaning, part_laws, level_size, shape_of};
 
+use super::is_canonical_document;
 use crate::constants::{CONTAINER_TAG, EXTENSION_TAG, NUMBER_TAG};
 use crate::document::DocumentBytes;
 use crate::parts::{Child, Children, Contents, Member, Members, Object, Part};
@@ -52,6 +53,11 @@ pub fn append_canonical_document(
     ensures room { (t : Tree) → Doc (bytes_of document.entry) t → Fits t
         → length buf.old.items + length (canon t) ≤ vec_capacity buf.old → IsOk result }
 {
+    // Most documents are canonical, and a copy costs less than a measure of each level.
+    if is_canonical_document(document) {
+        buf.extend_from_slice(document.as_bytes())?;
+        return Ok(());
+    }
     append_document::<Part>(buf, part_level(document.part()))
 }
 
