@@ -14,7 +14,7 @@ use Rattle.jsonb.specs.declared.document.Document.{Document}
 use Rattle.jsonb.specs.Document.{document_bytes, document_tree, tree_in}
 use Rattle.jsonb.specs.ItemView.{ItemView, raw}
 use Rattle.jsonb.specs.Storage.{document_code, pair_of, codes_of, AreStorable}
-use Rattle.jsonb.specs.Children.{AreShown, HasSameEntry}
+use Rattle.jsonb.specs.Children.{HasSameEntry}
 use Rattle.jsonb.specs.Building.{FitArray, FitObject, AreShort, key_codes, with_pair, with_pairs}
 use Rattle.jsonb.specs.Building.{in_order}
 use Rattle.jsonb.specs.Results.{AreDocuments, ArePairDocuments, trees_in, trees_at_keys}
@@ -41,11 +41,6 @@ is_document d = (document_tree d, tree_of_bytes (document_bytes d) d refl)
 
 pub document_shown : (d : Document) → HasSameEntry has_entry entry_of_document d (document_view d)
 document_shown d = ((λ has. is_document d, λ is. tt), λ has. refl)
-
-pub documents_shown : (ds : List Document)
-    → AreShown has_entry entry_of_document ds (map document_view ds)
-documents_shown [] = refl
-documents_shown (d ∷ ds) = (document_shown d, documents_shown ds)
 
 pub all_documents : (ds : List Document) → AllByRecursion IsDocument (map document_bytes ds)
 all_documents [] = tt

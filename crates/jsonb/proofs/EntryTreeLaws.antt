@@ -1,7 +1,9 @@
 -- The entries of a document can be read, and mean the trees of its children.
 use Rattle.std.proofs.Common.{◌≡◌, ℕ, suc, List, [], ◌∷◌, length, map, Option, Some}
-use Rattle.std.proofs.Common.{None, Result, Ok, Err, refl, sym, ap, ap₂, ◌∙◌, arith}
+use Rattle.std.proofs.Common.{None, Result, Ok, Err, refl, sym, ap, ap₂, ◌∙◌, arith, option_map}
+use Rattle.std.proofs.Common.{slice_get}
 use Rattle.std.proofs.lemmas.List.{length-map}
+use Rattle.std.proofs.lemmas.Option.{slice_get-map}
 use Rattle.std.specs.Map.{keys_of, values_of}
 use Rattle.jsonb_value.specs.declared.error.Error.{Error}
 use Rattle.jsonb_value.specs.Tree.{Tree, text, array, object, Trees, no_trees, tree, Pairs}
@@ -18,7 +20,7 @@ use Rattle.jsonb.specs.Code.{ItemMeans}
 use Rattle.jsonb.specs.Entry.{Code, entry_read}
 use Rattle.jsonb.specs.Item.{item_of}
 use Rattle.jsonb.specs.Building.{AreTexts, key_codes}
-use Rattle.jsonb.specs.StoredEntries.{AreCodesOf, AreMemberEntriesOf}
+use Rattle.jsonb.specs.StoredEntries.{AreCodesOf, AreMemberEntriesOf, entry_item}
 use Rattle.jsonb.specs.Entries.{Run, entries_of, key_run, until_error}
 use Rattle.jsonb.specs.EntryTrees.{view_tree, item_tree, entry_tree, entry_of_part, AreParts}
 use Rattle.jsonb.specs.EntryTrees.{AreKeyEntries, AreMemberEntries, key_read, rest_trees}
@@ -159,3 +161,20 @@ pair_list-pairs_of (m ∷ ms) = cc (pair_list-pairs_of ms)
 pub members_of-object : (t : Tree) (ms : List (List ℕ × Tree)) → object_of ms ≡ t
     → Some ms ≡ members_of t
 members_of-object t ms is = ap Some (sym (pair_list-pairs_of ms)) ∙ ap members_of is
+
+-- The item of the entry at an index, by what was read.
+pub item_entry : (entries : List Code) (read : Entries) (i : ℕ) (o : Option Code)
+    (v : Option ItemView) → read ≡ map Ok entries → slice_get read i ≡ option_map Ok o
+    → option_map entry_item o ≡ option_map Ok v
+    → option_map entry_item (slice_get entries i) ≡ option_map Ok v
+item_entry entries read i o v are at is =
+    let same : option_map Ok (slice_get entries i) ≡ option_map Ok o =
+    sym (slice_get-map Ok entries i) ∙ ap (λ xs. slice_get xs i) (sym are) ∙ at in
+    ap (option_map entry_item) (one_entry (slice_get entries i) o same) ∙ is
+  where
+    one_entry : (a b : Option Code)
+        → option_map {U = Result Code Error} Ok a ≡ option_map Ok b → a ≡ b
+    one_entry (Some x) (Some y) e = cc
+    one_entry (Some x) None e = absurd cc
+    one_entry None (Some y) e = absurd cc
+    one_entry None None e = refl

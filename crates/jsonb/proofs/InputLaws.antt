@@ -18,7 +18,7 @@ use Rattle.std.specs.declared.cmp.Ordering.{Ordering}
 use Rattle.std.specs.declared.cmp.Ordering.TheVariants.{Less, Equal, Greater}
 use Rattle.jsonb.specs.ItemView.{ItemView, raw}
 use Rattle.jsonb.specs.Building.{has_key, with_pair, with_pairs, in_order}
-use Rattle.jsonb.specs.Results.{raw_pairs}
+use Rattle.jsonb.specs.Results.{AreDistinctWith, raw_pairs}
 
 or_left_comm : (a b c : Bool) → a || (b || c) ≡ b || (a || c)
 or_left_comm a b c = rw (← or_assoc a b c, or_comm a b, or_assoc b a c)
@@ -110,13 +110,15 @@ module _ {A : Type 0} (input : A → List ℕ × List ℕ) (builder : List (List
         with_pairs-append [] (map input xs) (input x),
       ) (sym inserted)
 
+  pub distinct_with : (x : A) → has_key builder (input x).0 ≡ false
+      → IsDistinct bytes_eq (keys_of (map input xs)) → AreDistinctWith (map input xs) (input x)
+  distinct_with x new distinct =
+      rw (map-append (λ p. p.0) (map input xs) (input x ∷ []))
+      (IsDistinct-push bytes_equiv (keys_of (map input xs)) (input x).0 distinct
+      (sym (key_there (input x).0) ∙ new))
+
   pub still_distinct : (x : A) → has_key builder (input x).0 ≡ false
       → IsDistinct bytes_eq (keys_of (map input xs))
       → IsDistinct bytes_eq (keys_of (map input (xs ++ x ∷ [])))
   still_distinct x new distinct =
-      rw (
-        map-append input xs (x ∷ []),
-        map-append (λ p. p.0) (map input xs) (input x ∷ []),
-      )
-      (IsDistinct-push bytes_equiv (keys_of (map input xs)) (input x).0 distinct
-      (sym (key_there (input x).0) ∙ new))
+      rw (map-append input xs (x ∷ [])) (distinct_with x new distinct)

@@ -37,3 +37,5 @@ pub mod PutLaws
 pub mod DocumentInputLaws
 pub mod KeyOrderLaws
 pub mod SortLaws
+pub mod GatheringLaws
+pub mod ExampleLaws

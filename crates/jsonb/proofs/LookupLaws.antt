@@ -26,7 +26,7 @@ use Rattle.jsonb.specs.Item.{item_of, item_of_number, item_of_extension}
 use Rattle.jsonb.specs.Building.{key_codes}
 use Rattle.jsonb.proofs.LeafLaws.{code_entries, code_payloads}
 use Rattle.jsonb.specs.StoredEntries.{AreCodesOf, AreMemberEntriesOf, IsObjectOfEntries, find_entry}
-use Rattle.jsonb.specs.StoredEntries.{IsFoundIn}
+use Rattle.jsonb.specs.StoredEntries.{IsEntryAt, IsFoundIn}
 use Rattle.jsonb.specs.Walk.{count_under}
 use Rattle.jsonb.specs.Parts.{length_in, part_length, length_before, part_start}
 use Rattle.jsonb.specs.Parts.{key_of_size, value_entry, IsPassedAt, PassedBefore, IsAccepted}
@@ -495,6 +495,39 @@ module _ (answers : List ℕ → Bool → Type 0) (accepts : List ℕ → Bool) 
       (h.members, (h.stored, rw first h.entry))
   found_stored b t o reads doc h = h.0
 
+  -- The entry that is read, or that there is none, in the document of an object.
+  module _ (b : List ℕ) (n : ℕ) where
+    pub entry_by_entry : (t : Tree) (entry : Code) (reads : ℕ) → Doc b t
+        → Ok (Some n) ≡ count_under b 1073741824 → IsValueFound answers size b n entry reads
+        → IsEntryAt accepts size b t (Some entry)
+    entry_by_entry (object ps) entry reads doc counted h =
+        let known = count_under-Doc b (object ps) 1073741824 doc in
+        let same : n ≡ pair_count ps = cc in
+        let at = numbered b ps (object_payload b ps doc) in
+        let f =
+        value_at answers size b ps at h.pair entry (rw same at h.key) (rw same at h.there) in (
+          at.members,
+          (
+            at.stored,
+            find_entry-first at.members ps h.pair f.value at.stored.mean f.first ∙ f.stored,
+          ),
+        )
+    entry_by_entry t entry reads doc counted h =
+        absurd (let known = count_under-Doc b t 1073741824 doc in cc)
+
+    pub no_entry_by_entries : (t : Tree) (reads : ℕ) → Doc b t
+        → Ok (Some n) ≡ count_under b 1073741824 → IsNoneFound answers size b n reads
+        → IsEntryAt accepts size b t None
+    no_entry_by_entries (object ps) reads doc counted h =
+        let known = count_under-Doc b (object ps) 1073741824 doc in
+        let same : n ≡ pair_count ps = cc in
+        let at = numbered b ps (object_payload b ps doc) in
+        let none = all_passed_over answers size b ps at
+        (subst (λ k. PassedBefore answers size b k k) same h.none) in
+        (at.members, (at.stored, find_entry-none at.members ps at.stored.mean none))
+    no_entry_by_entries t reads doc counted h =
+        absurd (let known = count_under-Doc b t 1073741824 doc in cc)
+
 -- In a document that is no object nothing is found, after the header's word.
 
 -- The entry that a look-up finds, by its result without its error.
@@ -515,6 +548,17 @@ module _ (answers : List ℕ → Bool → Type 0) (size : ℕ) (b : List ℕ) (n
         → FindsEntry answers size b n r reads → ⊥
     by (Ok y) none found = absurd cc
     by (Err e) none found = never e found
+
+pub entry_in : (accepts : List ℕ → Bool) (size : ℕ) (a b : List ℕ) (t : Tree) (found : Option Code)
+    → a ≡ b → IsEntryAt accepts size a t found → IsEntryAt accepts size b t found
+entry_in accepts size a b t found same =
+    subst (λ (x : List ℕ). IsEntryAt accepts size x t found) same
+
+pub no_entry_by_header : (accepts : List ℕ → Bool) (size : ℕ) (b : List ℕ) (t : Tree) → Doc b t
+    → Ok None ≡ count_under b 1073741824 → IsEntryAt accepts size b t None
+no_entry_by_header accepts size b (object ps) doc counted =
+    absurd (let known = count_under-Doc b (object ps) 1073741824 doc in cc)
+no_entry_by_header accepts size b t doc counted = refl
 
 pub none_by_header : (accepts : List ℕ → Bool) (size : ℕ) (b : List ℕ) (t : Tree) → Doc b t
     → Ok None ≡ count_under b 1073741824

@@ -2,7 +2,7 @@
 use Rattle.std.proofs.Common.{inl, inr, ◌+◌, ◌*◌, ◌≤◌}
 use Rattle.std.proofs.Common.{◌≡◌, ◌≢◌, ℕ, Bool, true, false, ◌==◌, ◌&&◌, if◌then◌else◌, List, []}
 use Rattle.std.proofs.Common.{◌∷◌, length, Option, Some, None, option_map, Result, Ok, Err, refl}
-use Rattle.std.proofs.Common.{sym, ap, ◌∙◌, nat_eq, arith}
+use Rattle.std.proofs.Common.{sym, ap, ◌∙◌, nat_eq, arith, map, slice_get}
 use Rattle.std.proofs.lemmas.Bool.{eq-eqb}
 use Rattle.std.proofs.Math.Bool.{and-false}
 use Rattle.std.proofs.lemmas.Bool.Decides.{Decides-eqb, leb_tells}
@@ -31,7 +31,7 @@ use Rattle.jsonb.specs.Lookup.{find, find_pair, IsItemFound}
 use Rattle.jsonb.specs.Node.{IsContainer, array_of, object_of, node_tree, node_view, items_of}
 use Rattle.jsonb.specs.Node.{first_key_of}
 use Rattle.jsonb.specs.StoredEntries.{AreEntriesOf, AreMemberEntriesOf, IsFoundIn, entry_item}
-use Rattle.jsonb.specs.StoredEntries.{find_entry}
+use Rattle.jsonb.specs.StoredEntries.{IsEntryAt, IsItemFoundIn, find_entry}
 use Rattle.jsonb.specs.Entries.{Run, entries_of, item_run, key_run, value_run}
 use Rattle.jsonb.proofs.DocumentWalks.{array_payload, object_payload}
 use Rattle.jsonb.proofs.EntryTreeLaws.{means_trees, means_pairs, array_of-items, object_of-members}
@@ -313,6 +313,19 @@ module _ (accepts : List ℕ → Bool) (size : ℕ) where
       (ms, (stored, ap (option_map entry_item) (sym (by ms are)) ∙ is))
   found_among b t members found o stored by is = absurd stored
 
+  -- What is found is the item of the entry at the key.
+  pub entry_found : (b : List ℕ) (t : Tree) (found : Option Code) (o : Option ItemView)
+      → IsEntryAt accepts size b t found → option_map entry_item found ≡ option_map Ok o
+      → IsFoundIn accepts size b t o
+  entry_found b (object ps) found o (ms, (stored, at)) is =
+      (ms, (stored, ap (option_map entry_item) at ∙ is))
+  entry_found b t found o at is = none_shown found o at is where
+    none_shown : (found : Option Code) (o : Option ItemView) → found ≡ None
+        → option_map entry_item found ≡ option_map Ok o → o ≡ None
+    none_shown None None none is = refl
+    none_shown None (Some x) none is = absurd cc
+    none_shown (Some c) o none is = absurd cc
+
   pub none_in_array : (b : List ℕ) (t : Tree) (items : Entries)
       → AreStoredIn b t (contents.Array items) → IsFoundIn accepts size b t None
   none_in_array b (object ps) items stored = absurd stored
@@ -322,3 +335,19 @@ module _ (accepts : List ℕ → Bool) (size : ℕ) where
       → IsFoundIn accepts size b t None
   none_in_scalar b (object ps) scalar = absurd (scalar refl)
   none_in_scalar b t scalar = refl
+
+-- The entry at an index of an array, by the content of the document.
+pub no_item : (index : ℕ) (b : List ℕ) (t : Tree) → None ≡ items_of t
+    → IsItemFoundIn index b t None
+no_item index b (array ts) none = absurd cc
+no_item index b t none = refl
+
+pub item_among : (index : ℕ) (b : List ℕ) (t : Tree) (items : Entries) (o : Option ItemView)
+    → AreStoredIn b t (contents.Array items)
+    → ((entries : List Code) → items ≡ map Ok entries
+    → option_map entry_item (slice_get entries index) ≡ option_map Ok o)
+    → IsItemFoundIn index b t o
+item_among index b (array ts) items o (entries, (stored, are)) by =
+    (entries, (stored, by entries are))
+item_among index b (object ps) items o stored by = absurd stored
+item_among index b t items o stored by = absurd stored

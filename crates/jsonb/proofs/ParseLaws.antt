@@ -12,18 +12,24 @@ use Rattle.jsonb_value.specs.Tree as trees
 use Rattle.jsonb_value.specs.Tree.{Tree, null, boolean, number, extension, array, object}
 use Rattle.jsonb_value.specs.Tree.{Trees, no_trees, tree, Pairs, no_pairs, pair}
 use Rattle.jsonb_value.specs.declared.parser.number.Exponents.{Exponents}
+use Rattle.jsonb_value.specs.declared.parser.number.Exponents.TheVariants.{Forbidden}
 use Rattle.jsonb_value.specs.Json.Syntax.{JsonText}
 use Rattle.jsonb_value.specs.TextDepth.{text_depth, HasDepthOfSpelled}
+use Rattle.jsonb_value.specs.Plain.{IsPlain}
 use Rattle.jsonb_value.specs.Text.{in_one_line, on_lines}
 use Rattle.jsonb_value.proofs.DepthLaws.{failed, spelled_within}
 use Rattle.jsonb_value.proofs.Json.SpelledLaws.{same_meaning}
+use Rattle.jsonb_value.proofs.KindLaws.{tree_cmp-norm}
 use Rattle.jsonb_value.proofs.NormTexts.{laid_out-norm}
 use Rattle.jsonb_value.specs.WellFormed.{IsTree}
 use Rattle.jsonb_codec.specs.Canon.{canon, Fits}
 use Rattle.jsonb_codec.specs.Depth.{IsDocumentWithin}
 use Rattle.jsonb_codec.specs.Doc.{Doc}
+use Rattle.jsonb_codec.specs.Reread.{MeansAgain}
 use Rattle.jsonb_codec.proofs.CanonLaws.{Doc-canon}
-use Rattle.jsonb.specs.Parsing.{IsParsedUnder, ParsesUnder, ParsesUnderWithin}
+use Rattle.jsonb_codec.proofs.RereadLaws.{reread_text}
+use Rattle.jsonb.specs.Parsing.{GivesEqual, IsParsedUnder, IsReadAgain, IsTextOf, ParsesTo}
+use Rattle.jsonb.specs.Parsing.{ParsesUnder, ParsesUnderWithin}
 use Rattle.jsonb.proofs.TextLaws.{display_text-Doc, pretty_display_text-Doc}
 
 -- a text that gives no document
@@ -119,3 +125,33 @@ document_within rule text bytes t limit nests json doc within =
     let most = spelled_within rule text t limit nests json within in
     let same = norm-depth t in
     (norm t, (omega arith, doc))
+
+-- A printed text is parsed to a document of an Equal tree.
+module _ (text : List ℕ) (t : Tree) (again : MeansAgain (chars text) t) where
+  same_tree : (u : Tree) → JsonText Forbidden (chars text) u → u ≡ again.again
+  same_tree u json = same_meaning Forbidden (chars text) u again.again json again.is_meant
+
+  gives_equal : (r : Result (List ℕ) Error) → ParsesTo text r → GivesEqual t r
+  gives_equal (Ok bytes) (u, (json, (fits, same))) = rw (same, same_tree u json) (
+    norm again.again,
+    (
+      Doc-canon again.again again.is_tree again.fits,
+      tree_cmp-norm again.again t ∙ again.is_equal,
+    ),
+  )
+  gives_equal (Err InvalidJson) none = absurd (none again.again again.is_meant)
+  gives_equal (Err InvalidJsonb) (u, (json, past)) =
+      absurd (past (rw (same_tree u json) again.fits))
+  gives_equal (Err OutOfMemory) none = refl
+  gives_equal (Err e) none = absurd none
+
+text_again : (t : Tree) (text : List ℕ) → IsTree t → IsPlain t → Fits t → IsTextOf t text
+    → MeansAgain (chars text) t
+text_again t text is plain fits (inl same) = rw same (reread_text in_one_line t is plain fits)
+text_again t text is plain fits (inr same) = rw same (reread_text (on_lines 0) t is plain fits)
+
+pub read_again : (t : Tree) (text : List ℕ) (r : Result (List ℕ) Error) → ParsesTo text r
+    → IsTree t → IsPlain t → Fits t → IsTextOf t text → IsReadAgain t text r
+read_again t text r parses is plain fits printed =
+    let again = text_again t text is plain fits printed in
+    record { means = again; gives = gives_equal text t again r parses }

@@ -6,8 +6,7 @@ use Rattle.std.proofs.Common.{zero, suc, pos, negsuc}
 use Rattle.jsonb_value.specs.declared.number.Number.{Number}
 use Rattle.jsonb_value.specs.declared.number.Number.TheVariants.{Int64, UInt64, Decimal64}
 use Rattle.jsonb_value.specs.declared.number.Number.TheVariants.{Decimal128}
-use Rattle.jsonb_value.specs.Tree.{Tree, Trees, no_trees, tree, array, Pairs, no_pairs, pair}
-use Rattle.jsonb_value.specs.Tree.{object}
+use Rattle.jsonb_value.specs.Tree.{Tree, Trees, no_trees, tree, Pairs, no_pairs, pair}
 use Rattle.jsonb_value.specs.Tree as trees
 use Rattle.jsonb_value.specs.Norm.{norm_number, norm, norms, norm_pairs}
 use Rattle.jsonb_value.proofs.PayloadLaws.{NumCode-number_payload, ExtCode-extension_payload}

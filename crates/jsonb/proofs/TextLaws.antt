@@ -4,13 +4,12 @@ use Rattle.std.proofs.Common.{arith, String, string_bytes, ◌++◌}
 use Rattle.std.specs.declared.fmt.Formatter.{Formatter}
 use Rattle.std.specs.declared.alloc.Global.{Global}
 use Rattle.std.specs.declared.fmt.Error as fmt
-use Rattle.std.specs.Prelude.{IsOk, IfOk, OnOk, All, chars, ◌≢◌, ◌≤◌}
+use Rattle.std.specs.Prelude.{IsOk, IfOk, OnOk, All, ◌≢◌, ◌≤◌}
 use Rattle.jsonb_value.specs.declared.error.Error.{Error}
 use Rattle.std.specs.Fmt.{HasWrittenStyled, formatter_writer}
 use Rattle.jsonb_value.specs.Tree.{Tree}
 use Rattle.jsonb_value.specs.Text.{compact, pretty}
 use Rattle.jsonb_value.proofs.Writing.{string_bytes-written}
-use Rattle.jsonb_codec.specs.Reread.{MeansAgain}
 use Rattle.jsonb_codec.specs.Doc.{Doc, IsDocument}
 use Rattle.jsonb_codec.proofs.ZeroLaws.{Doc-least}
 use Rattle.bstr.proofs.lemmas.EncodeLemmas.{lossy_chars-utf8}
@@ -54,13 +53,6 @@ string_written empty f g bs answer (Err e) all none start on is = tt
 pub prints_as : (r : Result (String Global) Error) (a b : List ℕ)
     → IfOk r (λ text. string_bytes text ≡ a) → a ≡ b → IfOk r (λ text. string_bytes text ≡ b)
 prints_as r a b h same = rw same at h
-
--- a text that is read back
-pub reads_again : (r : Result (String Global) Error) (a : List ℕ) (t : Tree)
-    → IfOk r (λ text. string_bytes text ≡ a) → MeansAgain (chars a) t
-    → IfOk r (λ text. MeansAgain (chars (string_bytes text)) t)
-reads_again (Ok text) a t h again = rw h again
-reads_again (Err e) a t h again = tt
 
 -- a text that is not a document
 pub other_text-short : (b : List ℕ) → IsUtf8 b → (b ≡ [] → ⊥) → other_text b ≡ b

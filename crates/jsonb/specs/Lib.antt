@@ -19,6 +19,7 @@ pub mod Storage
 pub mod Building
 pub mod StoredEntries
 pub mod Children
+pub mod Gathering
 pub mod Results
 pub mod ItemMeaning
 pub mod Values
@@ -34,4 +35,5 @@ pub mod Contents
 pub mod Within
 pub mod SortKey
 pub mod KeyOrder
+pub mod Examples
 pub mod Words

@@ -1,5 +1,6 @@
 -- What parsing a JSON text returns.
-use Rattle.std.specs.Prelude.{◌≡◌, ◌<◌, ◌≤◌, ℕ, List, chars, Result, Ok, Err, ⊤}
+use Rattle.std.specs.Prelude.{◌≡◌, ◌⊎◌, ◌<◌, ◌≤◌, ℕ, List, chars, Result, Ok, Err, ⊤}
+use Rattle.std.specs.declared.cmp.Ordering.TheVariants.{Equal}
 use Rattle.jsonb_value.specs.declared.error.Error.{Error}
 use Rattle.jsonb_value.specs.declared.error.Error.TheVariants.{InvalidJson, InvalidJsonb}
 use Rattle.jsonb_value.specs.declared.error.Error.TheVariants.{OutOfMemory}
@@ -12,8 +13,10 @@ use Rattle.jsonb_value.specs.Norm.{norm}
 use Rattle.jsonb_value.specs.Text.{compact, pretty}
 use Rattle.jsonb_value.specs.TextDepth.{text_depth}
 use Rattle.jsonb_value.specs.Tree.{Tree}
+use Rattle.jsonb_value.specs.TreeOrder.{tree_cmp}
 use Rattle.jsonb_codec.specs.Canon.{canon, Fits}
 use Rattle.jsonb_codec.specs.Doc.{Doc}
+use Rattle.jsonb_codec.specs.Reread.{MeansAgain}
 use Rattle.jsonb.specs.Texts.{display_text, pretty_display_text}
 
 -- The result of parsing a text under a rule for exponents: the canonical document of its tree, or
@@ -66,3 +69,17 @@ IsParsed = IsParsedUnder Forbidden
 -- The same with or without exponents.
 abbrev pub IsParsedWithExponents : List ℕ → List ℕ → Type 0
 IsParsedWithExponents = IsParsedUnder Allowed
+
+-- The text is one of the two that the tree prints as.
+abbrev pub IsTextOf : Tree → List ℕ → Type 0
+IsTextOf t text = (text ≡ compact t) ⊎ (text ≡ pretty t)
+
+-- The result is a document whose tree is Equal to t; memory alone may be wanting.
+abbrev pub GivesEqual : Tree → Result (List ℕ) Error → Type 0
+GivesEqual t (Ok bytes) = (u : Tree) × (Doc bytes u × (tree_cmp u t ≡ Equal))
+GivesEqual t (Err e) = e ≡ OutOfMemory
+
+-- The text means a fitting tree that is Equal to t, and is parsed to a document of such a tree.
+pub record IsReadAgain (t : Tree) (text : List ℕ) (result : Result (List ℕ) Error) : Type 0 where
+  pub means : MeansAgain (chars text) t
+  pub gives : GivesEqual t result

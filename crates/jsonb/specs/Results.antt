@@ -1,5 +1,5 @@
 -- The trees of built documents, given the trees of their parts.
-use Rattle.std.specs.Prelude.{◌≡◌, ◌<◌, ◌^◌, List, [], ◌∷◌, ℕ, Option, Some, length, map}
+use Rattle.std.specs.Prelude.{◌≡◌, ◌<◌, ◌^◌, List, [], ◌∷◌, ◌++◌, ℕ, Option, Some, length, map}
 use Rattle.std.specs.Iterator.{Drains, YieldsThen}
 use Rattle.std.specs.Borrow.{Bor}
 use Rattle.std.specs.List.{AllByRecursion, IsDistinct}
@@ -101,6 +101,10 @@ pub record IsObjectOfInputs (inputs : List (List ℕ × List ℕ)) (bytes : List
 pub record MakeNoObject (inputs : List (List ℕ × List ℕ)) : Type 0 where
   pub distinct : IsDistinct bytes_eq (keys_of inputs)
   pub none : FitObject (raw_pairs (in_order inputs)) → ⊥
+
+-- The keys of all these pairs and of one more are distinct.
+abbrev pub AreDistinctWith : List (List ℕ × List ℕ) → List ℕ × List ℕ → Type 0
+AreDistinctWith pairs x = IsDistinct bytes_eq (keys_of (pairs ++ x ∷ []))
 
 -- The trees of documents, in order.
 abbrev pub trees_in : List (List ℕ) → Trees

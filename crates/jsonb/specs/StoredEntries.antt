@@ -1,9 +1,10 @@
 -- The entries in the document of an array or an object, and their items.
 use Rattle.std.specs.Prelude.{◌≡◌, ◌<◌, ◌^◌, ◌==◌, ◌&&◌, ℕ, Bool, List, [], ◌∷◌, length, Option}
-use Rattle.std.specs.Prelude.{None, map, option_map, Result, Ok}
+use Rattle.std.specs.Prelude.{None, map, option_map, slice_get, Result, Ok}
 use Rattle.std.specs.Map.{keys_of, values_of, lookup}
 use Rattle.jsonb_value.specs.declared.error.Error.{Error}
-use Rattle.jsonb_value.specs.Tree.{Tree, object, Trees, no_trees, tree, Pairs, no_pairs, pair}
+use Rattle.jsonb_value.specs.Tree.{Tree, array, object, Trees, no_trees, tree, Pairs, no_pairs}
+use Rattle.jsonb_value.specs.Tree.{pair}
 use Rattle.jsonb_codec.specs.Parts.{IsPayloadOf}
 use Rattle.jsonb.specs.Steps.{◌>>=◌}
 use Rattle.jsonb.specs.ItemView.{ItemView}
@@ -61,6 +62,14 @@ member_item member = entry_item member.1 >>= λ x. Ok (member.0, x)
 abbrev pub find_entry : (List ℕ → Bool) → ℕ → List (List ℕ × Code) → Option Code
 find_entry accepts size members = lookup (λ key. (length key == size) && accepts key) members
 
+-- The entry is that of the value at the first accepted key in the document b of the tree; none if
+-- no key is accepted.
+abbrev pub IsEntryAt : (List ℕ → Bool) → ℕ → List ℕ → Tree → Option Code → Type 0
+IsEntryAt accepts size b (object ps) found =
+    (members : List (List ℕ × Code))
+    × (IsObjectOfEntries b ps members × (find_entry accepts size members ≡ found))
+IsEntryAt accepts size b t found = found ≡ None
+
 -- What is found in the document b of the tree is the item of the entry at the first accepted key;
 -- nothing if there is none.
 abbrev pub IsFoundIn : (List ℕ → Bool) → ℕ → List ℕ → Tree → Option ItemView → Type 0
@@ -69,3 +78,12 @@ IsFoundIn accepts size b (object ps) found =
     × (IsObjectOfEntries b ps members
     × (option_map entry_item (find_entry accepts size members) ≡ option_map Ok found))
 IsFoundIn accepts size b t found = found ≡ None
+
+-- What is found in the document b of the tree is the item of the entry at the index; nothing if
+-- there is none.
+abbrev pub IsItemFoundIn : ℕ → List ℕ → Tree → Option ItemView → Type 0
+IsItemFoundIn index b (array ts) found =
+    (entries : List Code)
+    × (IsArrayOfEntries b ts entries
+    × (option_map entry_item (slice_get entries index) ≡ option_map Ok found))
+IsItemFoundIn index b t found = found ≡ None

@@ -43,7 +43,7 @@ pub use Rattle.jsonb_codec.specs.declared.constants.TheConstants.{CONTAINER_TAG,
 pub use Rattle.jsonb_codec.specs.declared.constants.TheConstants.{NUMBER_TAG}
 pub use Rattle.jsonb_codec.specs.declared.constants.TheConstants.{OBJECT_CONTAINER_TAG}
 pub use Rattle.jsonb.specs.Building.{AreKeys, FitArray, FitObject, IsArrayOf, IsObjectOf, has_key}
-pub use Rattle.jsonb.specs.Building.{with_pair}
+pub use Rattle.jsonb.specs.Building.{in_order, with_pair}
 pub use Rattle.jsonb.specs.Canonical.{RewritesTo}
 pub use Rattle.jsonb.specs.Children.{AreShown, AreShownAt, HasSameEntry, ItemPairs, pairs_by}
 pub use Rattle.jsonb.specs.Children.{raw_view}
@@ -80,15 +80,15 @@ pub use Rattle.jsonb.specs.Results.{AllMean, AllMeanAt, AreWithinLimits, IsArray
 pub use Rattle.jsonb.specs.Results.{IsArrayOfInputs, IsArrayUpToZeros, IsObjectOfDocuments}
 pub use Rattle.jsonb.specs.Results.{IsObjectOfInputs, IsObjectUpToZeros, MakeNoObject}
 pub use Rattle.jsonb.specs.Results.{PairsExceedLimits, TakesAll, TakesUpTo, document_pair}
-pub use Rattle.jsonb.specs.Results.{input_pair}
+pub use Rattle.jsonb.specs.Results.{AreDistinctWith, PairsAreWithinLimits, input_pair, raw_pairs}
 pub use Rattle.jsonb.specs.SortKey.{key_meaning}
-pub use Rattle.jsonb.specs.StoredEntries.{IsFoundIn, entry_item}
+pub use Rattle.jsonb.specs.StoredEntries.{IsEntryAt, IsFoundIn, IsItemFoundIn, entry_item}
 pub use Rattle.jsonb.specs.Storage.{IsHeld, IsStored, document_code, pair_of, stored_code}
 pub use Rattle.jsonb.specs.Tally.{CountsOneLess, CountsOneMore, Lists, SetsCount, Tally, count_at}
 pub use Rattle.jsonb.specs.Tally.{count_of, has_equal, list_with}
 pub use Rattle.jsonb.specs.Parsing.{IsParsed, IsParsedUnder, IsParsedWithExponents, ParsesTo}
 pub use Rattle.jsonb.specs.Parsing.{ParsesUnder, ParsesUnderWithin, ParsesWithExponentsTo}
-pub use Rattle.jsonb.specs.Parsing.{ParsesWithExponentsWithin, ParsesWithin}
+pub use Rattle.jsonb.specs.Parsing.{ParsesWithExponentsWithin, ParsesWithin, IsReadAgain, IsTextOf}
 pub use Rattle.jsonb.specs.Texts.{display_text, layout_of, lossy_text, other_text}
 pub use Rattle.jsonb.specs.Texts.{pretty_display_text}
 pub use Rattle.jsonb.specs.Values.{bytes_in}

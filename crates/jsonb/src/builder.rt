@@ -1,6 +1,7 @@
 //! Building arrays and objects from items.
 
 mod distinct;
+mod gathered;
 mod write;
 
 ghost use Rattle.std.specs.Prelude.{◌≡◌, ◌↔◌, ◌⊎◌, List, [], ◌∷◌, ◌++◌, ℕ, map, Err, IsTrue, IfOk};
@@ -13,6 +14,7 @@ ghost use Rattle.jsonb.specs.Words.{IsArrayUpToZeros, IsObjectUpToZeros, IsArray
 ghost use Rattle.jsonb.specs.Words.{IsObjectOfInputs, MakeNoObject, input_pair, TakesUpTo};
 ghost use Rattle.jsonb.specs.Words.{IsArrayOfDocuments, IsObjectOfDocuments, AreWithinLimits};
 ghost use Rattle.jsonb.specs.Words.{PairsExceedLimits, document_pair, document_bytes, MadeIfFit};
+ghost use Rattle.jsonb.specs.Words.{AreDistinctWith, PairsAreWithinLimits, in_order, raw_pairs};
 
 use crate::code::document_part;
 use crate::document::Document;
@@ -20,6 +22,7 @@ use crate::item::JsonbItem;
 use crate::owned::OwnedJsonb;
 use crate::raw::RawJsonb;
 pub use distinct::ArrayDistinctBuilder;
+use gathered::Gathered;
 use jsonb_value::Error;
 use std::alloc::Global;
 use std::collections::BTreeMap;
@@ -204,8 +207,8 @@ impl<'a> ObjectBuilder<'a> {
 impl OwnedJsonb {
     /// The array of these documents, in the order of the iterator, which must end. A scalar is
     /// stored as its entry and payload, an array or object whole. `InvalidJsonb` if an input is not
-    /// a document, a payload exceeds 268,435,455 bytes, or there are more than 536,870,911 inputs;
-    /// `OutOfMemory` if an allocation fails.
+    /// a document, a payload exceeds 268,435,455 bytes, or there are more than 536,870,911 inputs,
+    /// also where memory was refused before; otherwise `OutOfMemory` if an allocation fails.
     pub fn build_array<'a, I: IntoIterator<Item = RawJsonb<'a>>>(
         alloc: Global,
         inputs: I,
@@ -219,20 +222,23 @@ impl OwnedJsonb {
         ensures past { result ≡ Err Error.InvalidJsonb
             → TakesAll I.into_iter_gives I.IntoIter.next_gives inputs
             (λ xs. FitArray (map (λ x. items.raw (raw_bytes x)) xs) → ⊥) }
+        ensures limits { TakesAll I.into_iter_gives I.IntoIter.next_gives inputs
+            (λ xs. MadeIfFit (FitArray (map (λ x. items.raw (raw_bytes x)) xs)) result) }
         ensures only { IfErr result (λ e. (e ≡ Error.InvalidJsonb) ⊎ (e ≡ Error.OutOfMemory)) }
     {
-        let mut documents = Vec::new(alloc);
+        let mut documents = Gathered::new(alloc);
         for input in inputs {
-            documents.push(document_part(input))?;
+            documents.push(document_part(input));
         }
-        array_document(alloc, &documents)
+        documents.build()
     }
 
     /// The object of these documents at their keys, in ascending byte order of the keys. The
     /// iterator must end. A scalar is stored as its entry and payload, an array or object whole.
     /// `ObjectDuplicateKey` at the first key that occurred before; otherwise `InvalidJsonb` if an
     /// input is not a document, a key or a payload exceeds 268,435,455 bytes, or there are more
-    /// than 536,870,911 inputs; `OutOfMemory` if an allocation fails.
+    /// than 536,870,911 inputs; `OutOfMemory` if an allocation fails. A repeated key is found by
+    /// keeping all keys, so where memory for one is refused, no later input is looked at.
     pub fn build_object<'a, I: IntoIterator<Item = (&'a str, RawJsonb<'a>)>>(
         alloc: Global,
         inputs: I,
@@ -249,6 +255,13 @@ impl OwnedJsonb {
         ensures duplicate { result ≡ Err Error.ObjectDuplicateKey
             → TakesUpTo I.into_iter_gives I.IntoIter.next_gives inputs
             (λ xs x. IsTrue (has_key (map input_pair xs) x.0.now)) }
+
+        // An object can be built, or no key up to the one at which memory was refused is repeated.
+        ensures memory { result ≡ Err Error.OutOfMemory
+            → TakesAll I.into_iter_gives I.IntoIter.next_gives inputs
+            (λ xs. FitObject (raw_pairs (in_order (map input_pair xs))))
+            ⊎ TakesUpTo I.into_iter_gives I.IntoIter.next_gives inputs
+            (λ xs x. AreDistinctWith (map input_pair xs) (input_pair x)) }
         ensures only { IfErr result (λ e. (e ≡ Error.InvalidJsonb)
             ⊎ ((e ≡ Error.ObjectDuplicateKey) ⊎ (e ≡ Error.OutOfMemory))) }
     {
@@ -264,7 +277,8 @@ impl OwnedJsonb {
 
     /// The array of these checked documents, like `build_array` of their bytes, but none is checked
     /// again. The iterator must end. `InvalidJsonb` if a payload exceeds 268,435,455 bytes, or
-    /// there are more than 536,870,911 documents; `OutOfMemory` if an allocation fails.
+    /// there are more than 536,870,911 documents, also where memory was refused before; otherwise
+    /// `OutOfMemory` if an allocation fails.
     pub fn build_array_of_documents<'a, I: IntoIterator<Item = Document<'a>>>(
         alloc: Global,
         inputs: I,
@@ -278,13 +292,15 @@ impl OwnedJsonb {
         ensures past { result ≡ Err Error.InvalidJsonb
             → TakesAll I.into_iter_gives I.IntoIter.next_gives inputs
             (λ ds. AreWithinLimits (map document_bytes ds) → ⊥) }
+        ensures limits { TakesAll I.into_iter_gives I.IntoIter.next_gives inputs
+            (λ ds. MadeIfFit (AreWithinLimits (map document_bytes ds)) result) }
         ensures only { IfErr result (λ e. (e ≡ Error.InvalidJsonb) ⊎ (e ≡ Error.OutOfMemory)) }
     {
-        let mut documents = Vec::new(alloc);
+        let mut documents = Gathered::new(alloc);
         for document in inputs {
-            documents.push(document)?;
+            documents.push(document);
         }
-        array_document(alloc, &documents)
+        documents.build()
     }
 
     /// The object of these checked documents at their keys, like `build_object` of their bytes, but
@@ -307,6 +323,13 @@ impl OwnedJsonb {
         ensures duplicate { result ≡ Err Error.ObjectDuplicateKey
             → TakesUpTo I.into_iter_gives I.IntoIter.next_gives inputs
             (λ xs x. IsTrue (has_key (map document_pair xs) x.0.now)) }
+
+        // An object can be built, or no key up to the one at which memory was refused is repeated.
+        ensures memory { result ≡ Err Error.OutOfMemory
+            → TakesAll I.into_iter_gives I.IntoIter.next_gives inputs
+            (λ xs. PairsAreWithinLimits (in_order (map document_pair xs)))
+            ⊎ TakesUpTo I.into_iter_gives I.IntoIter.next_gives inputs
+            (λ xs x. AreDistinctWith (map document_pair xs) (document_pair x)) }
         ensures only { IfErr result (λ e. (e ≡ Error.InvalidJsonb)
             ⊎ ((e ≡ Error.ObjectDuplicateKey) ⊎ (e ≡ Error.OutOfMemory))) }
     {

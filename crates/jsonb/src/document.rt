@@ -47,7 +47,8 @@ impl<'a> Document<'a> {
     ghost use Rattle.jsonb.specs.Words.{node_tree, value_of_key, words_for_key};
     ghost use Rattle.jsonb.specs.Words.{items_of, item_at_index, members_of, first_key_of};
     ghost use Rattle.jsonb.specs.Words.{IsContainer, HoldsNoScalar, owned_bytes, raw_bytes};
-    ghost use Rattle.jsonb.specs.Words.{length_64, header_at};
+    ghost use Rattle.jsonb.specs.Words.{length_64, header_at, IsEntryAt, IsItemFoundIn};
+    ghost use Rattle.jsonb.specs.EntryTrees.{entry_of_part};
     ghost use Rattle.jsonb_codec.specs.declared.constants.TheConstants.{ARRAY_CONTAINER_TAG};
     ghost use Rattle.jsonb_codec.specs.declared.constants.TheConstants.{OBJECT_CONTAINER_TAG};
 
@@ -220,6 +221,16 @@ impl<'a> Document<'a> {
     pub fn items(&self) -> Option<Items<'a>>
         ensures { option_map rest_trees result ≡ items_of (document_tree self.now) }
     {
+        self.stored_items()
+    }
+
+    // The same, by the entries that are stored.
+    #[inline(always)]
+    fn stored_items(&self) -> Option<Items<'a>>
+        ensures tree { option_map rest_trees result ≡ items_of (document_tree self.now) }
+        ensures entries { IfSome result (λ items. AreStoredIn (document_bytes self.now)
+            (document_tree self.now) (Contents.Array items)) }
+    {
         match self.header() {
             (ARRAY_CONTAINER_TAG, count) => Some(self.items_of(count)),
             _ => None,
@@ -255,9 +266,22 @@ impl<'a> Document<'a> {
     /// The item of an array at an index, counted from 0. `None` if the index is not below the
     /// number of items, or the document is not an array.
     pub fn index(&self, index: usize) -> Option<Node<'a>>
-        ensures { option_map node_tree result ≡ item_at_index index (document_tree self.now) }
+        // It has the type and payload of the item's entry.
+        ensures { (option_map node_tree result ≡ item_at_index index (document_tree self.now))
+            × IsItemFoundIn index (document_bytes self.now) (document_tree self.now)
+            (option_map node_view result) }
     {
-        self.items()?.item_at(index)
+        self.stored_item(index)
+    }
+
+    // The same, in two clauses.
+    #[inline(always)]
+    fn stored_item(&self, index: usize) -> Option<Node<'a>>
+        ensures value { option_map node_tree result ≡ item_at_index index (document_tree self.now) }
+        ensures entry { IsItemFoundIn index (document_bytes self.now) (document_tree self.now)
+            (option_map node_view result) }
+    {
+        self.stored_items()?.item_at(index)
     }
 
     /// The value of a key. `None` if there is no such key, or the document is not an object.
@@ -285,6 +309,10 @@ impl<'a> Document<'a> {
             ≡ value_of_key name.now (document_tree self.now) }
         ensures cost { reads.new ≡ reads.old + words_for_key name.now (document_tree self.now) }
         ensures bound { reads.new ≤ reads.old + (2 * pair_count_in (document_tree self.now) + 1) }
+
+        // It has the type and payload of the key's entry.
+        ensures entry { IsFoundIn (pointwise nat_eq name.now) (length name.now)
+            (document_bytes self.now) (document_tree self.now) (option_map node_view result) }
     {
         let part = self.find_counted(name, reads)?;
         Some(Node::of_part(part))
@@ -293,9 +321,8 @@ impl<'a> Document<'a> {
     // The same, as the part that the value is. On a document `ok` drops no error.
     fn find_counted(&self, name: &str, reads: &mut Reads) -> Option<Part<'a>>
         requires { reads.old ≤ MAX_READS }
-        ensures found { MatchOption result (value_of_key name.now (document_tree self.now) ≡ None)
-            (λ part. (t : Tree)
-            × ((value_of_key name.now (document_tree self.now) ≡ Some t) × PartMeans part t)) }
+        ensures entry { IsEntryAt (pointwise nat_eq name.now) (length name.now)
+            (document_bytes self.now) (document_tree self.now) (option_map entry_of_part result) }
         ensures cost { reads.new ≡ reads.old + words_for_key name.now (document_tree self.now) }
         ensures bound { reads.new ≤ reads.old + (2 * pair_count_in (document_tree self.now) + 1) }
     {

@@ -6,6 +6,7 @@ mod builder;
 mod code;
 mod document;
 mod entries;
+mod examples;
 mod extension_item;
 mod item;
 mod item_type;

@@ -1,7 +1,7 @@
 //! The children of a document's arrays and objects, one by one.
 
 ghost use Rattle.std.specs.Prelude.{◌≡◌, ℕ, List, length, nat_eq, Result, IfSome, slice_get};
-ghost use Rattle.std.specs.Prelude.{option_map};
+ghost use Rattle.std.specs.Prelude.{Ok, map, option_map};
 ghost use Rattle.std.specs.Cmp.Lexicographic.{pointwise};
 ghost use Rattle.std.specs.Iterator.{YieldsFirstBy, MakesProgress, item_count};
 ghost use Rattle.jsonb_value.specs.declared.error.Error.{Error};
@@ -10,8 +10,8 @@ ghost use Rattle.jsonb.specs.Entry.{Code};
 ghost use Rattle.jsonb.specs.EntryTrees.{AreParts, AreMemberEntries, rest_trees, rest_pairs};
 ghost use Rattle.jsonb.specs.EntryTrees.{part_tree};
 ghost use Rattle.jsonb.specs.EntryTrees.{member_part_tree, entry_of_part};
-ghost use Rattle.jsonb.specs.StoredEntries.{AreEntriesOf, find_entry};
-ghost use Rattle.jsonb.specs.Node.{node_tree, member_tree, HoldsNoScalar};
+ghost use Rattle.jsonb.specs.StoredEntries.{AreEntriesOf, entry_item, find_entry};
+ghost use Rattle.jsonb.specs.Node.{node_tree, node_view, member_tree, HoldsNoScalar};
 
 use crate::entries::Cursor;
 use crate::node::Node;
@@ -59,7 +59,10 @@ impl<'a> Items<'a> {
     // The item at an index among those left, counted from 0. `None` if the index is not below their
     // number.
     pub(crate) fn item_at(self, index: usize) -> Option<Node<'a>>
-        ensures { option_map node_tree result ≡ slice_get (rest_trees self.entry) index }
+        ensures tree { option_map node_tree result ≡ slice_get (rest_trees self.entry) index }
+        ensures entry { (entries : List Code) → self.entry ≡ map Ok entries
+            → option_map entry_item (slice_get entries index)
+            ≡ option_map Ok (option_map node_view result) }
     {
         let Items { mut entries } = self;
         for _ in 0..index {

@@ -29,7 +29,8 @@ impl OwnedJsonb {
     ghost use Rattle.jsonb.specs.Words.{ParsesWithExponentsTo, ParsesWithExponentsWithin};
     ghost use Rattle.jsonb.specs.Words.{result_bytes};
     ghost use Rattle.jsonb.specs.Words.{IsDocumentWithin, IsDocument, raw_bytes, item_document};
-    ghost use Rattle.jsonb.specs.Words.{CanBeStored, document_bytes, item_view};
+    ghost use Rattle.jsonb.specs.Words.{CanBeStored, document_bytes, item_view, IsTree, IsPlain};
+    ghost use Rattle.jsonb.specs.Words.{Fits, IsReadAgain, IsTextOf};
 
     /// Takes these bytes, unchecked.
     pub fn new(bytes: Vec<u8>) -> Self
@@ -126,11 +127,14 @@ impl OwnedJsonb {
     /// Parses a JSON text into the canonical document of its value; no text has two values.
     /// `InvalidJson` if the text is not accepted by `parse_value`, `InvalidJsonb` if a payload, a
     /// key or a count of its value exceeds its limit, `OutOfMemory` if an allocation fails. No
-    /// stack is taken for the depth of the text.
+    /// stack is taken for the depth of the text. The text that a document without extension values
+    /// prints as is read back as an equal document.
     pub fn parse(alloc: Global, text: &str) -> Result<OwnedJsonb, Error>
         ensures value { ParsesTo text.now (result_bytes result) }
         ensures parsed { IfOk result (λ owned. IsParsed text.now (owned_bytes owned)) }
         ensures one { (t u : Tree) → Json (chars text.now) t → Json (chars text.now) u → t ≡ u }
+        ensures read_again { (t : Tree) → IsTree t → IsPlain t → Fits t → IsTextOf t text.now
+            → IsReadAgain t text.now (result_bytes result) }
     {
         OwnedJsonb::parse_under(alloc, text, Exponents::Forbidden)
     }

@@ -5,7 +5,7 @@ use crate::item::{JsonbItem, item_of_entry};
 use crate::item_type::{JsonbItemType, kind_of};
 use crate::lookup::{FoundValue, MAX_READS, Reads, count_pairs, find_value};
 use crate::owned::OwnedJsonb;
-use crate::text::{finish_text, write_pretty, write_view};
+use crate::text::{finish_text, text_for, write_pretty, write_view};
 use jsonb_codec::layer::append_canonical;
 use jsonb_codec::value_of;
 use jsonb_value::{Error, Value};
@@ -284,17 +284,19 @@ impl<'a> RawJsonb<'a> {
             → IfOk result (λ text. string_bytes text ≡ compact t) }
         ensures other { (IsDocument (raw_bytes self.now) → ⊥)
             → IfOk result (λ text. string_bytes text ≡ other_text (raw_bytes self.now)) }
-        ensures read_again { (t : Tree) → Doc (raw_bytes self.now) t → IsPlain t → Fits t
-            → IfOk result (λ text. MeansAgain (chars (string_bytes text)) t) }
         ensures short_text { IsUtf8 (raw_bytes self.now) → All (λ b. b ≢ 0) (raw_bytes self.now)
             → raw_bytes self.now ≢ [] → length (raw_bytes self.now) ≤ 4294967296
             → IfOk result (λ text. string_bytes text ≡ raw_bytes self.now) }
         ensures memory { IfErr result (λ e. e ≡ Error.OutOfMemory) }
+
+        // The text of a document can be parsed again, whatever is returned here.
+        ensures read_again { (t : Tree) → Doc (raw_bytes self.now) t → IsPlain t → Fits t
+            → MeansAgain (chars (compact t)) t }
     {
-        // The text is usually about as long as the bytes.
-        let text = String::with_capacity(alloc, self.len())?;
+        let bytes = self.as_bytes();
+        let text = text_for(alloc, bytes)?;
         let mut f = fmt::Formatter::new(text);
-        let answer = write_view(self.as_bytes(), &mut f);
+        let answer = write_view(bytes, &mut f);
         finish_text(answer, f)
     }
 
@@ -309,9 +311,11 @@ impl<'a> RawJsonb<'a> {
             → IfOk result (λ text. string_bytes text ≡ pretty t) }
         ensures other { (IsDocument (raw_bytes self.now) → ⊥)
             → IfOk result (λ text. string_bytes text ≡ codes "null") }
-        ensures read_again { (t : Tree) → Doc (raw_bytes self.now) t → IsPlain t → Fits t
-            → IfOk result (λ text. MeansAgain (chars (string_bytes text)) t) }
         ensures memory { IfErr result (λ e. e ≡ Error.OutOfMemory) }
+
+        // The text of a document can be parsed again, whatever is returned here.
+        ensures read_again { (t : Tree) → Doc (raw_bytes self.now) t → IsPlain t → Fits t
+            → MeansAgain (chars (pretty t)) t }
     {
         let mut f = fmt::Formatter::new(String::new(alloc));
         let answer = write_pretty(self.as_bytes(), &mut f);

@@ -1,6 +1,7 @@
 //! Writing the texts of documents directly from their bytes.
 
 ghost use Rattle.std.specs.Prelude.{◌≡◌, ◌++◌, ◌^◌, ◌<◌, ℕ, string_bytes, IsOk, IfOk, IfErr, OnOk};
+ghost use Rattle.std.specs.Prelude.{[]};
 ghost use Rattle.jsonb.specs.Words.{WritesStyledOnOk, formatter_writer, Tree, norm, IsTree, pretty};
 ghost use Rattle.jsonb.specs.Words.{extension_of, compact, inside, line_start, colon_text};
 ghost use Rattle.jsonb.specs.Words.{laid_out, next_key, in_one_line};
@@ -26,6 +27,17 @@ pub fn text_laws()
     ensures compact { (t : Tree) → compact (norm t) ≡ compact t }
     ensures pretty { (t : Tree) → pretty (norm t) ≡ pretty t }
 {}
+
+/// A string without text, with room for about the text of the bytes. `OutOfMemory` is the only
+/// error.
+pub fn text_for(alloc: Global, bytes: &[u8]) -> Result<String, Error>
+    ensures empty { IfOk result (λ text. string_bytes text ≡ []) }
+    ensures tree { (t : Tree) → Doc bytes.now t → IsTree t }
+    ensures memory { IfErr result (λ e. e ≡ Error.OutOfMemory) }
+{
+    // The text is usually about as long as the bytes.
+    Ok(String::with_capacity(alloc, bytes.len())?)
+}
 
 /// The text that was written. Writing to a `String` fails only for lack of memory, so a failed
 /// write is `OutOfMemory`.

@@ -10,4 +10,6 @@ invariant-loop l = record {
   few : l.counter ≤ l.fn.index;
   same : slice_get (rest_trees l.fn.self) l.fn.index
       ≡ slice_get (rest_trees (entries_of l.entries)) (l.fn.index - l.counter);
+  read : slice_get l.fn.self l.fn.index
+      ≡ slice_get (entries_of l.entries) (l.fn.index - l.counter);
 }

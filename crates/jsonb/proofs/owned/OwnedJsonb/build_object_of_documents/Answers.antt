@@ -1,5 +1,5 @@
 use Rattle.std.proofs.Common.{◌≡◌, ◌∙◌, sym, refl, ℕ, List, Bor, map, IsTrue, true, false}
-use Rattle.std.proofs.Common.{rules}
+use Rattle.std.proofs.Common.{rules, inl, inr}
 use Rattle.std.specs.List.{IsDistinct}
 use Rattle.std.proofs.lemmas.Result.{IfOk-weaker}
 use Rattle.jsonb.specs.declared.document.Document.{Document}
@@ -8,8 +8,8 @@ use Rattle.jsonb.specs.Children.{map_keys}
 use Rattle.jsonb.specs.Results.{document_pair, raw_pairs}
 use Rattle.jsonb.proofs.DocumentInputLaws.{has_entry, entry_of_document, document_shown}
 use Rattle.jsonb.proofs.DocumentInputLaws.{all_pair_documents, values-in_order, within_object}
-use Rattle.jsonb.proofs.DocumentInputLaws.{IsObjectOfDocuments-inputs}
-use Rattle.jsonb.proofs.InputLaws.{key_there, one_more, still_distinct}
+use Rattle.jsonb.proofs.DocumentInputLaws.{IsObjectOfDocuments-inputs, object_within}
+use Rattle.jsonb.proofs.InputLaws.{distinct_with, key_there, one_more, still_distinct}
 use Rattle.jsonb.proofs.ResultObjects.{both_ok, IsObjectOfInputs-IsObjectOf}
 use Rattle.jsonb.proofs.SameEntryLaws.{shown_insert, has_key-shown, at_keys}
 use Rattle.jsonb.proofs.owned.OwnedJsonb.build_object_of_documents.Goals as goal
@@ -111,3 +111,51 @@ returns-clause-ok g c =
       ),
     )) (both_ok c.object_document.result _ (AreKeys (map_keys walk.members.entries))
     c.object_document.ensures.ok c.object_document.ensures.keys)
+
+-- Memory was refused for the next key, which is not among those before it.
+pub returns-in_err-insert-clause-memory : goal.returns-in_err-insert-clause-memory
+returns-in_err-insert-clause-memory g c = λ e.
+    let walk = c.loop-key in
+    let before = raw_pairs (in_order (map document_pair walk.yielded)) in
+    let x : Bor (List ℕ) × Document = (c.in-Some.key, c.in-Some.document) in
+    let new : has_key before c.in-Some.key.now ≡ false = search (
+      rules,
+      has_key-shown has_entry entry_of_document walk.members.entries before walk.invariant.shown
+          c.in-Some.key.now,
+    ) in
+    inr (
+      c.into_iter-key-iterator.result,
+      (
+        walk.yielded,
+        (
+          x,
+          (
+            c.next.new.self,
+            (
+              c.into_iter-key-iterator.ensures.into_iter_gives,
+              (
+                (walk.key-iterator, walk.yielded_by, c.in-Some.ensures.steps),
+                distinct_with document_pair before walk.yielded refl x new walk.invariant.distinct,
+              ),
+            ),
+          ),
+        ),
+      ),
+    )
+
+pub returns-clause-memory : goal.returns-clause-memory
+returns-clause-memory g c = λ e.
+    let walk = c.loop-key in
+    inl (
+      c.into_iter-key-iterator.result,
+      (
+        walk.yielded,
+        (
+          c.into_iter-key-iterator.ensures.into_iter_gives,
+          (
+            (c.next.new.self, (walk.key-iterator, walk.yielded_by, c.in-None.ensures.steps)),
+            object_within _ (c.object_document.ensures.memory e _ walk.invariant.shown),
+          ),
+        ),
+      ),
+    )

@@ -2,7 +2,7 @@ use Rattle.jsonb_value.specs.Text.{on_lines}
 use Rattle.jsonb_codec.proofs.RereadLaws.{reread_text}
 use Rattle.jsonb.specs.Raw.{raw_bytes}
 use Rattle.jsonb.proofs.TextLaws.{pretty_display_text-Doc, pretty_display_text-other}
-use Rattle.jsonb.proofs.TextLaws.{string_written, prints_as, reads_again}
+use Rattle.jsonb.proofs.TextLaws.{string_written, prints_as}
 use Rattle.jsonb.proofs.raw.RawJsonb.to_pretty_string.Goals as goal
 
 pub returns-clause-display : goal.returns-clause-display
@@ -23,6 +23,5 @@ returns-clause-other c none = prints_as _ _ _ (returns-clause-display c)
 
 pub returns-clause-read_again : goal.returns-clause-read_again
 returns-clause-read_again c t doc plain fits =
-    let again = rw (← c.as_bytes.ensures) at doc in
-    reads_again _ _ t (returns-clause-document c t doc)
-    (reread_text (on_lines 0) t (c.write_pretty-answer.ensures.tree t again) plain fits)
+    reread_text (on_lines 0) t
+    (c.write_pretty-answer.ensures.tree t (rw (← c.as_bytes.ensures) at doc)) plain fits
