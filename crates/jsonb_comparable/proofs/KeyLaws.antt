@@ -18,7 +18,7 @@ use Rattle.jsonb_value.specs.Value.{trees_of}
 use Rattle.jsonb_value.proofs.BigEndian.{AreBytes}
 use Rattle.jsonb_value.proofs.PayloadDecision.{Decided}
 use Rattle.jsonb_value.proofs.TreeLaws.{then-Equal}
-use Rattle.jsonb_codec.specs.Doc.{IsDocument}
+use Rattle.jsonb_codec.specs.Doc.{Doc, IsDocument}
 use Rattle.jsonb_codec.proofs.Decision.{decide}
 use Rattle.jsonb_codec.proofs.WellFormed.{IsTree-Doc}
 use Rattle.jsonb.specs.ItemMeaning.{meaning_of, meaning_or_bytes}
@@ -26,8 +26,13 @@ use Rattle.jsonb_comparable.specs.Escaped.{escaped}
 use Rattle.jsonb_codec.specs.Depth.{depth}
 use Rattle.jsonb.specs.Node.{array_of, object_of, pairs_of}
 use Rattle.jsonb.specs.Within.{limited, meaning_within}
+use Rattle.jsonb.specs.declared.sort_key.SortKey.{SortKey}
+use Rattle.jsonb.specs.declared.sort_key.SortKey.TheVariants as keys
+use Rattle.jsonb.specs.Document.{document_bytes, document_tree}
+use Rattle.jsonb.specs.SortKey.{key_bytes, key_meaning}
+use Rattle.jsonb.proofs.DocumentLaws.{tree_of_bytes}
 use Rattle.jsonb_comparable.specs.TreeKey.{tree_key, trees_key, pairs_key, member_key, meaning_key}
-use Rattle.jsonb_comparable.specs.KeyLaws.{KeyLaws, key_by, cmp_by}
+use Rattle.jsonb_comparable.specs.KeyLaws.{IsKeyOf, IsMeaning, KeyLaws, key_by, cmp_by}
 use Rattle.jsonb_comparable.proofs.Comparing.{Compared, ended, same, below, above, compared_whole}
 use Rattle.jsonb_comparable.proofs.Comparing.{cmp_below, cmp_above}
 use Rattle.jsonb_comparable.proofs.EscapedLaws.{escaped_decides}
@@ -89,11 +94,6 @@ lists_order (t ∷ ts) [] h g = key_above_nothing t (flat_map tree_key ts)
 lists_order (t ∷ ts) (u ∷ us) h g =
     keys_followed t u h.0 g.0 (flat_map tree_key ts) (flat_map tree_key us)
     ∙ ap (λ o. ordering_then (tree_cmp t u) o) (lists_order ts us h.1 g.1)
-
--- All bytes: a tree that a document has, or other bytes.
-abbrev pub IsMeaning : Meaning → Type 0
-IsMeaning (document t) = IsTree t
-IsMeaning (other_bytes b) = Unit {0}
 
 meaning_key_decides : (m n : Meaning) → IsMeaning m → IsMeaning n
     → Compared (meaning_key m) (meaning_key n) (meaning_cmp m n)
@@ -168,6 +168,50 @@ meaning_above_nothing : (m : Meaning) (xs : List ℕ)
 unfolding meaning_key
 meaning_above_nothing (document t) xs = key_above_nothing t xs
 meaning_above_nothing (other_bytes b) xs = refl
+
+meaning_lists : (ms ns : List Meaning) → All IsMeaning ms → All IsMeaning ns
+    → slice_cmp nat_cmp (flat_map meaning_key ms) (flat_map meaning_key ns)
+    ≡ slice_cmp meaning_cmp ms ns
+meaning_lists [] [] h g = refl
+meaning_lists [] (n ∷ ns) h g = nothing_below_meaning n (flat_map meaning_key ns)
+meaning_lists (m ∷ ms) [] h g = meaning_above_nothing m (flat_map meaning_key ms)
+meaning_lists (m ∷ ms) (n ∷ ns) h g =
+    let first =
+    meaning_key_decides m n (All-head IsMeaning m ms h) (All-head IsMeaning n ns g) in
+    let rest = meaning_lists ms ns (All-tail IsMeaning m ms h) (All-tail IsMeaning n ns g) in
+    compared_whole first (flat_map meaning_key ms) (flat_map meaning_key ns)
+    ∙ ap (λ o. ordering_then (meaning_cmp m n) o) rest
+
+-- A key beside all others.
+lists_after : (m : Meaning) (ms ns : List Meaning) → IsMeaning m → All IsMeaning ms
+    → All IsMeaning ns
+    → slice_cmp nat_cmp (meaning_key m ++ flat_map meaning_key ms) (flat_map meaning_key ns)
+    ≡ slice_cmp meaning_cmp (m ∷ ms) ns
+lists_after m ms [] is h g = meaning_above_nothing m (flat_map meaning_key ms)
+lists_after m ms (n ∷ ns) is h g =
+    let first = meaning_key_decides m n is (All-head IsMeaning n ns g) in
+    let rest = meaning_lists ms ns h (All-tail IsMeaning n ns g) in
+    compared_whole first (flat_map meaning_key ms) (flat_map meaning_key ns)
+    ∙ ap (λ o. ordering_then (meaning_cmp m n) o) rest
+
+pub is_key_of : (m : Meaning) → IsMeaning m → IsKeyOf m (meaning_key m)
+is_key_of m is = record {
+  order = λ n of. compared_alone (meaning_key_decides m n is of);
+  equal = λ n of. compared_equal (meaning_key_decides m n is of);
+  followed = λ n of x y. compared_whole (meaning_key_decides m n is of) x y;
+  no_beginning = λ n of x y e. compared_apart (meaning_key_decides m n is of) x y e;
+  lists = λ ms ns h g. lists_after m ms ns is h g;
+}
+
+-- A key that is appended is that of a tree that a document has, or of other bytes.
+pub key_of_sorted : (key : SortKey) → ((t : Tree) → Doc (key_bytes key) t → IsTree t)
+    → IsKeyOf (key_meaning key) (meaning_key (key_meaning key))
+key_of_sorted key trees = is_key_of (key_meaning key) (meant key trees) where
+  meant : (key : SortKey) → ((t : Tree) → Doc (key_bytes key) t → IsTree t)
+      → IsMeaning (key_meaning key)
+  meant (keys.Document d) trees =
+      trees (document_tree d) (tree_of_bytes (document_bytes d) d refl)
+  meant (keys.Other bytes) trees = tt
 
 -- Bytes whose meanings are trees or other bytes have keys with the laws.
 abbrev pub AreMeanings : (List ℕ → Meaning) → Type 0

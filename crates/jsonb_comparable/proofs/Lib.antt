@@ -9,3 +9,4 @@ pub mod PowerLaws
 pub mod SplitLaws
 pub mod WalkLaws
 pub mod KeyLaws
+pub mod ExampleLaws

@@ -1,13 +1,37 @@
--- The laws of the keys of any bytes.
-use Rattle.std.specs.Prelude.{◌≡◌, ◌↔◌, ◌++◌, ℕ, List, take}
+-- The laws of keys: of one key, and of the keys of any bytes.
+use Rattle.std.specs.Prelude.{◌≡◌, ◌↔◌, ◌++◌, ◌∷◌, ℕ, List, take, ⊤}
 use Rattle.std.specs.Cmp.Lexicographic.{slice_cmp}
 use Rattle.std.specs.List.{All, flat_map}
 use Rattle.std.specs.Ordering.{nat_cmp, ordering_then}
 use Rattle.std.specs.declared.cmp.Ordering.{Ordering}
 use Rattle.std.specs.declared.cmp.Ordering.TheVariants.{Less, Equal, Greater}
-use Rattle.jsonb_value.specs.Meaning.{Meaning, meaning_cmp}
+use Rattle.jsonb_value.specs.Meaning.{Meaning, document, other_bytes, meaning_cmp}
+use Rattle.jsonb_value.specs.WellFormed.{IsTree}
 use Rattle.jsonb_value.proofs.BigEndian.{AreBytes}
 use Rattle.jsonb_comparable.specs.TreeKey.{meaning_key}
+
+-- What bytes can mean: a tree that a document can have, or other bytes.
+abbrev pub IsMeaning : Meaning → Type 0
+IsMeaning (document t) = IsTree t
+IsMeaning (other_bytes b) = ⊤
+
+-- The key of this meaning, beside the keys of all meanings,
+pub record IsKeyOf (m : Meaning) (key : List ℕ) : Type 0 where
+  -- compares with them as the meaning with theirs,
+  pub order : (n : Meaning) → IsMeaning n → slice_cmp nat_cmp key (meaning_key n) ≡ meaning_cmp m n
+  -- is the same exactly where the meanings are equal,
+  pub equal : (n : Meaning) → IsMeaning n → (key ≡ meaning_key n) ↔ (meaning_cmp m n ≡ Equal)
+  -- decides before all that follows it,
+  pub followed : (n : Meaning) → IsMeaning n → (x y : List ℕ)
+      → slice_cmp nat_cmp (key ++ x) (meaning_key n ++ y)
+      ≡ ordering_then (meaning_cmp m n) (slice_cmp nat_cmp x y)
+  -- begins no other, and no other begins it,
+  pub no_beginning : (n : Meaning) → IsMeaning n → (x y : List ℕ) → key ++ x ≡ meaning_key n ++ y
+      → (meaning_cmp m n ≡ Equal) × (x ≡ y)
+  -- and compares with others as lists, one after another.
+  pub lists : (ms ns : List Meaning) → All IsMeaning ms → All IsMeaning ns
+      → slice_cmp nat_cmp (key ++ flat_map meaning_key ms) (flat_map meaning_key ns)
+      ≡ slice_cmp meaning_cmp (m ∷ ms) ns
 
 -- The key of bytes that have these meanings, and the order of such bytes.
 abbrev pub key_by : (List ℕ → Meaning) → List ℕ → List ℕ

@@ -7,4 +7,5 @@ pub mod ExtensionKey
 pub mod TreeKey
 pub mod KeyLaws
 pub mod ComparableKey
+pub mod Examples
 pub mod Words

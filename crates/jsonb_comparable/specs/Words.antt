@@ -25,7 +25,7 @@ pub use Rattle.jsonb_comparable.specs.ComparableKey.{comparable_bytes}
 pub use Rattle.jsonb_comparable.specs.Escaped.{escaped}
 pub use Rattle.jsonb_comparable.specs.ExtensionKey.{biased, biased_32, biased_64, extension_key}
 pub use Rattle.jsonb_comparable.specs.ExtensionKey.{fields_key}
-pub use Rattle.jsonb_comparable.specs.KeyLaws.{KeyLaws}
+pub use Rattle.jsonb_comparable.specs.KeyLaws.{IsKeyOf, KeyLaws}
 pub use Rattle.jsonb_comparable.specs.NumberKey.{count_bytes, decimal_key, natural_key, number_key}
 pub use Rattle.jsonb_comparable.specs.Sink.{CountsBytes, SinkLaws, length_64}
 pub use Rattle.jsonb_comparable.specs.SinkProofs.{length_laws, vec_laws}

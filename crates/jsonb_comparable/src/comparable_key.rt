@@ -23,7 +23,7 @@ pub struct ComparableKey {
 
 impl ComparableKey {
     ghost use Rattle.std.specs.Prelude.{◌≡◌, IfErr, IfOk};
-    ghost use Rattle.jsonb_comparable.specs.Words.{key_meaning, meaning_key};
+    ghost use Rattle.jsonb_comparable.specs.Words.{IsKeyOf, key_meaning, meaning_key};
 
     /// The key of a document or of any bytes, as `append_key` appends it. `OutOfMemory` is the only
     /// error.
@@ -31,6 +31,9 @@ impl ComparableKey {
         ensures ok { IfOk result
             (λ made. comparable_bytes made ≡ meaning_key (key_meaning key.entry)) }
         ensures memory { IfErr result (λ e. e ≡ Error.OutOfMemory) }
+
+        // The key compares with the keys of all bytes, and followed by them, as what they mean.
+        ensures laws { IsKeyOf (key_meaning key.entry) (meaning_key (key_meaning key.entry)) }
     {
         let mut bytes = Vec::new(alloc);
         append_key(key, &mut bytes)?;

@@ -2,8 +2,9 @@
 
 ghost use Rattle.std.specs.Prelude.{◌≡◌, ◌≤◌, ◌+◌, ◌++◌, OnOk, OnErr, IfErr, IsOk, length};
 ghost use Rattle.std.specs.Prelude.{vec_capacity};
-ghost use Rattle.jsonb_comparable.specs.Words.{key_meaning, length_64, meaning_key};
+ghost use Rattle.jsonb_comparable.specs.Words.{IsKeyOf, key_meaning, length_64, meaning_key};
 
+use crate::laws::has_key;
 use crate::sink::KeyLength;
 use crate::walk::append_key_to;
 use jsonb::{Error, SortKey};
@@ -36,7 +37,11 @@ pub fn append_key(key: SortKey<'_>, buffer: &mut Vec<u8>) -> Result<(), Error>
     ensures memory { IfErr result (λ e. e ≡ Error.OutOfMemory) }
     ensures room { length buffer.old.items + length (meaning_key (key_meaning key.entry))
         ≤ vec_capacity buffer.old → IsOk result }
+
+    // The key compares with the keys of all bytes, and followed by them, as what they mean.
+    ensures laws { IsKeyOf (key_meaning key.entry) (meaning_key (key_meaning key.entry)) }
 {
+    has_key(key.as_bytes());
     buffer.try_reserve(key_len(key))?;
     append_key_to(key, buffer);
     Ok(())

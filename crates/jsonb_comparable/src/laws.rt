@@ -60,3 +60,8 @@ pub fn key_laws_of_bytes()
 pub fn key_laws_within()
     ensures { (depth : ℕ) → KeyLaws (meaning_within depth) }
 {}
+
+/// The tree of a document has a key with these laws.
+pub fn has_key(bytes: &[u8])
+    ensures { (t : Tree) → Doc bytes.now t → IsTree t }
+{}

@@ -4,6 +4,7 @@
 
 mod comparable_key;
 mod escape;
+mod examples;
 mod extension;
 mod key;
 pub mod laws;
