@@ -2,10 +2,9 @@
 use Rattle.std.proofs.Common.{◌≡◌, ◌≤◌, ◌<◌, ◌+◌, ℕ, zero, suc, List, [], ◌∷◌, ◌++◌, length}
 use Rattle.std.proofs.Common.{take, drop, refl, sym, ap, ◌∙◌, arith, true, false, Bool, Bor}
 use Rattle.std.proofs.Common.{append_assoc, eqb-true}
-use Rattle.std.specs.Prelude.{Option, None, Some, MatchOption, option_map, ◌==◌, not, ◌&&◌, codes}
+use Rattle.std.specs.Prelude.{Option, None, Some, MatchOption, option_map, ◌==◌, not, codes}
 use Rattle.std.specs.Prelude.{if◌then◌else◌}
 use Rattle.std.specs.Str.Pattern.{FindsText, LacksTextAt}
-use Rattle.std.proofs.Math.Bool.{and-false}
 use Rattle.std.proofs.lemmas.Bool.{eq-eqb}
 use Rattle.jsonb_functions.specs.declared.selection.Bound.{Bound}
 use Rattle.jsonb_functions.specs.PathText.{after_spaces, all_are, bound_in, bound_then, bounds_in}
@@ -37,11 +36,6 @@ part_last : (text : List ℕ) → all_are (is_not 44) text ≡ true → parts_of
 part_last [] all = refl
 part_last (c ∷ text) all =
     part_more c text text [] (both _ _ all).0 (part_last text (both _ _ all).1)
-
-comma_among : (front rest : List ℕ) → all_are (is_not 44) (front ++ (44 ∷ rest)) ≡ false
-comma_among [] rest = refl
-comma_among (c ∷ front) rest =
-    ap (λ (b : Bool). is_not 44 c && b) (comma_among front rest) ∙ and-false (is_not 44 c)
 
 -- ---- a list of which some indexes were read
 

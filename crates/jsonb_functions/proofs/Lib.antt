@@ -1,4 +1,5 @@
 pub mod StepLaws
+pub mod ContainLaws
 pub mod ScalarLaws
 pub mod WalkLaws
 pub mod WeightLaws
@@ -36,3 +37,4 @@ pub mod NameListLaws
 pub mod TermLaws
 pub mod ConditionLaws
 pub mod TreeLaws
+pub mod ExampleLaws

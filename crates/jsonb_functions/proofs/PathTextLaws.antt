@@ -15,7 +15,7 @@ use Rattle.std.proofs.lemmas.List.Sums.{prefix_len-le-length, prefix_len_stops}
 use Rattle.jsonb_value.specs.Json.Characters.{all_digits}
 use Rattle.jsonb_functions.specs.PathText.{all_are, is_in_name, is_in_word, is_not, capped_number}
 use Rattle.jsonb_functions.specs.PathText.{EndsName, StopsAt, after_spaces, ends_in_space}
-use Rattle.jsonb_functions.specs.PathText.{is_space, longer_name, name_len, spaces}
+use Rattle.jsonb_functions.specs.PathText.{is_space, longer_name, name_len}
 use Rattle.jsonb_functions.proofs.IndexLaws.{both}
 
 -- The bytes after the first one, as a pattern gives them.
@@ -145,32 +145,6 @@ split_is c text (Some x) h = (h.0, none_there c x.0.now h.1)
 
 space_is : (c : ℕ) → is_space c ≡ true → c ≡ 32
 space_is c e = eqb-true c 32 e
-
-split_more : (c : ℕ) (cs : List ℕ) (b : Bool) → is_space c ≡ b
-    → (n : ℕ) × (cs ≡ spaces n ++ after_spaces cs)
-    → (n : ℕ) × (c ∷ cs ≡ spaces n ++ after_spaces (c ∷ cs))
-split_more c cs true e h = (
-  suc h.0,
-  ap (λ d. d ∷ cs) (space_is c e) ∙ ap (λ xs. 32 ∷ xs) h.1
-      ∙ ap (λ b. 32 ∷ (spaces h.0 ++ (if b then after_spaces cs else c ∷ cs))) (sym e),
-)
-split_more c cs false e h = (0, ap (λ b. if b then after_spaces cs else c ∷ cs) (sym e))
-
-pub spaces_split : (text : List ℕ) → (n : ℕ) × (text ≡ spaces n ++ after_spaces text)
-spaces_split [] = (0, refl)
-spaces_split (c ∷ cs) = split_more c cs (is_space c) refl (spaces_split cs)
-
-pub after_them : (n : ℕ) (xs : List ℕ) → after_spaces (spaces n ++ xs) ≡ after_spaces xs
-after_them zero xs = refl
-after_them (suc n) xs = after_them n xs
-
-pub more_spaces : (n m : ℕ) (xs : List ℕ)
-    → spaces n ++ (spaces m ++ xs) ≡ spaces (n + m) ++ xs
-more_spaces zero m xs =
-    let same : m ≡ 0 + m = omega arith in ap (λ k. spaces k ++ xs) same
-more_spaces (suc n) m xs =
-    let same : suc (n + m) ≡ suc n + m = omega arith in
-    ap (λ ys. 32 ∷ ys) (more_spaces n m xs) ∙ ap (λ k. spaces k ++ xs) same
 
 -- one space was passed
 pub a_space : (text left rest : List ℕ) → left ≡ 32 ∷ rest

@@ -1,5 +1,5 @@
 -- The names in a pointer, and the pointer of names.
-use Rattle.std.proofs.Common.{◌≡◌, ◌<◌, ◌+◌, ℕ, List, [], ◌∷◌, ◌++◌, length, refl, sym}
+use Rattle.std.proofs.Common.{◌≡◌, ◌<◌, ℕ, List, [], ◌∷◌, ◌++◌, length, refl, sym}
 use Rattle.std.proofs.Common.{ap, ◌∙◌, arith, true, false, Bool, ne_eqb, length-append, inl, inr}
 use Rattle.std.proofs.Common.{eqb-true}
 use Rattle.std.specs.Prelude.{Option, None, Some, ◌==◌, ◌&&◌, ◌⊎◌, not}

@@ -1,11 +1,10 @@
 -- Looking for scalars among those of an array.
-use Rattle.std.proofs.Common.{◌≡◌, ◌≤◌, ◌*◌, ◌++◌, ℕ, List, [], ◌∷◌, length, refl, sym}
+use Rattle.std.proofs.Common.{◌≡◌, ◌+◌, ◌++◌, ℕ, List, [], ◌∷◌, length, refl, sym}
 use Rattle.std.proofs.Common.{ap, ◌∙◌, Bool, Bor, true, false, arith, nat_lt}
 use Rattle.std.specs.Prelude.{◌||◌, Result, Ok, Err, is_ok, IsPermutation}
 use Rattle.std.specs.List.{list_any}
 use Rattle.std.specs.List.Sorted.{IsBinarySearchResult, IsSearchInRange, IsSorted}
 use Rattle.std.specs.Ordering.{is_eq, on}
-use Rattle.std.proofs.Math.Nat.{mul-le-mul_right}
 use Rattle.std.proofs.lemmas.List.Folds.{list_any-append, list_any_at, list_any_none}
 use Rattle.std.proofs.lemmas.List.Sorted.{list_any-IsPermutation, searchable_from_sorted}
 use Rattle.jsonb_value.specs.Tree.{Tree, Trees, tree, null, boolean, number, text}
@@ -19,14 +18,12 @@ use Rattle.jsonb.specs.declared.extension_item.ExtensionItem.{ExtensionItem}
 use Rattle.jsonb.specs.Node.{array_of, node_tree}
 use Rattle.jsonb_functions.specs.ArraySets.{are_equal}
 use Rattle.jsonb_functions.specs.Contains.{contained, items_or_none, some_tree}
+use Rattle.jsonb_functions.specs.ContainSteps.{scalar_weight, scalar_weights}
 use Rattle.jsonb_functions.specs.Scalars.{AreCollected, AreScalarsOf, HasScalars, IsScalar}
 use Rattle.jsonb_functions.specs.Scalars.{IsScalarValue}
-use Rattle.jsonb_functions.specs.Steps.{FoundIn}
-use Rattle.jsonb_functions.specs.Weight.{weight, weights}
+use Rattle.jsonb_functions.specs.Weight.{weight}
 use Rattle.jsonb_functions.specs.declared.scalars.Scalars.{Scalars}
-use Rattle.jsonb_functions.specs.declared.steps.Unanswered.{Unanswered}
 use Rattle.jsonb_functions.proofs.PickLaws.{not_same}
-use Rattle.jsonb_functions.proofs.StepLaws.{found_within, weight_positive}
 use Rattle.jsonb_functions.proofs.WalkLaws.{of_other, scalar_type}
 
 -- No scalar is contained in a value that is an array or object.
@@ -113,18 +110,20 @@ plain_weight (nodes.String s) h g scalar = absurd (h s refl)
 plain_weight (nodes.Extension x) h g scalar = absurd (g x refl)
 plain_weight (nodes.Container d) h g scalar = absurd (scalar d refl)
 
--- A scalar that is looked for weighs no more than the product.
-pub scalar_fits : (r : Result Bool Unanswered) (found : Bool) (a w before after : ℕ) → 1 ≤ a
-    → FoundIn r found w before after → FoundIn r found (a * w) before after
-scalar_fits r found a w before after many h =
-    let most : 1 * w ≤ a * w = mul-le-mul_right w many in
-    found_within r found found w (a * w) before after refl (omega (arith, most)) h
-
 -- ---- an array that is searched for many
 
 pub items_here : (t : Tree) (ts : List Tree) → t ≡ array_of ts → items_or_none t ≡ trees_of ts
 items_here t ts e = rw e refl
 
-pub many_weigh : (ts : List Tree) → length ts ≤ weights (trees_of ts)
-many_weigh [] = omega arith
-many_weigh (t ∷ ts) = omega (arith, weight_positive t, many_weigh ts)
+pub scalars_first : (ts : List Tree) (t : Tree) (others : List Tree) → ts ≡ t ∷ others
+    → scalar_weights (trees_of ts) ≡ scalar_weight t + scalar_weights (trees_of others)
+scalars_first ts t others e = rw e refl
+
+pub scalar_weighed : (node : Node) → IsScalarValue node
+    → scalar_weight (node_tree node) ≡ weight (node_tree node)
+scalar_weighed nodes.Null scalar = refl
+scalar_weighed (nodes.Boolean b) scalar = refl
+scalar_weighed (nodes.Number x) scalar = refl
+scalar_weighed (nodes.String s) scalar = refl
+scalar_weighed (nodes.Extension x) scalar = refl
+scalar_weighed (nodes.Container d) scalar = absurd (scalar d refl)

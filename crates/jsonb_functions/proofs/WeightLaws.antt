@@ -1,8 +1,9 @@
 -- What a walk has left to compare, and that a document has more bytes than weight.
-use Rattle.std.proofs.Common.{◌≡◌, ℕ, suc, ◌+◌, ◌*◌, ◌<◌, ◌≤◌, List, ◌∷◌, length, inl, inr, refl}
-use Rattle.std.proofs.Common.{ap, arith, length-append}
-use Rattle.std.specs.Prelude.{◌≢◌}
-use Rattle.std.specs.Prelude.{false, Option, None, Some, MatchOption}
+use Rattle.std.proofs.Common.{◌≡◌, ℕ, suc, ◌+◌, ◌*◌, ◌≤◌, List, ◌∷◌, length, inl, inr, refl}
+use Rattle.std.proofs.Common.{ap, sym, arith, length-append}
+use Rattle.std.specs.Prelude.{◌≢◌, false, Option, None, Some, IfNone, MatchOption}
+use Rattle.std.specs.Borrow.{Bor}
+use Rattle.std.proofs.lemmas.Bool.{eq-eqb, ne_eqb}
 use Rattle.std.specs.Ordering.{is_eq, nat_cmp, ordering_then}
 use Rattle.std.specs.Cmp.Lexicographic.{slice_cmp}
 use Rattle.std.specs.declared.cmp.Ordering.{Ordering}
@@ -18,21 +19,17 @@ use Rattle.jsonb_codec.specs.Doc.{type_of, Children, Keys, Values, Payload, Doc}
 use Rattle.jsonb_codec.proofs.Words.{length-word-append}
 use Rattle.jsonb_codec.proofs.Entries.{length-One, length-One-payloads, length-Keys}
 use Rattle.jsonb_codec.proofs.Containers.{array_container, object_container, length-Container}
-use Rattle.jsonb.specs.Node.{array_of, pairs_of}
+use Rattle.jsonb.specs.declared.extension_item.ExtensionItem.{ExtensionItem}
+use Rattle.jsonb.specs.declared.node.Node.{Node}
+use Rattle.jsonb.specs.declared.node.Node.TheVariants as nodes
+use Rattle.jsonb.specs.Node.{HoldsNoScalar, node_tree, pairs_of}
 use Rattle.jsonb_functions.specs.ArraySets.{are_equal}
-use Rattle.jsonb_functions.specs.Contains.{items_or_none}
+use Rattle.jsonb_functions.specs.ContainSteps.{compare_steps, shared_length}
+use Rattle.jsonb_functions.specs.ContainWalks.{length_or_none}
 use Rattle.jsonb_functions.specs.Weight.{pair_weights, weight, weights}
 use Rattle.jsonb_functions.proofs.KeyOrder.{is_eq_false, key_equal}
 
 -- What is left of a walk over items or members.
-pub array_weight : (t : Tree) (ts : List Tree) → t ≡ array_of ts
-    → weight t ≡ suc (weights (items_or_none t))
-array_weight t ts e = rw e refl
-
-pub items_within : (t : Tree) (ts : List Tree) → t ≡ array_of ts
-    → weights (items_or_none t) ≡ weights (trees_of ts)
-items_within t ts e = rw e refl
-
 pub items_weights : (ts : List Tree) (t : Tree) (others : List Tree) → ts ≡ t ∷ others
     → weights (trees_of ts) ≡ weight t + weights (trees_of others)
 items_weights ts t others e = rw e refl
@@ -47,11 +44,23 @@ pub texts_differ : (s r : List ℕ) → length s ≢ length r → is_eq (slice_c
 texts_differ s r h =
     is_eq_false (slice_cmp nat_cmp s r) (λ e. h (ap length (key_equal s r e)))
 
+pub texts_apart : (r : Option ℕ) (s t : List ℕ) (u v : Tree) → u ≡ text s → v ≡ text t
+    → MatchOption r (length s ≢ length t) (λ n. (n ≡ length s) × (length s ≡ length t))
+    → IfNone r (are_equal u v ≡ false)
+texts_apart None s t u v e f h = rw (e, f) (texts_differ s t h)
+texts_apart (Some n) s t u v e f h = tt
+
+-- What is compared of two that are equally long, and of two of which one is longer.
+shared_same : (r : Option ℕ) (s t : List ℕ)
+    → MatchOption r (length s ≢ length t) (λ n. (n ≡ length s) × (length s ≡ length t))
+    → shared_length s t ≡ length_or_none r
+shared_same None s t h = rw (ne_eqb (length s) (length t) h) refl
+shared_same (Some n) s t h = rw (eq-eqb (length s) (length t) h.1) (sym h.0)
+
 pub texts_compared : (r : Option ℕ) (s t : List ℕ) (u v : Tree) → u ≡ text s → v ≡ text t
-    → MatchOption r (length s ≢ length t) (λ n. n ≡ length s)
-    → MatchOption r (are_equal u v ≡ false) (λ n. n < weight u)
-texts_compared None s t u v e f h = rw (e, f) (texts_differ s t h)
-texts_compared (Some n) s t u v e f h = rw e (omega (arith, h))
+    → MatchOption r (length s ≢ length t) (λ n. (n ≡ length s) × (length s ≡ length t))
+    → compare_steps u v ≡ suc (length_or_none r)
+texts_compared r s t u v e f h = rw (e, f) (ap suc (shared_same r s t h))
 
 second_equal : (a b : Ordering) → ordering_then a b ≡ Equal → b ≡ Equal
 second_equal Equal b e = e
@@ -64,12 +73,53 @@ data_differ d e h =
     is_eq_false (extension_cmp d e) (λ same. h (ap length (key_equal (extension_data d)
     (extension_data e) (second_equal _ _ (second_equal _ _ same)))))
 
+pub data_apart : (r : Option ℕ) (s t : List ℕ) (d e : Extension) (u v : Tree)
+    → u ≡ extension d → v ≡ extension e → s ≡ extension_data d → t ≡ extension_data e
+    → MatchOption r (length s ≢ length t) (λ n. (n ≡ length s) × (length s ≡ length t))
+    → IfNone r (are_equal u v ≡ false)
+data_apart None s t d e u v f g i j h = rw (f, g) (data_differ d e (rw (i, j) at h))
+data_apart (Some n) s t d e u v f g i j h = tt
+
 pub data_compared : (r : Option ℕ) (s t : List ℕ) (d e : Extension) (u v : Tree)
     → u ≡ extension d → v ≡ extension e → s ≡ extension_data d → t ≡ extension_data e
-    → MatchOption r (length s ≢ length t) (λ n. n ≡ length s)
-    → MatchOption r (are_equal u v ≡ false) (λ n. n < weight u)
-data_compared None s t d e u v f g i j h = rw (f, g) (data_differ d e (rw (i, j) at h))
-data_compared (Some n) s t d e u v f g i j h = rw f (omega (arith, h, ap length i))
+    → MatchOption r (length s ≢ length t) (λ n. (n ≡ length s) × (length s ≡ length t))
+    → compare_steps u v ≡ suc (length_or_none r)
+data_compared r s t d e u v f g i j h =
+    rw (f, g) (ap suc (shared_same r (extension_data d) (extension_data e) (rw (i, j) at h)))
+
+plain_steps : (t u : Tree) → ((a : List ℕ) → t ≡ text a → ⊥)
+    → ((x : Extension) → t ≡ extension x → ⊥) → compare_steps t u ≡ 1
+plain_steps (text a) u h g = absurd (h a refl)
+plain_steps (extension x) u h g = absurd (g x refl)
+plain_steps t u h g = refl
+
+-- A value that means a text is one, and so of data.
+text_node : (node : Node) (a : List ℕ) → HoldsNoScalar node → node_tree node ≡ text a
+    → (s : Bor (List ℕ)) × (node ≡ nodes.String s)
+text_node (nodes.String s) a h e = (s, refl)
+text_node nodes.Null a h e = absurd (cc)
+text_node (nodes.Boolean b) a h e = absurd (cc)
+text_node (nodes.Number x) a h e = absurd (cc)
+text_node (nodes.Extension x) a h e = absurd (cc)
+text_node (nodes.Container d) a h e = absurd (omega (arith, rw e at h))
+
+data_node : (node : Node) (x : Extension) → HoldsNoScalar node → node_tree node ≡ extension x
+    → (item : ExtensionItem) × (node ≡ nodes.Extension item)
+data_node (nodes.Extension item) x h e = (item, refl)
+data_node nodes.Null x h e = absurd (cc)
+data_node (nodes.Boolean b) x h e = absurd (cc)
+data_node (nodes.Number y) x h e = absurd (cc)
+data_node (nodes.String s) x h e = absurd (cc)
+data_node (nodes.Container d) x h e = absurd (omega (arith, rw e at h))
+
+-- Of a value that is no text and has no data one step is taken.
+pub plainly_compared : (left : Node) (u : Tree) → ((s : Bor (List ℕ)) → left ≡ nodes.String s → ⊥)
+    → ((x : ExtensionItem) → left ≡ nodes.Extension x → ⊥) → HoldsNoScalar left
+    → compare_steps (node_tree left) u ≡ 1
+plainly_compared left u h g scalar =
+    plain_steps (node_tree left) u
+    (λ s is. let (x, e) = text_node left s scalar is in h x e)
+    (λ d is. let (x, e) = data_node left d scalar is in g x e)
 
 -- A document has more bytes than weight: an entry word of four bytes for each value and each key.
 abbrev keys_weight : Pairs → ℕ

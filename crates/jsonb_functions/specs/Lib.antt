@@ -2,6 +2,8 @@ pub mod ArraySets
 pub mod ChosenSource
 pub mod Conditions
 pub mod Contains
+pub mod ContainSteps
+pub mod ContainWalks
 pub mod Edited
 pub mod EditSource
 pub mod Filter
@@ -33,6 +35,7 @@ pub mod Stripped
 pub mod StripSource
 pub mod TopKeys
 pub mod Weight
+pub mod Examples
 pub mod Words
 pub mod NameList
 pub mod NamedSteps

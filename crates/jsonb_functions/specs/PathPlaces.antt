@@ -1,5 +1,5 @@
 -- The places of the values to which paths lead.
-use Rattle.std.specs.Prelude.{⊤, ℕ, ◌+◌, ◌-◌, ◌==◌, ◌≤◌, if◌then◌else◌, nat_eq, Bool, true}
+use Rattle.std.specs.Prelude.{◌≡◌, ⊤, ℕ, ◌+◌, ◌-◌, ◌==◌, ◌≤◌, if◌then◌else◌, nat_eq, Bool, true}
 use Rattle.std.specs.Prelude.{false, List, [], ◌∷◌, length, map, flat_map, take, Option, None, Some}
 use Rattle.std.specs.Prelude.{option_map, option_to_list, Result, Ok, Err}
 use Rattle.std.specs.Cmp.Lexicographic.{pointwise}
@@ -14,7 +14,10 @@ use Rattle.jsonb.specs.Entry.{entry_there, placed_at}
 use Rattle.jsonb.specs.Entries.{Run, item_run, key_run, left_after}
 use Rattle.jsonb.specs.Entries.{value_run}
 use Rattle.jsonb.specs.EntryTrees.{entry_tree}
+use Rattle.jsonb.specs.Node.{node_view}
+use Rattle.jsonb.specs.StoredEntries.{entry_item}
 use Rattle.jsonb.specs.declared.entries.Entry.{Entry}
+use Rattle.jsonb.specs.declared.node.Node.{Node}
 use Rattle.jsonb_functions.specs.Filter.{holds}
 use Rattle.jsonb_functions.specs.Path.{item_place}
 use Rattle.jsonb_functions.specs.Selected.{items_before, items_through, step_at}
@@ -180,6 +183,12 @@ selected_in path bytes (Err e) = []
 -- stored.
 abbrev pub selected_places : List Selector → List ℕ → List Entry
 selected_places path bytes = selected_in path bytes (whole_place bytes)
+
+-- The values have the types and payloads of the entries at these places, one each.
+abbrev pub AreItemsAt : List ℕ → List Entry → List Node → Type 0
+AreItemsAt bytes places nodes =
+    map (λ place. entry_item (entry_there bytes place)) places
+    ≡ map (λ node. Ok (node_view node)) nodes
 
 -- What a function answers at a place, if there is one.
 abbrev pub at_place : Option Entry → (Entry → Option Entry) → Option Entry

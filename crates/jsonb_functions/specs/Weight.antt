@@ -1,5 +1,5 @@
 -- How much there is in a tree to be compared.
-use Rattle.std.specs.Prelude.{ℕ, suc, ◌+◌, length, Option, None, Some}
+use Rattle.std.specs.Prelude.{ℕ, suc, ◌+◌, length}
 use Rattle.jsonb_value.specs.Order.{extension_data}
 use Rattle.jsonb_value.specs.Tree.{Tree, null, boolean, number, text, extension, array, object}
 use Rattle.jsonb_value.specs.Tree.{Trees, no_trees, tree, Pairs, no_pairs, pair}
@@ -24,8 +24,3 @@ abbrev mutual
   pub pair_weights : Pairs → ℕ
   pair_weights no_pairs = 0
   pair_weights (pair k t ps) = suc (length k + (weight t + pair_weights ps))
-
--- The weight of a tree, if there is one.
-abbrev pub maybe_weight : Option Tree → ℕ
-maybe_weight None = 0
-maybe_weight (Some t) = weight t

@@ -30,6 +30,12 @@ pub use Rattle.jsonb_functions.specs.Conditions.{AnyOf, any_terms, meets_any}
 pub use Rattle.jsonb_functions.specs.Contains.{contained, contains_whole, has_top_key}
 pub use Rattle.jsonb_functions.specs.Contains.{items_contained, items_or_none, members_contained}
 pub use Rattle.jsonb_functions.specs.Contains.{is_there, some_tree}
+pub use Rattle.jsonb_functions.specs.ContainSteps.{are_many, compare_steps, contained_work}
+pub use Rattle.jsonb_functions.specs.ContainSteps.{contains_work, find_work, first_work, from_key}
+pub use Rattle.jsonb_functions.specs.ContainSteps.{members_work, passing_steps, scalar_weight}
+pub use Rattle.jsonb_functions.specs.ContainSteps.{scalar_weights, sort_work, steps_alone}
+pub use Rattle.jsonb_functions.specs.ContainSteps.{work_until}
+pub use Rattle.jsonb_functions.specs.ContainWalks.{array_work, found_work, length_or_none}
 pub use Rattle.jsonb_functions.specs.EditSource.{comes, count_done, edit_operation}
 pub use Rattle.jsonb_functions.specs.EditSource.{edited_along, first_done, first_pair_done, here_at}
 pub use Rattle.jsonb_functions.specs.EditSource.{here_of, keys_before, made_size, made_tree}
@@ -74,10 +80,10 @@ pub use Rattle.jsonb_functions.specs.PathText.{finds, steps_view, tail_after_exi
 pub use Rattle.jsonb_functions.specs.Picked.{AreSorted, is_named, keeps, picked}
 pub use Rattle.jsonb_functions.specs.Selected.{first_tree, indexes_of, items_before}
 pub use Rattle.jsonb_functions.specs.Selected.{items_through, selected, step_at}
-pub use Rattle.jsonb_functions.specs.Steps.{FoundIn}
+pub use Rattle.jsonb_functions.specs.Steps.{DoneBy, FoundBy}
 pub use Rattle.jsonb_functions.specs.StoredPath.{StepView, path_in, step_in, step_to, step_view}
 pub use Rattle.jsonb_functions.specs.StripSource.{FirstStripped}
 pub use Rattle.jsonb_functions.specs.Stripped.{members_stripped, stripped}
 pub use Rattle.jsonb_functions.specs.TopKeys.{hash_of_key, item_hashes, member_hashes, text_hashes}
 pub use Rattle.jsonb_functions.specs.TopKeys.{top_hashes}
-pub use Rattle.jsonb_functions.specs.Weight.{maybe_weight, pair_weights, weight, weights}
+pub use Rattle.jsonb_functions.specs.Weight.{pair_weights, weight, weights}

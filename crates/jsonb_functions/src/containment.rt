@@ -1,18 +1,23 @@
 //! Containment: whether all of one document is in another.
 
 ghost use Rattle.std.specs.Prelude.{◌≡◌, ◌≢◌, ◌<◌, ◌≤◌, ◌+◌, ◌*◌, ℕ, List, false, length};
-ghost use Rattle.std.specs.Prelude.{IfErr, IfNone, IfOk, IfSome, MatchOption, option_copied};
-ghost use Rattle.std.specs.Prelude.{option_map};
+ghost use Rattle.std.specs.Prelude.{IfErr, IfNone, IfOk, IfSome, MatchOption, is_some};
+ghost use Rattle.std.specs.Prelude.{Bool, option_copied, option_map, suc, true};
+ghost use Rattle.jsonb_functions.specs.ContainSteps.{Work};
 ghost use Rattle.jsonb_functions.specs.Scalars.{AreScalarsOf};
-ghost use Rattle.jsonb_functions.specs.Steps.{TakesAtMost};
-ghost use Rattle.jsonb_functions.specs.Words.{Ascend, FoundIn, are_equal, contained};
-ghost use Rattle.jsonb_functions.specs.Words.{contains_whole, document_tree, extension_data};
-ghost use Rattle.jsonb_functions.specs.Words.{extension_of_item, has_top_key, items_contained};
-ghost use Rattle.jsonb_functions.specs.Words.{items_or_none, maybe_weight, members_contained};
-ghost use Rattle.jsonb_functions.specs.Words.{nat_cmp, node_tree, object_of, pair_weights};
-ghost use Rattle.jsonb_functions.specs.Words.{pairs_of, rest_pairs, rest_trees, slice_cmp};
-ghost use Rattle.jsonb_functions.specs.Words.{some_tree, text, trees_of, value_of_key, weight};
-ghost use Rattle.jsonb_functions.specs.Words.{weights};
+ghost use Rattle.jsonb_functions.specs.Words.{Ascend, DoneBy, FoundBy, HoldsNoScalar};
+ghost use Rattle.jsonb_functions.specs.Words.{IsContainer, Pairs, Tree, are_equal, are_many};
+ghost use Rattle.jsonb_functions.specs.Words.{array_work, compare_steps, contained};
+ghost use Rattle.jsonb_functions.specs.Words.{contained_work, contains_whole, contains_work};
+ghost use Rattle.jsonb_functions.specs.Words.{count, document_tree, extension_data};
+ghost use Rattle.jsonb_functions.specs.Words.{extension_of_item, find_work, first_work};
+ghost use Rattle.jsonb_functions.specs.Words.{found_work, from_key, has_top_key};
+ghost use Rattle.jsonb_functions.specs.Words.{items_contained, items_or_none, length_or_none};
+ghost use Rattle.jsonb_functions.specs.Words.{members_contained, members_work, nat_cmp};
+ghost use Rattle.jsonb_functions.specs.Words.{node_tree, object_of, pair_weights, pairs_of};
+ghost use Rattle.jsonb_functions.specs.Words.{passing_steps, rest_pairs, rest_trees, slice_cmp};
+ghost use Rattle.jsonb_functions.specs.Words.{some_tree, sort_work, steps_alone, text};
+ghost use Rattle.jsonb_functions.specs.Words.{trees_of, value_of_key, weight, work_until};
 
 use crate::scalars::{Scalars, data_of};
 use crate::steps::{Unanswered, take};
@@ -30,13 +35,16 @@ const FEW: usize = 16;
 /// document that is an array also contains each scalar that is equal to one of its items.
 ///
 /// Scalars take n log n: those of an array of more than 16 items are sorted if more than 16 are
-/// looked for in it. `OutOfMemory`, the only error, if the list of them cannot be allocated;
-/// nothing else requests memory. Arrays and objects in arrays take a product of the sizes at worst:
-/// for documents that others chose there is `contains_within`.
+/// looked for in it. `OutOfMemory`, the only error, if the list of them cannot be allocated, so
+/// only where there is such a search; nothing else requests memory. Arrays and objects in arrays
+/// take a product of the sizes at worst: for documents that others chose there is
+/// `contains_within`.
 pub fn contains(alloc: Global, left: Document<'_>, right: Document<'_>) -> Result<bool, Error>
     ensures ok { IfOk result (λ is_contained. is_contained
         ≡ contains_whole (document_tree left.entry) (document_tree right.entry)) }
-    ensures memory { IfErr result (λ e. e ≡ Error.OutOfMemory) }
+    ensures memory { IfErr result (λ e. (e ≡ Error.OutOfMemory)
+        × ((contains_work (document_tree left.entry) (document_tree right.entry)).sorts
+        ≡ true)) }
 {
     let mut steps = most_steps(left, right);
     match contains_counted(alloc, left, right, &mut steps) {
@@ -53,10 +61,11 @@ pub fn contains(alloc: Global, left: Document<'_>, right: Document<'_>) -> Resul
 /// are compared and equally long. So `{"a":1}` in `{"a":1}` takes 4: for the objects, the member,
 /// its key and the numbers. If more than 16 items are looked for in an array of more than 16, there
 /// is a step in place of these for each scalar of the array, which are sorted, and for each that is
-/// looked for, and one for each of its bytes. `None` if the steps do not suffice, which is so only
-/// if they are fewer than the product of both documents' weights; the weight is the number of
+/// looked for, and one for each of its bytes. `None` exactly if these are more than `steps`. So
+/// many as the product of both documents' weights always suffice; the weight is the number of
 /// values and keys, and of the bytes of texts, keys, and binary and opaque values. `OutOfMemory` is
-/// the only error.
+/// the only error, and comes only where scalars are sorted.
+#[tactic(auto, using(crate::proofs::ContainLaws::work_below))]
 pub fn contains_within(
     alloc: Global,
     left: Document<'_>,
@@ -65,9 +74,17 @@ pub fn contains_within(
 ) -> Result<Option<bool>, Error>
     ensures some { IfOk result (λ answer. IfSome answer (λ is_contained. is_contained
         ≡ contains_whole (document_tree left.entry) (document_tree right.entry))) }
+    ensures enough { IfOk result (λ answer. IfSome answer (λ is_contained.
+        (contains_work (document_tree left.entry) (document_tree right.entry)).steps ≤ steps)) }
     ensures none { IfOk result (λ answer. IfNone answer
-        (steps < weight (document_tree left.entry) * weight (document_tree right.entry))) }
-    ensures memory { IfErr result (λ e. e ≡ Error.OutOfMemory) }
+        (steps < (contains_work (document_tree left.entry) (document_tree right.entry)).steps)) }
+
+    // So many steps always suffice.
+    ensures most { (contains_work (document_tree left.entry) (document_tree right.entry)).steps
+        ≤ weight (document_tree left.entry) * weight (document_tree right.entry) }
+    ensures memory { IfErr result (λ e. (e ≡ Error.OutOfMemory)
+        × ((contains_work (document_tree left.entry) (document_tree right.entry)).sorts
+        ≡ true)) }
 {
     let mut steps = steps as u128;
     match contains_counted(alloc, left, right, &mut steps) {
@@ -78,9 +95,10 @@ pub fn contains_within(
 }
 
 // More steps than it takes: a document has at least as many bytes as it has weight.
-#[tactic(auto, using(crate::proofs::WeightLaws::weights_below))]
+#[tactic(auto, using(crate::proofs::WeightLaws::weights_below, crate::proofs::ContainLaws::work_below))]
 fn most_steps(left: Document<'_>, right: Document<'_>) -> u128
-    ensures { weight (document_tree left.entry) * weight (document_tree right.entry) ≤ result }
+    ensures { (contains_work (document_tree left.entry) (document_tree right.entry)).steps
+        ≤ result }
 {
     left.as_bytes().len() as u128 * right.as_bytes().len() as u128
 }
@@ -92,9 +110,9 @@ fn contains_counted(
     right: Document<'_>,
     steps: &mut u128,
 ) -> Result<bool, Unanswered>
-    ensures { FoundIn result
+    ensures { FoundBy result
         (contains_whole (document_tree left.entry) (document_tree right.entry))
-        (weight (document_tree left.entry) * weight (document_tree right.entry))
+        (contains_work (document_tree left.entry) (document_tree right.entry))
         steps.old steps.new }
 {
     let wanted = right.value();
@@ -144,8 +162,10 @@ fn contains_node(
     right: Node<'_>,
     steps: &mut u128,
 ) -> Result<bool, Unanswered>
-    ensures { FoundIn result (contained (node_tree right.entry) (node_tree left.entry))
-        (weight (node_tree left.entry) * weight (node_tree right.entry)) steps.old steps.new }
+    requires left { HoldsNoScalar left }
+    requires right { HoldsNoScalar right }
+    ensures { FoundBy result (contained (node_tree right.entry) (node_tree left.entry))
+        (contained_work (node_tree right.entry) (node_tree left.entry)) steps.old steps.new }
 {
     match (left, right) {
         (Node::Container(left), Node::Container(right)) => {
@@ -158,8 +178,11 @@ fn contains_node(
 // Whether two values are equal.
 #[inline(never)]
 fn are_equal(left: Node<'_>, right: Node<'_>, steps: &mut u128) -> Result<bool, Unanswered>
-    ensures { FoundIn result (are_equal (node_tree left.entry) (node_tree right.entry))
-        (weight (node_tree left.entry)) steps.old steps.new }
+    requires left { HoldsNoScalar left }
+    requires right { HoldsNoScalar right }
+    ensures { FoundBy result (are_equal (node_tree left.entry) (node_tree right.entry))
+        (steps_alone (compare_steps (node_tree left.entry) (node_tree right.entry)))
+        steps.old steps.new }
 {
     take(steps, 1)?;
     let Some(length) = compared_len(left, right) else {
@@ -172,8 +195,12 @@ fn are_equal(left: Node<'_>, right: Node<'_>, steps: &mut u128) -> Result<bool, 
 // How many bytes are compared of two texts, or of two binary or opaque values. `None` if one of
 // them is longer, so that they differ.
 fn compared_len(left: Node<'_>, right: Node<'_>) -> Option<usize>
-    ensures { MatchOption result (are_equal (node_tree left.entry) (node_tree right.entry) ≡ false)
-        (λ length. length < weight (node_tree left.entry)) }
+    requires left { HoldsNoScalar left }
+    requires right { HoldsNoScalar right }
+    ensures differ { IfNone result
+        (are_equal (node_tree left.entry) (node_tree right.entry) ≡ false) }
+    ensures steps { compare_steps (node_tree left.entry) (node_tree right.entry)
+        ≡ suc (length_or_none result) }
 {
     match (left, right) {
         (Node::String(left), Node::String(right)) => common_len(left.as_bytes(), right.as_bytes()),
@@ -188,7 +215,7 @@ fn compared_len(left: Node<'_>, right: Node<'_>) -> Option<usize>
 #[inline(always)]
 fn common_len(left: &[u8], right: &[u8]) -> Option<usize>
     ensures { MatchOption result (length left.now ≢ length right.now)
-        (λ n. n ≡ length left.now) }
+        (λ n. (n ≡ length left.now) × (length left.now ≡ length right.now)) }
 {
     if left.len() == right.len() {
         Some(left.len())
@@ -205,8 +232,10 @@ fn contains_documents(
     right: Document<'_>,
     steps: &mut u128,
 ) -> Result<bool, Unanswered>
-    ensures { FoundIn result (contained (document_tree right.entry) (document_tree left.entry))
-        (weight (document_tree left.entry) * weight (document_tree right.entry))
+    requires left { IsContainer (document_tree left) }
+    requires right { IsContainer (document_tree right) }
+    ensures { FoundBy result (contained (document_tree right.entry) (document_tree left.entry))
+        (contained_work (document_tree right.entry) (document_tree left.entry))
         steps.old steps.new }
 {
     take(steps, 1)?;
@@ -228,12 +257,11 @@ fn contains_items(
     mut wanted: Items<'_>,
     steps: &mut u128,
 ) -> Result<bool, Unanswered>
-    ensures { FoundIn result
+    ensures { FoundBy result
         (items_contained (trees_of (rest_trees wanted.entry))
         (items_or_none (document_tree array.entry)))
-        (weights (items_or_none (document_tree array.entry))
-        + weights (items_or_none (document_tree array.entry))
-        * weights (trees_of (rest_trees wanted.entry)))
+        (array_work (trees_of (rest_trees wanted.entry))
+        (items_or_none (document_tree array.entry)))
         steps.old steps.new }
 {
     let scalars = scalars_if_many(alloc, array, wanted.len(), steps)?;
@@ -251,6 +279,7 @@ fn contains_items(
 
 // The scalars among the array's items in order, if it has many and is searched for many.
 #[inline(never)]
+#[tactic(auto, using(crate::proofs::ContainLaws::sorted_done, crate::proofs::ContainLaws::sorted_lacks, crate::proofs::ContainLaws::unsorted_done, crate::proofs::ContainLaws::none_are_many))]
 fn scalars_if_many<'a>(
     alloc: Global,
     array: Document<'a>,
@@ -259,17 +288,30 @@ fn scalars_if_many<'a>(
 ) -> Result<Option<Scalars<'a>>, Unanswered>
     ensures scalars { IfOk result (λ scalars. IfSome scalars
         (AreScalarsOf (items_or_none (document_tree array.entry)))) }
-    ensures many { IfOk result (λ scalars. IfSome scalars (λ list.
-        1 ≤ weights (items_or_none (document_tree array.entry)))) }
-    ensures cost { TakesAtMost result (weights (items_or_none (document_tree array.entry)))
-        steps.old steps.new }
+    ensures many { IfOk result (λ scalars. is_some scalars
+        ≡ are_many wanted (count (items_or_none (document_tree array.entry)))) }
+    ensures cost { DoneBy result
+        (sort_work (are_many wanted (count (items_or_none (document_tree array.entry))))
+        (items_or_none (document_tree array.entry))) steps.old steps.new }
+{
+    if !are_many(array, wanted) {
+        return Ok(None);
+    }
+    let Some(items) = array.items() else {
+        return Ok(None);
+    };
+    let scalars = Scalars::of_items(alloc, items, steps)?;
+    Ok(Some(scalars))
+}
+
+// Whether an array has many items and is searched for many.
+#[tactic(auto, using(crate::proofs::ContainLaws::items_counted, crate::proofs::ContainLaws::none_are_many))]
+fn are_many(array: Document<'_>, wanted: usize) -> bool
+    ensures { result ≡ are_many wanted (count (items_or_none (document_tree array.entry))) }
 {
     match array.items() {
-        Some(items) if wanted > FEW && items.len() > FEW => {
-            let scalars = Scalars::of_items(alloc, items, steps)?;
-            Ok(Some(scalars))
-        }
-        _ => Ok(None),
+        Some(items) => FEW < wanted && FEW < items.len(),
+        None => false,
     }
 }
 
@@ -286,11 +328,11 @@ fn has_value<'a>(
 ) -> Result<bool, Unanswered>
     requires scalars { IfSome (option_copied scalars)
         (AreScalarsOf (trees_of (rest_trees items))) }
-    requires many { IfSome (option_copied scalars) (λ list.
-        1 ≤ weights (trees_of (rest_trees items))) }
-    ensures { FoundIn result
+    requires container { HoldsNoScalar wanted }
+    ensures { FoundBy result
         (some_tree (λ t. contained (node_tree wanted.entry) t) (trees_of (rest_trees items.entry)))
-        (weights (trees_of (rest_trees items.entry)) * weight (node_tree wanted.entry))
+        (find_work (is_some (option_copied scalars.entry)) (node_tree wanted.entry)
+        (λ t. contained_work (node_tree wanted.entry) t) (trees_of (rest_trees items.entry)))
         steps.old steps.new }
 {
     match (scalars, wanted) {
@@ -308,9 +350,11 @@ fn has_item(
     wanted: Node<'_>,
     steps: &mut u128,
 ) -> Result<bool, Unanswered>
-    ensures { FoundIn result
+    requires { HoldsNoScalar wanted }
+    ensures { FoundBy result
         (some_tree (λ t. contained (node_tree wanted.entry) t) (trees_of (rest_trees items.entry)))
-        (weights (trees_of (rest_trees items.entry)) * weight (node_tree wanted.entry))
+        (work_until (λ t. contained (node_tree wanted.entry) t)
+        (λ t. contained_work (node_tree wanted.entry) t) (trees_of (rest_trees items.entry)))
         steps.old steps.new }
 {
     while let Some(item) = next_item(&mut items) {
@@ -334,12 +378,11 @@ fn contains_members(
 ) -> Result<bool, Unanswered>
     requires members { Ascend (pairs_of (rest_pairs members)) }
     requires wanted { Ascend (pairs_of (rest_pairs wanted)) }
-    ensures { FoundIn result
+    ensures { FoundBy result
         (members_contained (pairs_of (rest_pairs wanted.entry))
         (object_of (rest_pairs members.entry)))
-        (pair_weights (pairs_of (rest_pairs members.entry))
-        + pair_weights (pairs_of (rest_pairs members.entry))
-        * pair_weights (pairs_of (rest_pairs wanted.entry))) steps.old steps.new }
+        (members_work (pairs_of (rest_pairs wanted.entry)) (pairs_of (rest_pairs members.entry)))
+        steps.old steps.new }
 {
     while let Some((name, value)) = next_member(&mut wanted) {
         let Some(found) = value_at(&mut members, name, steps)? else {
@@ -354,8 +397,8 @@ fn contains_members(
 }
 
 // The value of a key among members in the order of their keys. Takes the members up to it; for all
-// later keys what is left has the same values. `TooManySteps` if the members weigh more than there
-// are steps.
+// later keys what is left has the same values. Takes a step for each member that is passed, and one
+// for each byte of its key.
 fn value_at<'a>(
     members: &mut Members<'a>,
     name: &str,
@@ -373,11 +416,17 @@ fn value_at<'a>(
     ensures weight { IfOk result (λ found. IfSome found (λ node. weight (node_tree node)
         + pair_weights (pairs_of (rest_pairs members.new))
         < pair_weights (pairs_of (rest_pairs members.old)))) }
-    ensures cost { IfOk result (λ found. steps.old + maybe_weight (option_map node_tree found)
-        + pair_weights (pairs_of (rest_pairs members.new))
-        ≤ steps.new + pair_weights (pairs_of (rest_pairs members.old))) }
+    ensures container { IfOk result (λ found. IfSome found HoldsNoScalar) }
+    ensures first { IfOk result (λ found. (passes : Tree → Bool) (work : Tree → Work)
+        (later : Pairs → Work)
+        → first_work name.now passes work later
+        (from_key name.now (pairs_of (rest_pairs members.old)))
+        ≡ found_work passes work later (pairs_of (rest_pairs members.new))
+        (option_map node_tree found)) }
+    ensures cost { IfOk result (λ found. steps.old
+        ≡ steps.new + passing_steps name.now (pairs_of (rest_pairs members.old))) }
     ensures err { IfErr result (λ e. (e ≡ Unanswered.TooManySteps)
-        × (steps.old < pair_weights (pairs_of (rest_pairs members.old)))) }
+        × (steps.old < passing_steps name.now (pairs_of (rest_pairs members.old)))) }
 {
     while let Some((key, value)) = next_member(members) {
         take(steps, 1 + key.len())?;

@@ -8,6 +8,7 @@ mod chosen;
 mod containment;
 mod digits;
 mod edit;
+mod examples;
 mod extent;
 mod filter;
 mod found;

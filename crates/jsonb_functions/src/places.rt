@@ -1,9 +1,11 @@
 //! Where the values are to which paths lead: their entries, with their positions in the bytes.
 
 ghost use Rattle.std.specs.Prelude.{◌≡◌, ◌≤◌, ◌<◌, ◌+◌, ◌^◌, [], IfOk, IfSome, drop, length};
-ghost use Rattle.std.specs.Prelude.{option_to_list};
+ghost use Rattle.std.specs.Prelude.{Ok, option_to_list};
 ghost use Rattle.std.specs.Iterator.{YieldsFirstBy};
 ghost use Rattle.jsonb.specs.Entry.{entry_there, IsEntryIn};
+ghost use Rattle.jsonb.specs.Node.{node_view};
+ghost use Rattle.jsonb.specs.StoredEntries.{entry_item};
 ghost use Rattle.jsonb.specs.declared.entries.Entry.{Entry};
 ghost use Rattle.jsonb_functions.specs.PathPlaces.{IsPlaceWithin, entries_after, header_there};
 ghost use Rattle.jsonb_functions.specs.PathPlaces.{item_entry, listed_places, member_entry, moved};
@@ -236,7 +238,8 @@ fn kept_place(bytes: &[u8], place: Entry, condition: &Condition<'_>) -> Option<E
 /// The value at a position.
 pub fn node_at_place<'a>(bytes: &'a [u8], place: Entry) -> Node<'a>
     requires { IsPart bytes.now place }
-    ensures { node_tree result ≡ tree_there bytes.entry.now place }
+    ensures tree { node_tree result ≡ tree_there bytes.entry.now place }
+    ensures item { entry_item (entry_there bytes.entry.now place) ≡ Ok (node_view result) }
 {
     Node::of_part(Part {
         type_code: place.type_code,

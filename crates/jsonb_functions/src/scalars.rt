@@ -1,13 +1,15 @@
 //! The scalars among the items of an array, in order, to be searched for many.
 
-ghost use Rattle.std.specs.Prelude.{◌≡◌, IfOk, OnOk};
+ghost use Rattle.std.specs.Prelude.{◌≡◌, IfOk, OnOk, true};
 ghost use Rattle.jsonb_value.specs.Tree.{tree};
 ghost use Rattle.jsonb_functions.specs.Scalars.{AreCollected, AreScalarsOf, HasScalars};
 ghost use Rattle.jsonb_functions.specs.Scalars.{IsScalarValue};
-ghost use Rattle.jsonb_functions.specs.Steps.{TakesAtMost};
-ghost use Rattle.jsonb_functions.specs.Words.{FoundIn, HoldsNoScalar, Trees, contained};
-ghost use Rattle.jsonb_functions.specs.Words.{extension_data, extension_of_item, node_tree};
-ghost use Rattle.jsonb_functions.specs.Words.{rest_trees, some_tree, trees_of, weight, weights};
+ghost use Rattle.jsonb_functions.specs.ContainSteps.{Work};
+ghost use Rattle.jsonb_functions.specs.Steps.{Takes};
+ghost use Rattle.jsonb_functions.specs.Words.{FoundBy, HoldsNoScalar, Tree, Trees, contained};
+ghost use Rattle.jsonb_functions.specs.Words.{extension_data, extension_of_item, find_work};
+ghost use Rattle.jsonb_functions.specs.Words.{node_tree, rest_trees, scalar_weight};
+ghost use Rattle.jsonb_functions.specs.Words.{scalar_weights, some_tree, trees_of, weight};
 
 use crate::steps::{Unanswered, take};
 use crate::walk::next_item;
@@ -26,7 +28,7 @@ impl<'a> Scalars<'a> {
     #[inline(never)]
     pub fn of_items(alloc: Global, items: Items<'a>, steps: &mut u128) -> Result<Self, Unanswered>
         ensures scalars { IfOk result (AreScalarsOf (trees_of (rest_trees items.entry))) }
-        ensures cost { TakesAtMost result (weights (trees_of (rest_trees items.entry)))
+        ensures cost { Takes result (scalar_weights (trees_of (rest_trees items.entry)))
             steps.old steps.new }
     {
         let mut sorted = scalars_of(alloc, items, steps)?;
@@ -38,9 +40,9 @@ impl<'a> Scalars<'a> {
     #[inline(never)]
     pub fn has(&self, wanted: Node<'a>, steps: &mut u128) -> Result<bool, Unanswered>
         requires { IsScalarValue wanted }
-        ensures { (ts : Trees) → AreScalarsOf ts self.now → FoundIn result
+        ensures { (ts : Trees) (work : Tree → Work) → AreScalarsOf ts self.now → FoundBy result
             (some_tree (λ t. contained (node_tree wanted.entry) t) ts)
-            (weight (node_tree wanted.entry)) steps.old steps.new }
+            (find_work true (node_tree wanted.entry) work ts) steps.old steps.new }
     {
         take(steps, cost_of(wanted))?;
         Ok(self.sorted.binary_search(&wanted).is_ok())
@@ -54,7 +56,7 @@ fn scalars_of<'a>(
     steps: &mut u128,
 ) -> Result<Vec<Node<'a>>, Unanswered>
     ensures same { IfOk result (λ list. HasScalars (trees_of (rest_trees items.entry)) list.items) }
-    ensures cost { TakesAtMost result (weights (trees_of (rest_trees items.entry)))
+    ensures cost { Takes result (scalar_weights (trees_of (rest_trees items.entry)))
         steps.old steps.new }
 {
     let mut list = Vec::new(alloc);
@@ -74,7 +76,7 @@ fn keep_scalar<'a>(
     ensures kept { OnOk result ((ts rest : Trees)
         → AreCollected ts list.old.items (tree (node_tree item.entry) rest)
         → AreCollected ts list.new.items rest) }
-    ensures cost { TakesAtMost result (weight (node_tree item.entry)) steps.old steps.new }
+    ensures cost { Takes result (scalar_weight (node_tree item.entry)) steps.old steps.new }
 {
     if let Node::Container(_) = item {
         return Ok(());

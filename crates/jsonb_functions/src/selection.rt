@@ -5,8 +5,8 @@ ghost use Rattle.std.specs.Prelude.{IfSome, MatchOption, MatchResult, Ok, OnOk, 
 ghost use Rattle.std.specs.Prelude.{option_map, suc};
 ghost use Rattle.std.specs.List.{sum_by};
 ghost use Rattle.jsonb.specs.Document.{document_bytes};
-ghost use Rattle.jsonb_functions.specs.PathPlaces.{first_entry, selected_from, selected_places};
-ghost use Rattle.jsonb_functions.specs.PathPlaces.{tree_there, whole_place};
+ghost use Rattle.jsonb_functions.specs.PathPlaces.{AreItemsAt, first_entry, selected_from};
+ghost use Rattle.jsonb_functions.specs.PathPlaces.{selected_places, tree_there, whole_place};
 ghost use Rattle.jsonb_functions.specs.PlaceWalks.{AreAllParts, IsPart, LeadsOn, steps_left};
 ghost use Rattle.jsonb_functions.specs.SelectSteps.{asked, extent, extents, path_size};
 ghost use Rattle.jsonb_functions.specs.SelectSteps.{select_steps, term_steps};
@@ -56,6 +56,10 @@ pub fn select<'a>(
 ) -> Result<Vec<Node<'a>>, Error>
     ensures ok { IfOk result (λ nodes. map node_tree nodes.items
         ≡ selected path.now (document_tree document.entry)) }
+
+    // They have the types and payloads of the entries at the selected places.
+    ensures entries { IfOk result (λ nodes. AreItemsAt (document_bytes document.entry)
+        (selected_places path.now (document_bytes document.entry)) nodes.items) }
     ensures memory { IfErr result (λ e. e ≡ Error.OutOfMemory) }
 {
     let places = select_places(alloc, document, path)?;
@@ -89,6 +93,7 @@ fn nodes_at<'a>(alloc: Global, bytes: &'a [u8], places: &[Entry]) -> Result<Vec<
     requires { AreAllParts bytes.now places.now }
     ensures ok { IfOk result (λ nodes. map node_tree nodes.items
         ≡ map (tree_there bytes.entry.now) places.now) }
+    ensures items { IfOk result (λ nodes. AreItemsAt bytes.entry.now places.now nodes.items) }
     ensures memory { IfErr result (λ e. e ≡ Error.OutOfMemory) }
 {
     let mut nodes = Vec::with_capacity(alloc, places.len())?;
@@ -133,6 +138,11 @@ pub fn select_within<'a>(
 ) -> Result<Option<Vec<Node<'a>>>, Error>
     ensures some { IfOk result (λ answer. IfSome answer (λ nodes. map node_tree nodes.items
         ≡ selected path.now (document_tree document.entry))) }
+
+    // They have the types and payloads of the entries at the selected places.
+    ensures entries { IfOk result (λ answer. IfSome answer (λ nodes.
+        AreItemsAt (document_bytes document.entry)
+        (selected_places path.now (document_bytes document.entry)) nodes.items)) }
     ensures enough { IfOk result (λ answer. IfSome answer (λ nodes.
         select_steps path.now (document_tree document.entry) ≤ steps)) }
     ensures none { IfOk result (λ answer. IfNone answer

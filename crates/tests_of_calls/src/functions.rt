@@ -2,9 +2,9 @@
 use jsonb::{Document, Error, Node, Number, NumberItem, OwnedJsonb};
 use jsonb_functions::{
     Bound, Comparison, Condition, Edit, Selector, Step, Term, Test, append_index_keys,
-    append_top_keys, concat, contains, document_of_path, edit_document, exists, exists_path,
-    get_path, merge_patch, read_path, read_path_text, select, select_first, select_within,
-    steps_of_path, strip_nulls, top_key,
+    append_top_keys, concat, contains, contains_within, document_of_path, edit_document, exists,
+    exists_path, get_path, merge_patch, read_path, read_path_text, select, select_first,
+    select_within, steps_of_path, strip_nulls, top_key,
 };
 use std::alloc::Global;
 use std::test::Fail;
@@ -50,6 +50,50 @@ fn documents_that_contain_others(rt: HostRuntime) -> Result<(), Fail> {
         assert!(rt;
             is_contained(rt.alloc(), left, right)? == is_in,
             "{left} and {right}"
+        );
+    }
+    Ok(())
+}
+
+// Two texts, and how many steps it takes to find out whether the first one's value contains the
+// second one's.
+const STEPS_TO_CONTAIN: &[(&str, &str, usize)] = &[
+    ("{\"a\":1}", "{\"a\":1}", 4),
+    ("{\"a\":1,\"bc\":2,\"d\":3}", "{\"bc\":2}", 7),
+    ("{\"a\":1,\"bc\":2,\"d\":3}", "{\"b\":2}", 6),
+    ("{\"a\":1}", "[1]", 1),
+    ("[1,2,3]", "3", 3),
+    ("[1,2,3]", "[3,1]", 5),
+    ("[1,2,3]", "[4,1]", 4),
+    ("\"abc\"", "\"abd\"", 4),
+    ("\"abc\"", "\"ab\"", 1),
+    (NINE_TWICE, "[9,8,7,6,5,4,3,2,1,9,8,7,6,5,4,3,2,1]", 37),
+    (NINE_TWICE, "[10,8,7,6,5,4,3,2,1,9,8,7,6,5,4,3,2,1]", 20),
+];
+
+// What a search with so many steps answers.
+fn contained_within(
+    alloc: Global,
+    left: &str,
+    right: &str,
+    steps: usize,
+) -> Result<Option<bool>, Error> {
+    let left = OwnedJsonb::parse(alloc, left)?;
+    let right = OwnedJsonb::parse(alloc, right)?;
+    contains_within(alloc, document_of(&left)?, document_of(&right)?, steps)
+}
+
+#[test]
+fn values_contained_in_so_many_steps(rt: HostRuntime) -> Result<(), Fail> {
+    for &(left, right, steps) in STEPS_TO_CONTAIN {
+        let is_contained = is_contained(rt.alloc(), left, right)?;
+        assert!(rt;
+            contained_within(rt.alloc(), left, right, steps)? == Some(is_contained),
+            "{left} and {right}"
+        );
+        assert!(rt;
+            contained_within(rt.alloc(), left, right, steps - 1)?.is_none(),
+            "{left} and {right} in fewer"
         );
     }
     Ok(())
@@ -217,10 +261,14 @@ const PATH_TEXTS: &[(&str, Option<&[u64]>)] = &[
     ("$.segments[last].HR", Some(&[135])),
     ("$.segments[last - 1].HR", Some(&[73])),
     ("$.segments[last-1].at[last]", Some(&[13])),
+    ("$.segments[last -1].HR", Some(&[73])),
+    ("$.segments[last- 1].HR", Some(&[73])),
     ("$.segments[last - 2].HR", Some(&[])),
     ("$.segments[last - 1 to last].HR", Some(&[73, 135])),
     ("$.segments[0 to last].at[0]", Some(&[47, 46])),
     ("$.segments[1, 0,last,1].HR", Some(&[135, 73, 135, 135])),
+    ("$.segments[ 0,1].HR", Some(&[73, 135])),
+    ("$.segments[ 0].HR", None),
     ("$.segments[last - 1, 7, #-1].at[1]", Some(&[13, 12])),
     ("$.segments[last - 1, 7, #-1].at[1, 0]", None),
     ("$.*[0, #].HR[0, 1]", None),

@@ -1,5 +1,5 @@
-// Zone maps of a column of seven rows.
-use jsonb::{Document, Error, Reads};
+// Zone maps of a column of seven rows, and rows that nest too deep.
+use jsonb::{Document, Error, ParseError, Reads};
 use jsonb_column::{Column, Zones};
 use std::alloc::Global;
 use std::ops::Bound;
@@ -83,5 +83,21 @@ fn rows_of_an_open_range_are_selected(rt: HostRuntime) -> Result<(), Fail> {
         let low = Bound::Excluded(five);
         assert!(rt; between(rt.alloc(), 1, low, Bound::Unbounded)?.as_str() == days);
     }
+    Ok(())
+}
+
+// The row [[]] in stored form, and a row of no bytes.
+const NESTED_ROW: &[u8] = b"\0\0\0\0\0\0\0\x0c\x80\0\0\x01\x50\0\0\x04\x80\0\0\0";
+
+const EMPTY_ROW: &[u8] = b"\0\0\0\0\0\0\0\0";
+
+#[test]
+fn rows_too_deep_have_an_error_of_their_own(rt: HostRuntime) -> Result<(), Fail> {
+    let alloc = rt.alloc();
+    assert!(rt; Column::read_within(alloc, NESTED_ROW, 2)?.len() == 1);
+    let deep = Column::read_within(alloc, NESTED_ROW, 1);
+    assert!(rt; matches!(deep, Err(ParseError::TooDeep)));
+    let faulty = Column::read_within(alloc, EMPTY_ROW, 1);
+    assert!(rt; matches!(faulty, Err(ParseError::Refused(Error::InvalidJsonb))));
     Ok(())
 }

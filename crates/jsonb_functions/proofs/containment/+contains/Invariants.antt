@@ -1,6 +1,7 @@
 -- Each call goes to smaller values, and what is left of a walk decides as the whole does.
 use Rattle.std.proofs.Common.{◌≡◌, ◌+◌, ◌*◌, ◌≤◌, length}
-use Rattle.std.specs.Prelude.{IfSome}
+use Rattle.std.specs.Prelude.{IfSome, is_some}
+use Rattle.jsonb_value.specs.Tree.{count}
 use Rattle.jsonb_value.specs.Value.{trees_of}
 use Rattle.jsonb.specs.Document.{document_tree}
 use Rattle.jsonb.specs.EntryTrees.{rest_trees, rest_pairs}
@@ -8,8 +9,12 @@ use Rattle.jsonb_value.specs.Tree.{Ascend}
 use Rattle.jsonb.specs.Node.{node_tree, pairs_of, object_of}
 use Rattle.jsonb_functions.specs.Contains.{contained, items_contained, some_tree, members_contained}
 use Rattle.jsonb_functions.specs.Contains.{items_or_none}
+use Rattle.jsonb_functions.specs.ContainSteps.{are_many, contained_work, items_work, members_work}
+use Rattle.jsonb_functions.specs.ContainSteps.{work_until}
+use Rattle.jsonb_functions.specs.ContainWalks.{array_work}
 use Rattle.jsonb_functions.specs.Scalars.{AreScalarsOf}
 use Rattle.jsonb_functions.specs.Weight.{weight, weights, pair_weights}
+use Rattle.jsonb_functions.proofs.ContainLaws.{Remains}
 use Rattle.jsonb_functions.proofs.containment.+contains.Given as goal
 
 abbrev pub decreases-contains_node : goal.decreases-contains_node
@@ -41,16 +46,15 @@ invariant-contains_items-loop-item l = record {
   decides : items_contained (trees_of (rest_trees l.fn.wanted))
       (items_or_none (document_tree l.fn.array))
       ≡ items_contained (trees_of (rest_trees l.wanted)) (items_or_none (document_tree l.fn.array));
-  spent : l.fn.steps
-      + weights (items_or_none (document_tree l.fn.array))
-      * weights (trees_of (rest_trees l.wanted))
-      ≤ l.steps
-      + (weights (items_or_none (document_tree l.fn.array))
-      + weights (items_or_none (document_tree l.fn.array))
-      * weights (trees_of (rest_trees l.fn.wanted)));
+  work : Remains (array_work (trees_of (rest_trees l.fn.wanted))
+      (items_or_none (document_tree l.fn.array)))
+      (items_work (is_some l.scalars) (trees_of (rest_trees l.wanted))
+      (items_or_none (document_tree l.fn.array))) l.fn.steps l.steps;
   less : weights (trees_of (rest_trees l.wanted)) ≤ weights (trees_of (rest_trees l.fn.wanted));
   scalars : IfSome l.scalars (AreScalarsOf (items_or_none (document_tree l.fn.array)));
-  many : IfSome l.scalars (λ list. 1 ≤ weights (items_or_none (document_tree l.fn.array)));
+  many : is_some l.scalars
+      ≡ are_many (length (rest_trees l.fn.wanted))
+      (count (items_or_none (document_tree l.fn.array)));
 }
 
 abbrev pub decreases-contains_items-loop-item : goal.decreases-contains_items-loop-item
@@ -60,8 +64,11 @@ abbrev pub invariant-has_item-loop-item : goal.invariant-has_item-loop-item
 invariant-has_item-loop-item l = record {
   decides : some_tree (λ t. contained (node_tree l.fn.wanted) t) (trees_of (rest_trees l.fn.items))
       ≡ some_tree (λ t. contained (node_tree l.fn.wanted) t) (trees_of (rest_trees l.items));
-  spent : l.fn.steps + weights (trees_of (rest_trees l.items)) * weight (node_tree l.fn.wanted)
-      ≤ l.steps + weights (trees_of (rest_trees l.fn.items)) * weight (node_tree l.fn.wanted);
+  work : Remains (work_until (λ t. contained (node_tree l.fn.wanted) t)
+      (λ t. contained_work (node_tree l.fn.wanted) t) (trees_of (rest_trees l.fn.items)))
+      (work_until (λ t. contained (node_tree l.fn.wanted) t)
+      (λ t. contained_work (node_tree l.fn.wanted) t) (trees_of (rest_trees l.items)))
+      l.fn.steps l.steps;
   less : weights (trees_of (rest_trees l.items)) ≤ weights (trees_of (rest_trees l.fn.items));
 }
 
@@ -73,13 +80,10 @@ invariant-contains_members-loop-name l = record {
   decides : members_contained (pairs_of (rest_pairs l.fn.wanted))
       (object_of (rest_pairs l.fn.members))
       ≡ members_contained (pairs_of (rest_pairs l.wanted)) (object_of (rest_pairs l.members));
-  spent : l.fn.steps
-      + pair_weights (pairs_of (rest_pairs l.members))
-      + pair_weights (pairs_of (rest_pairs l.fn.members))
-      * pair_weights (pairs_of (rest_pairs l.wanted))
-      ≤ l.steps + (pair_weights (pairs_of (rest_pairs l.fn.members))
-      + pair_weights (pairs_of (rest_pairs l.fn.members))
-      * pair_weights (pairs_of (rest_pairs l.fn.wanted)));
+  work : Remains (members_work (pairs_of (rest_pairs l.fn.wanted))
+      (pairs_of (rest_pairs l.fn.members)))
+      (members_work (pairs_of (rest_pairs l.wanted)) (pairs_of (rest_pairs l.members)))
+      l.fn.steps l.steps;
   members : Ascend (pairs_of (rest_pairs l.members));
   wanted : Ascend (pairs_of (rest_pairs l.wanted));
   less : pair_weights (pairs_of (rest_pairs l.wanted))

@@ -1,43 +1,38 @@
-use Rattle.std.proofs.Common.{arith, rules, subst, sym}
+use Rattle.std.proofs.Common.{◌∙◌, rules, subst, sym}
 use Rattle.jsonb.specs.Document.{document_tree}
 use Rattle.jsonb.specs.EntryTrees.{rest_trees}
-use Rattle.jsonb_functions.specs.Scalars.{AreScalarsOf}
-use Rattle.jsonb_functions.proofs.ScalarLaws.{items_here, many_weigh}
-use Rattle.jsonb_functions.proofs.StepLaws.{ended}
+use Rattle.jsonb_value.specs.Value.{trees_of}
 use Rattle.jsonb_comparable.proofs.WalkLaws.{array_items}
-use Rattle.jsonb_functions.proofs.WeightLaws.{items_within}
+use Rattle.jsonb_functions.specs.Contains.{items_or_none}
+use Rattle.jsonb_functions.specs.Scalars.{AreScalarsOf}
+use Rattle.jsonb_functions.proofs.ContainLaws.{sort_ended, sorted_done}
+use Rattle.jsonb_functions.proofs.ScalarLaws.{items_here}
 use Rattle.jsonb_functions.proofs.containment.scalars_if_many.Goals as goal
 
-pub returns-in_err-scalars-in-Some-clause-cost : goal.returns-in_err-scalars-in-Some-clause-cost
-returns-in_err-scalars-in-Some-clause-cost c =
+pub returns-in_err-scalars-clause-cost : goal.returns-in_err-scalars-clause-cost
+returns-in_err-scalars-clause-cost c =
     let whole = array_items (document_tree c.args.array) (rest_trees c.in-Some.items)
     c.in-Some.ensures in
-    ended _ _ _ _ _ _ _ (search rules)
-    (λ short. omega (arith, short, items_within _ _ whole)) c.in_err-scalars-in-Some.ensures.cost
+    sort_ended _ c.in_err-scalars.field-0.0 (items_or_none (document_tree c.args.array))
+    (trees_of (rest_trees c.in-Some.items)) _ c.args.steps.now _ (search rules)
+    (sym c.are_many.ensures ∙ c.if-not-are_many.false)
+    (items_here (document_tree c.args.array) (rest_trees c.in-Some.items) whole)
+    c.in_err-scalars.ensures.cost
 
-pub returns-in_ok-scalars-in-Some-clause-scalars :
-    goal.returns-in_ok-scalars-in-Some-clause-scalars
-returns-in_ok-scalars-in-Some-clause-scalars c =
+pub returns-clause-scalars : goal.returns-clause-scalars
+returns-clause-scalars c =
     let whole = array_items (document_tree c.args.array) (rest_trees c.in-Some.items)
     c.in-Some.ensures in
-    subst (λ ts. AreScalarsOf ts c.in_ok-scalars-in-Some.scalars)
+    subst (λ ts. AreScalarsOf ts c.in_ok-scalars.scalars)
     (sym (items_here (document_tree c.args.array) (rest_trees c.in-Some.items) whole))
-    c.in_ok-scalars-in-Some.ensures.scalars
+    c.in_ok-scalars.ensures.scalars
 
-pub returns-in_ok-scalars-in-Some-clause-many : goal.returns-in_ok-scalars-in-Some-clause-many
-returns-in_ok-scalars-in-Some-clause-many c =
+pub returns-clause-cost : goal.returns-clause-cost
+returns-clause-cost c =
     let whole = array_items (document_tree c.args.array) (rest_trees c.in-Some.items)
     c.in-Some.ensures in
-    omega (
-      arith,
-      c.if-len-gt-FEW.true,
-      c.len.ensures,
-      many_weigh (rest_trees c.in-Some.items),
-      items_within _ _ whole,
-    )
-
-pub returns-in_ok-scalars-in-Some-clause-cost : goal.returns-in_ok-scalars-in-Some-clause-cost
-returns-in_ok-scalars-in-Some-clause-cost c =
-    let whole = array_items (document_tree c.args.array) (rest_trees c.in-Some.items)
-    c.in-Some.ensures in
-    omega (arith, c.in_ok-scalars-in-Some.ensures.cost, items_within _ _ whole)
+    sorted_done (items_or_none (document_tree c.args.array))
+    (trees_of (rest_trees c.in-Some.items)) _ c.args.steps.now _
+    (sym c.are_many.ensures ∙ c.if-not-are_many.false)
+    (items_here (document_tree c.args.array) (rest_trees c.in-Some.items) whole)
+    c.in_ok-scalars.ensures.cost

@@ -4,8 +4,8 @@ use Rattle.jsonb.proofs.EntryTreeLaws.{entry_tree-is}
 use Rattle.jsonb.specs.Entry.{entry_there}
 use Rattle.jsonb_functions.proofs.places.node_at_place.Goals as goal
 
-pub returns : goal.returns
-returns c =
+pub returns-clause-tree : goal.returns-clause-tree
+returns-clause-tree c =
     let t = c.requires.0 in
     let type = c.args.place.type_code in
     let payload = (entry_there c.args.bytes.now c.args.place).payload in

@@ -1,10 +1,9 @@
 use Rattle.std.proofs.Common.{arith, rules}
 use Rattle.jsonb.specs.EntryTrees.{rest_trees}
 use Rattle.jsonb.specs.Node.{node_tree}
-use Rattle.jsonb_functions.specs.Weight.{weight}
-use Rattle.jsonb_functions.proofs.ScalarLaws.{collected_all}
-use Rattle.jsonb_functions.proofs.StepLaws.{ended}
-use Rattle.jsonb_functions.proofs.WeightLaws.{items_weights}
+use Rattle.jsonb_functions.specs.ContainSteps.{scalar_weight}
+use Rattle.jsonb_functions.proofs.ScalarLaws.{collected_all, scalars_first}
+use Rattle.jsonb_functions.proofs.StepLaws.{takes_short}
 use Rattle.jsonb_functions.proofs.scalars.scalars_of.Goals as goal
 
 pub loop-item-preserved : goal.loop-item-preserved
@@ -13,7 +12,7 @@ loop-item-preserved c = record {
       (rw c.in-Some.ensures.steps at c.loop-item.invariant.collected);
   spent = omega (
     arith,
-    items_weights (rest_trees c.loop-item.items) (node_tree c.in-Some.item)
+    scalars_first (rest_trees c.loop-item.items) (node_tree c.in-Some.item)
         (rest_trees c.next_item.new.items) c.in-Some.ensures.steps,
     c.loop-item.invariant.spent,
     c.in_ok-keep_scalar.ensures.cost,
@@ -26,10 +25,10 @@ returns-clause-same c =
 
 pub returns-in_err-keep_scalar-clause-cost : goal.returns-in_err-keep_scalar-clause-cost
 returns-in_err-keep_scalar-clause-cost c =
-    ended _ _ _ (weight (node_tree c.in-Some.item)) _ _ _ (search rules)
+    takes_short _ _ _ (scalar_weight (node_tree c.in-Some.item)) _ _ _ (search rules)
     (λ short. omega (
       arith,
-      items_weights (rest_trees c.loop-item.items) (node_tree c.in-Some.item)
+      scalars_first (rest_trees c.loop-item.items) (node_tree c.in-Some.item)
           (rest_trees c.next_item.new.items) c.in-Some.ensures.steps,
       c.loop-item.invariant.spent,
       short,

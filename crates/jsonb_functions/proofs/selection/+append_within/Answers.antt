@@ -21,7 +21,7 @@ loop-next-init t c =
         steps_first left s bytes place walk some first are c.requires,
         rw c.in-Some.is at c.in_ok-left.ensures.cost,
         c.in_ok-ask.ensures,
-        ap (asked s) c.node_at_place.ensures,
+        ap (asked s) c.node_at_place.ensures.tree,
       );
       parts = walk_parts s bytes place walk c.requires are;
     }

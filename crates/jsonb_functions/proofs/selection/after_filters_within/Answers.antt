@@ -17,10 +17,10 @@ loop-left-preserved c =
     let place = c.args.place in
     let some = c.in-len1-up.len_at_least in
     let first : get_or left 0 s ≡ s = cc (c.selector-item.is) in
-    let asks = ap₂ (λ t ts. sum_by (λ term. term_steps term t) ts) c.node_at_place-node.ensures
+    let asks = ap₂ (λ t ts. sum_by (λ term. term_steps term t) ts) c.node_at_place-node.ensures.tree
     c.deref.ensures.value in
     let is : holds condition (tree_there bytes place) ≡ true =
-    cc (c.holds.ensures, c.if-not-holds.false, c.node_at_place-node.ensures) in record {
+    cc (c.holds.ensures, c.if-not-holds.false, c.node_at_place-node.ensures.tree) in record {
       leads = (
         c.loop-left.invariant.leads.0
             ∙ kept_on left s condition bytes place some first c.in-Filter.is is,
@@ -39,7 +39,7 @@ pub returns-then-not-holds-clause-kept : goal.returns-then-not-holds-clause-kept
 returns-then-not-holds-clause-kept c =
     let condition = c.in-Filter.condition in
     let is : holds condition (tree_there c.args.bytes.now c.args.place) ≡ false =
-    cc (c.holds.ensures, c.if-not-holds.true, c.node_at_place-node.ensures) in
+    cc (c.holds.ensures, c.if-not-holds.true, c.node_at_place-node.ensures.tree) in
     c.loop-left.invariant.leads.0
     ∙ left_out c.loop-left.left.now c.selector-item.result condition c.args.bytes.now
     c.args.place c.in-len1-up.len_at_least (cc (c.selector-item.is)) c.in-Filter.is is
@@ -47,10 +47,10 @@ returns-then-not-holds-clause-kept c =
 pub returns-then-not-holds-clause-cost : goal.returns-then-not-holds-clause-cost
 returns-then-not-holds-clause-cost c =
     let condition = c.in-Filter.condition in
-    let asks = ap₂ (λ t ts. sum_by (λ term. term_steps term t) ts) c.node_at_place-node.ensures
+    let asks = ap₂ (λ t ts. sum_by (λ term. term_steps term t) ts) c.node_at_place-node.ensures.tree
     c.deref.ensures.value in
     let is : holds condition (tree_there c.args.bytes.now c.args.place) ≡ false =
-    cc (c.holds.ensures, c.if-not-holds.true, c.node_at_place-node.ensures) in
+    cc (c.holds.ensures, c.if-not-holds.true, c.node_at_place-node.ensures.tree) in
     omega (
       arith,
       c.loop-left.invariant.taken,
@@ -64,7 +64,7 @@ returns-then-not-holds-clause-cost c =
 pub returns-in_err-ask_terms-clause-cost : goal.returns-in_err-ask_terms-clause-cost
 returns-in_err-ask_terms-clause-cost c =
     let condition = c.in-Filter.condition in
-    let asks = ap₂ (λ t ts. sum_by (λ term. term_steps term t) ts) c.node_at_place-node.ensures
+    let asks = ap₂ (λ t ts. sum_by (λ term. term_steps term t) ts) c.node_at_place-node.ensures.tree
     c.deref.ensures.value in
     let most = steps_some c.loop-left.left.now c.selector-item.result condition c.args.bytes.now
     c.args.place c.in-len1-up.len_at_least (cc (c.selector-item.is)) c.in-Filter.is c.requires in

@@ -5,7 +5,7 @@ use Rattle.jsonb_functions.proofs.selection.select_first.Goals as goal
 
 pub returns-in-Some : goal.returns-in-Some
 returns-in-Some c =
-    ap Some c.node_at_place.ensures
+    ap Some c.node_at_place.ensures.tree
     ∙ first_found c.args.path.now c.as_bytes-bytes.result.now (document_bytes c.args.document)
     (document_tree c.args.document) c.whole_of.result (Some c.in-Some.place)
     c.as_bytes-bytes.ensures.bytes c.whole_of.ensures.part c.whole_of.ensures.tree
