@@ -302,6 +302,7 @@ pub record Scanned (name : List ℕ) (size count : ℕ) (low high : Bound Tree)
   pub within : start ≤ length rows
   pub left : ∥ AreZones name size count (drop start rows) (drop i zones) ∥₁
   pub found_are : found ≡ filter (has_member_within name low high) (take start rows)
+  pub rises : initial ≤ reads
   pub few : reads ≤ initial + most_reads (take start rows)
   pub blocks : (blocks : List (List (List ℕ))) → AreBlocks count rows blocks
       → AreBlocks count (drop start rows) (drop i blocks)
@@ -318,10 +319,11 @@ pub scanned_more : (name : List ℕ) (size count : ℕ) (low high : Bound Tree)
     → Scanned name size count low high rows zones initial i start found reads
     → next ≡ start + m
     → new ≡ found ++ filter (has_member_within name low high) (take count (drop start rows))
+    → reads ≤ new_reads
     → new_reads ≤ reads + block_reads name size low high (take count (drop start rows))
     → Scanned name size count low high rows zones initial (i + 1) next new new_reads
 scanned_more name size count low high rows zones initial i start found reads m next new new_reads
-    zone lt m_is so_far next_is new_is few =
+    zone lt m_is so_far next_is new_is on few =
     let rest = drop start rows in
     let block = take count rest in
     let later = ap (λ n. drop n rows) next_is ∙ later_is count rows start m m_is in
@@ -333,6 +335,7 @@ scanned_more name size count low high rows zones initial i start found reads m n
           (sym later) (zone_at name size count rest zones i zone lt are).1.1);
       found_are = rows_more (has_member_within name low high) (take start rows) block
           (take next rows) found new all so_far.found_are new_is;
+      rises = omega (arith, so_far.rises, on);
       few = omega (
         arith,
         few,

@@ -2,7 +2,8 @@
 use Rattle.std.proofs.Common.{◌≡◌, ℕ, ◌+◌, ◌<◌, ◌^◌, List, [], ◌∷◌, ◌++◌, length, take, drop, refl}
 use Rattle.std.proofs.Common.{◌⊎◌, inl, inr, sym, ap, ap₂, subst, ◌∙◌, arith, append_assoc}
 use Rattle.std.proofs.Common.{Result, Ok, Err}
-use Rattle.std.specs.Prelude.{All, IfErr, IsErrAnd, slice_index_or}
+use Rattle.std.specs.Prelude.{All, IfErr, IfSome, IsErrAnd, MatchOption, MatchResult, None, Option}
+use Rattle.std.specs.Prelude.{Some, slice_index_or}
 use Rattle.std.specs.Int.{w64, to_be_bytes, from_be_bytes}
 use Rattle.std.specs.List.{concat}
 use Rattle.std.proofs.Math.Seq.{drop-append_seam, take-append_seam}
@@ -12,9 +13,10 @@ use Rattle.std.proofs.lemmas.Nat.{from_be_bytes-to_be_bytes_8}
 use Rattle.jsonb_value.specs.declared.error.Error.{Error}
 use Rattle.jsonb_value.specs.declared.error.Error.TheVariants.{InvalidEOF, InvalidJsonb}
 use Rattle.jsonb_value.specs.declared.error.Error.TheVariants.{OutOfMemory}
+use Rattle.jsonb_codec.specs.Depth.{IsDocumentWithin}
 use Rattle.jsonb_codec.specs.Doc.{IsDocument}
 use Rattle.jsonb_column.specs.Storage.{row_bytes, storage, IsRow, AreStoredRows, IsCut}
-use Rattle.jsonb_column.specs.Storage.{HasFaultyRow}
+use Rattle.jsonb_column.specs.Storage.{HasDeepRow, HasFaultyRow}
 
 pub length-row_bytes : (row : List ℕ) → length (row_bytes row) ≡ 8 + length row
 length-row_bytes row = length-append (to_be_bytes w64 (length row)) row
@@ -260,14 +262,19 @@ cut_or_faulty bytes cut faulty =
     faulty.short faulty.no_document (sym cut.parts ∙ faulty.parts)
 
 -- A call that refuses a row reports the reason.
-pub cut_refused : {T : Type 0} (bytes : List ℕ) (r : Result T Error) (e : Error)
+pub refused_as : {T : Type 0} (P : T → Type 0) (Q : Error → Type 0) (r : Result T Error)
+    (e : Error) → IsErrAnd r (λ x. x ≡ e) → Q e → MatchResult r P Q
+refused_as P Q (Ok x) e is q = absurd is
+refused_as P Q (Err x) e is q = rw is q
+
+pub cut_refused : {T : Type 0} (P : T → Type 0) (bytes : List ℕ) (r : Result T Error) (e : Error)
     → IsErrAnd r (λ x. x ≡ e) → (e ≡ InvalidJsonb) ⊎ (e ≡ OutOfMemory)
     → (e ≡ InvalidJsonb → HasFaultyRow bytes) → IsCut bytes
-    → IsErrAnd r (λ x. (x ≡ InvalidEOF) ⊎ (x ≡ OutOfMemory))
-cut_refused bytes (Ok x) e is kind faulty cut = absurd is
-cut_refused bytes (Err x) e is (inl kind) faulty cut =
+    → MatchResult r P (λ x. (x ≡ InvalidEOF) ⊎ (x ≡ OutOfMemory))
+cut_refused P bytes (Ok x) e is kind faulty cut = absurd is
+cut_refused P bytes (Err x) e is (inl kind) faulty cut =
     absurd (cut_or_faulty bytes cut (faulty kind))
-cut_refused bytes (Err x) e is (inr kind) faulty cut = inr (is ∙ kind)
+cut_refused P bytes (Err x) e is (inr kind) faulty cut = inr (is ∙ kind)
 
 pub told_memory : {T : Type 0} (bytes : List ℕ) (r : Result T Error) (e : Error)
     → IsErrAnd r (λ x. x ≡ e) → (e ≡ InvalidJsonb) ⊎ (e ≡ OutOfMemory)
@@ -277,3 +284,30 @@ told_memory bytes (Ok x) e is kind faulty rows all = absurd is
 told_memory bytes (Err x) e is (inl kind) faulty rows all =
     absurd (not_faulty bytes rows all (faulty kind))
 told_memory bytes (Err x) e is (inr kind) faulty rows all = is ∙ kind
+
+-- Rows that were read nest within the depth, if one is given.
+pub shallow_more : (depth : Option ℕ) (rows : List (List ℕ)) (row : List ℕ)
+    → IfSome depth (λ d. All (IsDocumentWithin d) rows) → IsDocument row
+    → IfSome depth (λ d. IsDocument row → IsDocumentWithin d row)
+    → IfSome depth (λ d. All (IsDocumentWithin d) (rows ++ row ∷ []))
+shallow_more None rows row all is within = tt
+shallow_more (Some d) rows row all is within =
+    All-push (IsDocumentWithin d) rows row all (within is)
+
+-- A row that does not is the first that is too deep.
+pub deep_row : (depth : Option ℕ) (bytes rest row later : List ℕ) (rows : List (List ℕ))
+    → IsRead bytes rows rest → rest ≡ row_bytes row ++ later → length row < 2 ^ 64
+    → IfSome depth (λ d. All (IsDocumentWithin d) rows)
+    → MatchOption depth ⊥ (λ d. IsDocumentWithin d row → ⊥)
+    → MatchOption depth ⊥ (λ d. HasDeepRow d bytes)
+deep_row None bytes rest row later rows read is short all deep = absurd deep
+deep_row (Some d) bytes rest row later rows read is short all deep = record {
+  rows = rows;
+  row = row;
+  later = later;
+  each = read.each;
+  within = all;
+  parts = read.parts ∙ ap (λ b. storage rows ++ b) is;
+  short = short;
+  deep = deep;
+}

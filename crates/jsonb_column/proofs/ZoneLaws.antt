@@ -149,9 +149,6 @@ all_as_one test keys one R here h lower =
     (λ e. list_all-from_AllPass test keys
     (All-weaker (λ k. R k one) (λ k. test k ≡ true) (λ k r. lower k r e) keys h))
 
-is_lt-from : (r : Ordering) → r ≡ Less → is_lt r ≡ true
-is_lt-from r e = ap is_lt e
-
 below_lower : (size : ℕ) (limit : Bound Tree) (k one : List ℕ) → key_cmp k one ≢ Greater
     → starts_below size limit one ≡ true → starts_below size limit k ≡ true
 below_lower size (Included low) k one h e =

@@ -1,11 +1,16 @@
 -- The stored form of rows.
 use Rattle.std.specs.Prelude.{◌≡◌, ◌<◌, ◌^◌, ℕ, List, [], ◌∷◌, ◌++◌, All, length}
 use Rattle.std.specs.Int.{w64, to_be_bytes}
+use Rattle.jsonb_codec.specs.Depth.{IsDocumentWithin}
 use Rattle.jsonb_codec.specs.Doc.{IsDocument}
 
 -- A row in stored form: its length as a big-endian integer of eight bytes, then its bytes.
 abbrev pub row_bytes : List ℕ → List ℕ
 row_bytes row = to_be_bytes w64 (length row) ++ row
+
+-- The bytes begin with these.
+abbrev pub BeginsWith : List ℕ → List ℕ → Type 0
+BeginsWith bytes part = (rest : List ℕ) × (part ++ rest ≡ bytes)
 
 -- All rows in stored form.
 abbrev pub storage : List (List ℕ) → List ℕ
@@ -40,3 +45,14 @@ pub record HasFaultyRow (bytes : List ℕ) : Type 0 where
   pub parts : bytes ≡ storage rows ++ (row_bytes row ++ later)
   pub short : length row < 2 ^ 64
   pub no_document : IsDocument row → ⊥
+
+-- After stored rows that nest at most this deep there is one that is no document of that depth.
+pub record HasDeepRow (depth : ℕ) (bytes : List ℕ) : Type 0 where
+  pub rows : List (List ℕ)
+  pub row : List ℕ
+  pub later : List ℕ
+  pub each : All IsRow rows
+  pub within : All (IsDocumentWithin depth) rows
+  pub parts : bytes ≡ storage rows ++ (row_bytes row ++ later)
+  pub short : length row < 2 ^ 64
+  pub deep : IsDocumentWithin depth row → ⊥

@@ -17,7 +17,7 @@ pub use Rattle.jsonb_column.specs.Range.{has_member_within, is_from, is_to, limi
 pub use Rattle.jsonb_column.specs.Rows.{AreRows, FillBytes, IsWithin, row_in, rows_in}
 pub use Rattle.jsonb_column.specs.Select.{has_member, most_reads, row_reads}
 pub use Rattle.jsonb_column.specs.SortOrder.{is_equal, is_row_between, row_order, sorted_rows}
-pub use Rattle.jsonb_column.specs.Storage.{AreStoredRows, HasFaultyRow, IsCut, IsRow, row_bytes}
-pub use Rattle.jsonb_column.specs.Storage.{storage}
+pub use Rattle.jsonb_column.specs.Storage.{AreStoredRows, BeginsWith, HasDeepRow, HasFaultyRow}
+pub use Rattle.jsonb_column.specs.Storage.{IsCut, IsRow, row_bytes, storage}
 pub use Rattle.jsonb_column.specs.Zone.{IsSpan}
 pub use Rattle.jsonb_column.specs.SkippedBlocks.{is_skipped, starts_above, starts_below}

@@ -2,18 +2,20 @@
 
 ghost use Rattle.std.specs.Prelude.{◌≡◌, ◌+◌, ◌<◌, ◌≤◌, ◌∷◌, ◌++◌, ◌⊎◌, [], ℕ, List, All, Err, map};
 ghost use Rattle.std.specs.Prelude.{IfOk, IfErr, IsErrAnd, OnOk, OnErr, filter, length};
-ghost use Rattle.std.specs.Prelude.{option_map, slice_get, slice_index_or};
+ghost use Rattle.std.specs.Prelude.{option_map, slice_get, slice_index_or, IfSome, MatchOption};
+ghost use Rattle.std.specs.Prelude.{MatchResult, None, Ok};
+ghost use Rattle.std.specs.Bool.{OnFalse, OnTrue};
 ghost use Rattle.jsonb_column.specs.Words.{ParsesTo, ParsesWithExponentsTo, IsDocument};
 ghost use Rattle.jsonb_column.specs.Words.{document_bytes, document_tree};
 ghost use Rattle.jsonb_column.specs.Words.{concat, YieldsFirstBy, item_count, IsCut, has_member};
 ghost use Rattle.jsonb_column.specs.Words.{most_reads, AreStoredRows, HasFaultyRow, IsRow, storage};
 ghost use Rattle.jsonb_column.specs.Words.{row_in, rows_in, IsWithin, AreRows, FillBytes};
-ghost use Rattle.jsonb_column.specs.Words.{IsDocumentWithin};
+ghost use Rattle.jsonb_column.specs.Words.{HasDeepRow, IsDocumentWithin};
 
 use crate::place::Place;
 use crate::select::has_member;
 use crate::storage::{append_row, split_row};
-use jsonb::{Document, Error, MAX_READS, OwnedJsonb, Reads, is_document, nests_deeper};
+use jsonb::{Document, Error, MAX_READS, OwnedJsonb, ParseError, Reads, is_document, nests_deeper};
 use std::alloc::Global;
 use std::marker::Model;
 
@@ -221,27 +223,68 @@ impl Column {
         ensures only { IfErr result (λ e. (e ≡ Error.InvalidEOF)
             ⊎ ((e ≡ Error.InvalidJsonb) ⊎ (e ≡ Error.OutOfMemory))) }
     {
-        // No row nests as deep as there are bytes.
-        Column::read_within(alloc, bytes, bytes.len())
+        match Column::rows_within(alloc, bytes, None)? {
+            Some(column) => Ok(column),
+            None => unreachable!(),
+        }
     }
 
-    /// Reads rows in stored form, as `read_from`, from untrusted bytes: a row that nests deeper
-    /// than `depth` is refused as `OutOfMemory`, since walking it may take more memory than the
-    /// stack has. Levels beyond it are not examined. A row of more than 8 bytes for each level that
-    /// is allowed is checked twice.
-    pub fn read_within(alloc: Global, bytes: &[u8], depth: usize) -> Result<Column, Error>
+    /// Reads rows in stored form, as `read_from`, from untrusted bytes: `TooDeep` if, after valid
+    /// rows, a row is no document that nests at most `depth` deep and `nests_deeper` holds of it;
+    /// otherwise `Refused` with the errors of `read_from`. Levels beyond the depth are not
+    /// examined. A row of more than 8 bytes for each level that is allowed is checked twice.
+    pub fn read_within(alloc: Global, bytes: &[u8], depth: usize) -> Result<Column, ParseError>
         ensures storage { IfOk result (λ column. AreStoredRows column bytes.now) }
         ensures shallow { IfOk result (λ column. All (IsDocumentWithin depth) column) }
         ensures same { (rows : List (List ℕ)) → AreStoredRows rows bytes.now
             → IfOk result (λ column. column ≡ rows) }
+        ensures deep { result ≡ Err ParseError.TooDeep → HasDeepRow depth bytes.now }
+        ensures memory { (rows : List (List ℕ)) → AreStoredRows rows bytes.now
+            → IfErr result (λ e. (e ≡ ParseError.TooDeep)
+            ⊎ (e ≡ ParseError.Refused Error.OutOfMemory)) }
+        ensures cut { result ≡ Err (ParseError.Refused Error.InvalidEOF) → IsCut bytes.now }
+        ensures cut_refused { IsCut bytes.now → IsErrAnd result (λ e. (e ≡ ParseError.TooDeep)
+            ⊎ ((e ≡ ParseError.Refused Error.InvalidEOF)
+            ⊎ (e ≡ ParseError.Refused Error.OutOfMemory))) }
+        ensures invalid { result ≡ Err (ParseError.Refused Error.InvalidJsonb)
+            → HasFaultyRow bytes.now }
+        ensures invalid_refused { HasFaultyRow bytes.now
+            → IsErrAnd result (λ e. (e ≡ ParseError.TooDeep)
+            ⊎ ((e ≡ ParseError.Refused Error.InvalidJsonb)
+            ⊎ (e ≡ ParseError.Refused Error.OutOfMemory))) }
+        ensures only { IfErr result (λ e. (e ≡ ParseError.TooDeep)
+            ⊎ ((e ≡ ParseError.Refused Error.InvalidEOF)
+            ⊎ ((e ≡ ParseError.Refused Error.InvalidJsonb)
+            ⊎ (e ≡ ParseError.Refused Error.OutOfMemory)))) }
+    {
+        match Column::rows_within(alloc, bytes, Some(depth)) {
+            Ok(Some(column)) => Ok(column),
+            Ok(None) => Err(ParseError::TooDeep),
+            Err(error) => Err(ParseError::Refused(error)),
+        }
+    }
+
+    // The rows that bytes store. `None` at one that nests deeper than a depth, if one is given.
+    fn rows_within(
+        alloc: Global,
+        bytes: &[u8],
+        depth: Option<usize>,
+    ) -> Result<Option<Column>, Error>
+        ensures storage { IfOk result (λ rows. IfSome rows
+            (λ column. AreStoredRows column bytes.now)) }
+        ensures shallow { IfOk result (λ rows. IfSome rows
+            (λ column. IfSome depth (λ d. All (IsDocumentWithin d) column))) }
+        ensures same { (rows : List (List ℕ)) → AreStoredRows rows bytes.now
+            → IfOk result (λ read. IfSome read (λ column. column ≡ rows)) }
+        ensures deep { result ≡ Ok None → MatchOption depth ⊥ (λ d. HasDeepRow d bytes.now) }
         ensures memory { (rows : List (List ℕ)) → AreStoredRows rows bytes.now
             → IfErr result (λ e. e ≡ Error.OutOfMemory) }
         ensures cut { result ≡ Err Error.InvalidEOF → IsCut bytes.now }
-        ensures cut_refused { IsCut bytes.now
-            → IsErrAnd result (λ e. (e ≡ Error.InvalidEOF) ⊎ (e ≡ Error.OutOfMemory)) }
+        ensures cut_refused { IsCut bytes.now → MatchResult result (λ rows. rows ≡ None)
+            (λ e. (e ≡ Error.InvalidEOF) ⊎ (e ≡ Error.OutOfMemory)) }
         ensures invalid { result ≡ Err Error.InvalidJsonb → HasFaultyRow bytes.now }
-        ensures invalid_refused { HasFaultyRow bytes.now
-            → IsErrAnd result (λ e. (e ≡ Error.InvalidJsonb) ⊎ (e ≡ Error.OutOfMemory)) }
+        ensures invalid_refused { HasFaultyRow bytes.now → MatchResult result (λ rows. rows ≡ None)
+            (λ e. (e ≡ Error.InvalidJsonb) ⊎ (e ≡ Error.OutOfMemory)) }
         ensures only { IfErr result (λ e. (e ≡ Error.InvalidEOF)
             ⊎ ((e ≡ Error.InvalidJsonb) ⊎ (e ≡ Error.OutOfMemory))) }
     {
@@ -249,13 +292,25 @@ impl Column {
         let mut rest = bytes;
         while !rest.is_empty() {
             let (row, later) = split_row(rest)?;
-            if nests_deeper(row, depth) {
-                return Err(Error::OutOfMemory);
+            if is_too_deep(row, depth) {
+                return Ok(None);
             }
             column.push(row)?;
             rest = later;
         }
-        Ok(column)
+        Ok(Some(column))
+    }
+}
+
+// Whether a row nests deeper than a depth, if one is given.
+fn is_too_deep(row: &[u8], depth: Option<usize>) -> bool
+    ensures deep { OnTrue result (MatchOption depth ⊥ (λ d. IsDocumentWithin d row.now → ⊥)) }
+    ensures within { OnFalse result (IfSome depth (λ d. IsDocument row.now
+        → IsDocumentWithin d row.now)) }
+{
+    match depth {
+        Some(depth) => nests_deeper(row, depth),
+        None => false,
     }
 }
 

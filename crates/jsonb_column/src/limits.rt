@@ -10,6 +10,7 @@ ghost use Rattle.jsonb_column.specs.Words.{start_bytes, starts_above, starts_bel
 use crate::key_start::KeyStart;
 use crate::zone::Zone;
 use jsonb::{Document, Error, MAX_READS, Node, Reads};
+use jsonb_comparable::laws::has_key;
 use std::alloc::Global;
 use std::ops::Bound;
 
@@ -153,8 +154,3 @@ fn key_of(
         Bound::Unbounded => Ok(None),
     }
 }
-
-/// The tree of a document has a key.
-pub fn has_key(bytes: &[u8])
-    ensures { (t : Tree) → Doc bytes.now t → IsTree t }
-{}

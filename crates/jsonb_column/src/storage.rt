@@ -2,16 +2,18 @@
 
 ghost use Rattle.std.specs.Prelude.{◌≡◌, ◌<◌, ◌^◌, ◌++◌, ℕ, List, length, IfOk, IfErr, OnErr};
 ghost use Rattle.std.specs.Prelude.{OnOk};
-ghost use Rattle.jsonb_column.specs.Words.{row_bytes};
+ghost use Rattle.jsonb_column.specs.Words.{BeginsWith, row_bytes};
 
 use byteorder::{BigEndian, ByteOrder};
 use jsonb::Error;
 
 /// Appends a row in stored form: its length as a big-endian integer of eight bytes, then its bytes.
-/// `OutOfMemory` is the only error; a part of the row may then be appended.
+/// `OutOfMemory` is the only error; a beginning of these bytes may then be appended, and nothing
+/// else.
 pub fn append_row(buf: &mut Vec<u8>, row: &[u8]) -> Result<(), Error>
     ensures ok { OnOk result (buf.new.items ≡ buf.old.items ++ row_bytes row.now) }
-    ensures beginning { OnErr result ((part : List ℕ) × (buf.new.items ≡ buf.old.items ++ part)) }
+    ensures beginning { OnErr result ((part : List ℕ) × (BeginsWith (row_bytes row.now) part
+        × (buf.new.items ≡ buf.old.items ++ part))) }
     ensures memory { IfErr result (λ e. e ≡ Error.OutOfMemory) }
 {
     buf.extend_from_slice(&(row.len() as u64).to_be_bytes())?;

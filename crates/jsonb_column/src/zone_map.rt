@@ -14,9 +14,10 @@ ghost use Rattle.jsonb_column.specs.SkippedBlocks.{AreBlocks, AreZones, IsZone, 
 
 use crate::column::Column;
 use crate::key_start::KeyStart;
-use crate::limits::{Limits, has_key};
+use crate::limits::Limits;
 use crate::zone::Zone;
 use jsonb::{Document, Error, MAX_READS, Reads};
+use jsonb_comparable::laws::has_key;
 use std::alloc::Global;
 use std::ops::Bound;
 
@@ -91,6 +92,7 @@ impl<'c> Zones<'c> {
             → AreBlocks self.now.block_rows (zones_rows self.now) blocks
             → reads.new ≤ reads.old + sum_by (block_reads (zones_name self.now) self.now.key_bytes
             (Included (document_tree value.entry)) (Included (document_tree value.entry))) blocks }
+        ensures rises { reads.old ≤ reads.new }
         ensures memory { IfErr result (λ e. e ≡ Error.OutOfMemory) }
     {
         self.select_range(alloc, Bound::Included(value), Bound::Included(value), reads)
@@ -116,6 +118,7 @@ impl<'c> Zones<'c> {
             → AreBlocks self.now.block_rows (zones_rows self.now) blocks
             → reads.new ≤ reads.old + sum_by (block_reads (zones_name self.now) self.now.key_bytes
             (limit_tree low.entry) (limit_tree high.entry)) blocks }
+        ensures rises { reads.old ≤ reads.new }
         ensures memory { IfErr result (λ e. e ≡ Error.OutOfMemory) }
     {
         let limits = Limits::new(alloc, low, high, self.key_bytes)?;
@@ -149,6 +152,7 @@ impl<'c> Zones<'c> {
             (take (end - start) (drop start (zones_rows self.now)))) }
         ensures bound { reads.new
             ≤ reads.old + most_reads (take (end - start) (drop start (zones_rows self.now))) }
+        ensures rises { reads.old ≤ reads.new }
         ensures memory { IfErr result (λ e. e ≡ Error.OutOfMemory) }
     {
         for index in start..end {

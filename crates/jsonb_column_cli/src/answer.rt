@@ -1,7 +1,8 @@
 //! The replies to commands, and the changes that commands make to the rows.
 
-ghost use Rattle.std.specs.Prelude.{◌≡◌, ◌↔◌, ◌∷◌, ◌++◌, [], map, IfErr, IfOk};
+ghost use Rattle.std.specs.Prelude.{◌≡◌, ◌⊎◌, ◌↔◌, ◌∷◌, ◌++◌, [], map, Err, IfErr, IfOk};
 ghost use Rattle.std.specs.Prelude.{IsTrue, string_bytes};
+ghost use Rattle.jsonb_column.specs.Storage.{AreStoredRows, HasFaultyRow, IsCut};
 ghost use Rattle.jsonb_column_cli.specs.Words.{AllDigits, IsNumeral, without_leading_plus, Call};
 ghost use Rattle.jsonb_column_cli.specs.Words.{OutOfMemory, IsDocument, document_bytes, add, count};
 ghost use Rattle.jsonb_column_cli.specs.Words.{owned_bytes, row, sort, find, range, save, load};
@@ -257,6 +258,22 @@ pub fn answer_save(alloc: Global, column: &Column) -> Result<String, Refusal>
     Ok(format!(in alloc; "ok {word}")?)
 }
 
+// The rows that bytes have in stored form. To walk a row that nests too deep may take more memory
+// than the stack has, so the program answers it as memory that is refused.
+fn read_rows(alloc: Global, bytes: &[u8]) -> Result<Column, Error>
+    ensures storage { IfOk result (λ column. AreStoredRows column bytes.now) }
+    ensures cut { result ≡ Err Error.InvalidEOF → IsCut bytes.now }
+    ensures invalid { result ≡ Err Error.InvalidJsonb → HasFaultyRow bytes.now }
+    ensures only { IfErr result (λ e. (e ≡ Error.InvalidEOF)
+        ⊎ ((e ≡ Error.InvalidJsonb) ⊎ (e ≡ Error.OutOfMemory))) }
+{
+    match Column::read_within(alloc, bytes, MAX_ROW_DEPTH) {
+        Ok(rows) => Ok(rows),
+        Err(ParseError::TooDeep) => Err(Error::OutOfMemory),
+        Err(ParseError::Refused(error)) => Err(error),
+    }
+}
+
 /// Replaces the rows by those that a hexadecimal word has in stored form.
 pub fn answer_load(alloc: Global, column: &mut Column, word: &str) -> Result<String, Refusal>
     ensures { IsOutcome column.old (load word.now) (reply_of result) column.new }
@@ -268,6 +285,6 @@ pub fn answer_load(alloc: Global, column: &mut Column, word: &str) -> Result<Str
         Err(FromHexError::OutOfMemory) => return Err(Refusal::Call(Error::OutOfMemory)),
         Err(_) => return Err(Refusal::BadHex),
     };
-    *column = Column::read_within(alloc, &bytes, MAX_ROW_DEPTH)?;
+    *column = read_rows(alloc, &bytes)?;
     Ok(reply)
 }

@@ -73,6 +73,7 @@ loop-index-preserved c =
             c.loop-index.rows.items row c.row_within-row.ensures.row c.loop-index.invariant.rows
             fails
       ];
+      rises = omega (arith, c.loop-index.invariant.rises);
       few = omega (
         arith,
         c.loop-index.invariant.few,

@@ -15,6 +15,7 @@ invariant-loop-index l = record {
       ++ filter (has_member_within (zones_name l.self) (bound_map node_tree l.limits.low)
       (bound_map node_tree l.limits.high))
       (take (l.index - l.start) (drop l.start (zones_rows l.self)));
+  rises : l.initial.reads ≤ l.reads;
   few : l.reads ≤ l.initial.reads
       + most_reads (take (l.index - l.start) (drop l.start (zones_rows l.self)));
 }

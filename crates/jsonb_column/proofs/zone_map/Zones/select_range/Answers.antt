@@ -23,6 +23,7 @@ loop-zone-init c =
       within = omega arith;
       left = c.args.self.now.covered;
       found_are = ap (map document_bytes) c.new-rows.ensures.items;
+      rises = omega arith;
       few = omega arith;
       blocks = λ blocks are. (are, omega arith);
     }
@@ -62,6 +63,7 @@ loop-zone-preserved c =
           (take (start + c.min.result - start) (drop start rows)) = search rules in
           let bound : c.if-not-exclude.reads ≤ c.loop-zone.reads
           + most_reads (take (start + c.min.result - start) (drop start rows)) = search rules in
+          let on : c.loop-zone.reads ≤ c.if-not-exclude.reads = search rules in
           scanned_more name size count low high rows zones c.args.reads.now i start
           (map document_bytes c.loop-zone.rows.items) c.loop-zone.reads c.min.result
           c.if-not-exclude.start (map document_bytes c.if-not-exclude.rows.items)
@@ -71,7 +73,7 @@ loop-zone-preserved c =
           (bound_map node_tree c.in_ok-limits.limits.high)) b) same
           ∙ ap₂ (λ x y. map document_bytes c.loop-zone.rows.items
           ++ filter (has_member_within name x y) block) limits.lower limits.upper)
-          (omega (arith, bound, ap most_reads same, words))
+          on (omega (arith, bound, ap most_reads same, words))
       | else-not-exclude w ↦
           let gone : c.exclude.result ≡ true = search rules in
           let none : filter (has_member_within name low high) block ≡ [] =
@@ -86,7 +88,7 @@ loop-zone-preserved c =
           (ap (map document_bytes) items
           ∙ sym (append-nil (map document_bytes c.loop-zone.rows.items))
           ∙ ap (λ xs. map document_bytes c.loop-zone.rows.items ++ xs) (sym none))
-          (omega (arith, reads))
+          (omega (arith, reads)) (omega (arith, reads))
     ]
 
 pub returns-in_err-select_block-clause-bound : goal.returns-in_err-select_block-clause-bound
@@ -136,3 +138,10 @@ returns-clause-rows c =
     (limit_tree c.args.high) (zones_rows self) self.zones.items c.args.reads.now
     c.loop-zone.zone-index c.loop-zone.start (map document_bytes c.loop-zone.rows.items)
     c.loop-zone.reads (search rules) c.loop-zone.invariant
+
+pub returns-in_err-select_block-clause-rises : goal.returns-in_err-select_block-clause-rises
+returns-in_err-select_block-clause-rises c =
+    omega (arith, c.loop-zone.invariant.rises, c.select_block.ensures.rises)
+
+pub returns-clause-rises : goal.returns-clause-rises
+returns-clause-rises c = c.loop-zone.invariant.rises

@@ -1,11 +1,10 @@
-use Rattle.std.proofs.Common.{rules, ◌≡◌, ◌<◌, length, ap, Err}
-use Rattle.std.proofs.lemmas.List.Elements.{All-push}
-use Rattle.jsonb_codec.specs.Depth.{IsDocumentWithin}
+use Rattle.std.proofs.Common.{rules, ◌≡◌, ◌<◌, length, ap, Err, inl}
 use Rattle.jsonb_column.specs.Storage.{IsRow}
 use Rattle.jsonb_column.proofs.StorageLaws.{IsRead-all, IsRead-cut, IsRead-more, IsRead-stored}
 use Rattle.jsonb_column.proofs.StorageLaws.{IsRead-IsCut, IsRead-HasFaultyRow, cut_or_faulty}
 use Rattle.jsonb_column.proofs.StorageLaws.{not_cut, not_faulty, cut_refused, told_memory}
-use Rattle.jsonb_column.proofs.column.Column.read_within.Goals as goal
+use Rattle.jsonb_column.proofs.StorageLaws.{deep_row, refused_as, shallow_more}
+use Rattle.jsonb_column.proofs.column.Column.rows_within.Goals as goal
 
 -- if the next row is cut off
 pub returns-in_err-row-clause-memory : goal.returns-in_err-row-clause-memory
@@ -27,7 +26,17 @@ returns-in_err-row-clause-invalid_refused c = λ faulty.
     (IsRead-IsCut c.args.bytes.now c.loop-rest.rest.now c.loop-rest.column
     c.loop-rest.invariant.read some c.in_err-row.ensures.cut) faulty)
 
+pub returns-in_err-row-clause-cut_refused : goal.returns-in_err-row-clause-cut_refused
+returns-in_err-row-clause-cut_refused c = λ cut.
+    refused_as _ _ c.from_residual.result c.in_err-row.field-0.0 c.from_residual.ensures.1
+    (inl c.in_err-row.ensures.only)
+
 -- if the next row is not a document
+pub returns-in_err-push-clause-invalid_refused : goal.returns-in_err-push-clause-invalid_refused
+returns-in_err-push-clause-invalid_refused c = λ faulty.
+    refused_as _ _ c.from_residual-in_err-push.result c.in_err-push.field-0.0
+    c.from_residual-in_err-push.ensures.1 c.in_err-push.ensures.only
+
 pub returns-in_err-push-clause-memory : goal.returns-in_err-push-clause-memory
 returns-in_err-push-clause-memory c =
     told_memory c.args.bytes.now c.from_residual-in_err-push.result c.in_err-push.field-0.0
@@ -38,7 +47,7 @@ returns-in_err-push-clause-memory c =
 
 pub returns-in_err-push-clause-cut_refused : goal.returns-in_err-push-clause-cut_refused
 returns-in_err-push-clause-cut_refused c =
-    cut_refused c.args.bytes.now c.from_residual-in_err-push.result c.in_err-push.field-0.0
+    cut_refused _ c.args.bytes.now c.from_residual-in_err-push.result c.in_err-push.field-0.0
     c.from_residual-in_err-push.ensures.1 c.in_err-push.ensures.only
     (λ is. IsRead-HasFaultyRow c.args.bytes.now c.loop-rest.rest.now c.in_ok-row.row.now
     c.in_ok-row.later.now c.loop-rest.column c.loop-rest.invariant.read c.in_ok-row.ensures.ok
@@ -54,15 +63,23 @@ pub loop-rest-preserved : goal.loop-rest-preserved
 loop-rest-preserved c =
     let row : IsRow c.in_ok-row.row.now =
     record { document = c.in_ok-push.ensures.document; short = c.in_ok-row.ensures.short } in
-    let within = rw c.if-nests_deeper.false at c.nests_deeper.ensures.within in
+    let within = rw c.if-is_too_deep.false at c.is_too_deep.ensures.within in
     record {
       read = IsRead-more c.args.bytes.now c.loop-rest.rest.now c.in_ok-row.row.now
           c.in_ok-row.later.now c.loop-rest.column c.push.new.self c.loop-rest.invariant.read
           c.in_ok-row.ensures.ok row c.in_ok-push.ensures.pushed;
       shallow = rw c.in_ok-push.ensures.pushed
-          (All-push (IsDocumentWithin c.args.depth) _ _ c.loop-rest.invariant.shallow
-          (within.0 c.in_ok-push.ensures.document));
+          (shallow_more c.args.depth c.loop-rest.column c.in_ok-row.row.now
+          c.loop-rest.invariant.shallow c.in_ok-push.ensures.document within);
     }
+
+-- if the next row nests too deep
+pub returns-then-is_too_deep-clause-deep : goal.returns-then-is_too_deep-clause-deep
+returns-then-is_too_deep-clause-deep c = λ e.
+    deep_row c.args.depth c.args.bytes.now c.loop-rest.rest.now c.in_ok-row.row.now
+    c.in_ok-row.later.now c.loop-rest.column c.loop-rest.invariant.read c.in_ok-row.ensures.ok
+    c.in_ok-row.ensures.short c.loop-rest.invariant.shallow
+    (rw c.if-is_too_deep.true at c.is_too_deep.ensures.deep)
 
 pub returns-clause-same : goal.returns-clause-same
 returns-clause-same c = λ rows all.
