@@ -48,7 +48,7 @@ form_parts (arr words) = (word_of_test (codes "arr") refl, (spaced-starts words,
 form_parts form = (word_of_test (name_of form) refl, (inr (_, refl), refl))
 
 -- the word before the first space is the command's name
-named : (line name given : List ℕ) → IsWord name → StartsAtSpace given → line ≡ name ++ given
+pub named : (line name given : List ℕ) → IsWord name → StartsAtSpace given → line ≡ name ++ given
     → (form : Form) → IsOfForm form line
     → (name ≡ name_of form) × (given ≡ given_to form)
 named line name given word from parts form of =
@@ -66,7 +66,7 @@ arr_form line name rest is parts = record {
 
 -- ---- a line has only one form
 
-names_apart : (a b : List ℕ) → pointwise nat_eq a b ≡ false → a ≢ b
+pub names_apart : (a b : List ℕ) → pointwise nat_eq a b ≡ false → a ≢ b
 names_apart a b test same = let passes : pointwise nat_eq a b
     ≡ true = (slice_eq-Decides Decides-eqb a b (pointwise nat_eq a b) refl).1 same in cc
 
@@ -100,7 +100,7 @@ no_form line name rest word parts other form of =
     other form (named line name (after_space rest) word (after_space-starts rest) parts form of).0
 
 -- a name without arguments
-only_arr_alone : (name : List ℕ) → name ≢ codes "arr" → (form : Form) → name ≡ name_of form
+pub only_arr_alone : (name : List ℕ) → name ≢ codes "arr" → (form : Form) → name ≡ name_of form
     → [] ≡ given_to form → ⊥
 only_arr_alone name n_arr (arr words) is none = n_arr is
 only_arr_alone name n_arr form is none = cc

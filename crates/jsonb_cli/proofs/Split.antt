@@ -49,7 +49,7 @@ words-step b false (part ∷ parts) bytes test (words, is) =
       cc,
     )
 
-words-slice_split : (bytes : List ℕ) → AreWordsOf (32 ∷ bytes) (slice_split (λ b. b == 32) bytes)
+pub words-slice_split : (bytes : List ℕ) → AreWordsOf (32 ∷ bytes) (slice_split (λ b. b == 32) bytes)
 words-slice_split [] = (All-cons IsWord [] [] (All-nil no_space) (All-nil IsWord), refl)
 words-slice_split (b ∷ bytes) =
     words-step b (b == 32) (slice_split (λ b. b == 32) bytes) bytes refl (words-slice_split bytes)

@@ -175,6 +175,13 @@ pub data IsAnswer (line answer : List ℕ) : Type 0 where
   of_form : (form : Form) → IsOfForm form line → IsFormAnswer form answer → IsAnswer line answer
   of_none : ((form : Form) → IsOfForm form line → ⊥) → IsBadCommand answer → IsAnswer line answer
 
+-- The line has an answer, which does not report lack of memory, and it has no other.
+pub record OneAnswer (line : List ℕ) : Type 0 where
+  pub answer : List ℕ
+  pub is : IsAnswer line answer
+  pub no_refusal : IsNoMemoryReply answer → ⊥
+  pub only : (other : List ℕ) → IsAnswer line other → other ≡ answer
+
 -- The reply is an answer, or reports that there was not enough memory.
 abbrev pub IsAnswerOrRefusal : {A : Type 0} → (A → List ℕ → Type 0) → A → List ℕ → Type 0
 IsAnswerOrRefusal Answers asked reply = Answers asked reply ⊎ IsNoMemoryReply reply
@@ -182,6 +189,14 @@ IsAnswerOrRefusal Answers asked reply = Answers asked reply ⊎ IsNoMemoryReply 
 -- The possible replies to a line.
 abbrev pub IsLineReply : List ℕ → List ℕ → Type 0
 IsLineReply = IsAnswerOrRefusal IsAnswer
+
+-- The reply to a line is its one answer, or reports that there was not enough memory. A line
+-- without the form of a command is refused whatever memory there is.
+pub record IsExactReply (line reply : List ℕ) : Type 0 where
+  pub one : OneAnswer line
+  pub possible : IsLineReply line reply
+  pub exact : (reply ≡ one.answer) ⊎ IsNoMemoryReply reply
+  pub bad : ((form : Form) → IsOfForm form line → ⊥) → IsBadCommand reply
 
 -- The state of the program, which is empty.
 abbrev pub commands : Commands

@@ -15,7 +15,8 @@ pub use Rattle.answer_lines.specs.Session.{AreAnswers}
 pub use Rattle.jsonb_cli.specs.AnswerLine.{answer_words, ok_line, outcome_line, refusal_name}
 pub use Rattle.jsonb_cli.specs.Answers.{IsAnswer, IsAnswerOrRefusal, IsArrAnswer, IsCanonAnswer}
 pub use Rattle.jsonb_cli.specs.Answers.{IsCmpAnswer, IsDecAnswer, IsEncAnswer, IsFormAnswer}
-pub use Rattle.jsonb_cli.specs.Answers.{IsGetAnswer, IsHexOf, IsLineReply, IsPrettyAnswer}
+pub use Rattle.jsonb_cli.specs.Answers.{IsExactReply, IsGetAnswer, IsHexOf, IsPrettyAnswer}
+pub use Rattle.jsonb_cli.specs.Answers.{OneAnswer}
 pub use Rattle.jsonb_cli.specs.Answers.{IsTypeAnswer, commands, kind_words, line_rule, order_words}
 pub use Rattle.jsonb_cli.specs.Commands.{Form, IsOfForm}
 pub use Rattle.jsonb_cli.specs.Fault.{error_of, fault_line}

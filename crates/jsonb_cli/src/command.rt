@@ -3,7 +3,7 @@
 ghost use Rattle.std.specs.Prelude.{◌≡◌, ◌⊎◌, ◌↔◌, ◌++◌, ℕ, List, codes, IfSome, IfNone, IfOk};
 ghost use Rattle.std.specs.Prelude.{IfErr, IsErrOf};
 ghost use Rattle.jsonb_cli.specs.Names.{OutOfMemory, Form, IsOfForm, form_of, outcome_line};
-ghost use Rattle.jsonb_cli.specs.Names.{IsFormAnswer, IsAnswerOrRefusal, IsLineReply, IsHexOf};
+ghost use Rattle.jsonb_cli.specs.Names.{IsExactReply, IsFormAnswer, IsAnswerOrRefusal, IsHexOf};
 ghost use Rattle.jsonb_cli.specs.Names.{IsDocument, IsDocumentWithin};
 
 use crate::answer::{Answer, Refusal};
@@ -112,10 +112,11 @@ impl Command<'_> {
     }
 }
 
-/// The outcome of a line: that of its command, or `BadCommand` if it has none. A line has only one
-/// answer (`answer_laws`).
+/// The outcome of a line: that of its command, or `BadCommand` if it has none. A line has exactly
+/// one answer, and the outcome is that, or else `error OutOfMemory`, which `BadCommand` never
+/// gives way to.
 pub fn answer(alloc: Global, line: &[u8]) -> Result<Answer, Refusal>
-    ensures { IsLineReply line.now (outcome_line result) }
+    ensures { IsExactReply line.now (outcome_line result) }
 {
     match Command::parse(line) {
         Some(command) => command.answer(alloc),

@@ -2,7 +2,8 @@
 
 ghost use Rattle.std.specs.Prelude.{◌≡◌, ℕ, List, OnOk, OnErr, IfSome, IsErrOf};
 ghost use Rattle.jsonb_cli.specs.Names.{IsAtEnd, AreAnswers, AppendsReplies, AppendsBeginning};
-ghost use Rattle.jsonb_cli.specs.Names.{AppendsWhole, line_rule, commands, error_of, fault_line};
+ghost use Rattle.jsonb_cli.specs.Names.{AppendsWhole, OneAnswer, line_rule, commands, error_of};
+ghost use Rattle.jsonb_cli.specs.Names.{fault_line};
 
 use crate::answer::line_text;
 use crate::command;
@@ -68,7 +69,8 @@ impl LineAnswerer for Commands {
 /// 18,446,744,073,709,551,615 times without reaching the end of the input. `Write`: the writer
 /// failed, or accepted no byte. `Memory`: the allocation of a line or of an answer failed.
 ///
-/// An input has only one output if no answer is `error OutOfMemory`.
+/// A line has exactly one answer beside `error OutOfMemory`, so an input has only one output if no
+/// answer is that.
 pub fn run<R: Read, W: Write>(alloc: Global, reader: &mut R, writer: &mut W) -> Result<(), RunError>
     ensures done { OnOk result (IfSome (R.remaining reader.old) (λ input. AppendsReplies
         line_rule commands commands input (W.contents writer.old) (W.contents writer.new))) }
@@ -80,6 +82,9 @@ pub fn run<R: Read, W: Write>(alloc: Global, reader: &mut R, writer: &mut W) -> 
     ensures prompt { IsErrOf result RunError.Read → IfSome (R.remaining reader.old) (λ input.
         IfSome (R.remaining reader.new) (λ left. (start : List ℕ) × AppendsWhole line_rule
         commands commands input start left (W.contents writer.old) (W.contents writer.new))) }
+
+    // Each line has exactly one answer beside `error OutOfMemory`.
+    ensures one_answer { (line : List ℕ) → OneAnswer line }
 
     // If no answer is `error OutOfMemory`, the output is determined by the input.
     ensures one_output { (input a b : List ℕ) → AreAnswers line_rule commands input a
