@@ -1,7 +1,9 @@
 -- What is read and taken at the places of members.
-use Rattle.std.proofs.Common.{◌≡◌, ◌⊎◌, ◌-◌, ◌∷◌, [], ℕ, zero, suc, List, drop}
-use Rattle.std.proofs.Common.{refl, ap, arith, inr, subst, Option, Some}
-use Rattle.std.proofs.Common.{Result, Ok, Err, None, option_map}
+use Rattle.std.proofs.Common.{◌≡◌, ◌⊎◌, ◌+◌, ◌-◌, ◌≤◌, ◌∷◌, ◌==◌, [], ℕ, zero, suc, List, drop}
+use Rattle.std.proofs.Common.{length, nat_le, refl, sym, ap, ◌∙◌, arith, inr, subst, Option, Some}
+use Rattle.std.proofs.Common.{Result, Ok, Err, None, option_map, Bool, true, false}
+use Rattle.std.specs.Prelude.{◌&&◌, if◌then◌else◌, IfNone, IfSome}
+use Rattle.std.proofs.lemmas.Bool.{eqb-true, le-leb, leb-true, ne_eqb}
 use Rattle.std.specs.Borrow.{Bor}
 use Rattle.jsonb_value.specs.Tree.{Tree}
 use Rattle.jsonb_codec.specs.Parts.{IsPayloadOf}
@@ -10,8 +12,10 @@ use Rattle.jsonb.specs.declared.node.Node.{Node}
 use Rattle.typed_vector.specs.Cells.{Cell, absent, value, other}
 use Rattle.jsonb_typed.specs.Surveys.{member_cell}
 use Rattle.kohiblad.specs.declared.places.KohibladPlace.{KohibladPlace}
-use Rattle.kohiblad.specs.Located.{IsCellRead, IsPayloadRead, IsPlaceOf, IsTakenAt, each_after}
-use Rattle.kohiblad.specs.Located.{each_of}
+use Rattle.kohiblad.specs.Located.{HoldsNone, IsCellRead, IsNowhere, IsPayloadRead, IsPlaceOf}
+use Rattle.kohiblad.specs.Located.{IsTakenAt, IsThere, each_after, each_of, entry_state}
+use Rattle.kohiblad.specs.Located.{place_state}
+use Rattle.kohiblad.specs.Status.{none}
 use Rattle.kohiblad.specs.Taking.{HoldsScalars, IsSomeTaken, IsTakenCell}
 use Rattle.kohiblad.proofs.UncheckedLaws.{known_state, some_taken, state_found}
 
@@ -29,6 +33,34 @@ pub next_place : (step : ℕ) (places later : List KohibladPlace) (place : Kohib
 next_place step places later place is =
     rw is (ap (λ xs. place ∷ xs) (each_dropped step (step - 1) later))
 
+-- The state of a place.
+pub state_none : (bytes : List ℕ) (place : KohibladPlace) → place.status ≡ none
+    → place_state bytes place ≡ 0
+state_none bytes place is = rw is refl
+
+pub state_there : (bytes : List ℕ) (place : KohibladPlace) → place.status ≡ 0
+    → place.offset + place.length ≤ length bytes
+    → place_state bytes place ≡ entry_state place.type_code
+state_there bytes place is inside =
+    rw (is, le-leb (place.offset + place.length) (length bytes) inside) refl
+
+nowhere_by : (bytes : List ℕ) (place : KohibladPlace) (zero inside : Bool)
+    → (place.status == 0) ≡ zero
+    → nat_le (place.offset + place.length) (length bytes) ≡ inside
+    → (place.status ≡ 0 → place.offset + place.length ≤ length bytes → ⊥)
+    → (if zero && inside then entry_state place.type_code else 4) ≡ 4
+nowhere_by bytes place false inside is are nowhere = refl
+nowhere_by bytes place true false is are nowhere = refl
+nowhere_by bytes place true true is are nowhere =
+    absurd (nowhere (eqb-true place.status 0 is)
+    (leb-true (place.offset + place.length) (length bytes) are))
+
+pub state_nowhere : (bytes : List ℕ) (place : KohibladPlace) → IsNowhere bytes place
+    → place_state bytes place ≡ 4
+state_nowhere bytes place nowhere =
+    rw (ne_eqb place.status none nowhere.0) (nowhere_by bytes place (place.status == 0)
+    (nat_le (place.offset + place.length) (length bytes)) refl refl nowhere.1)
+
 -- What is taken of the member that was read at its place.
 module _ {V : Type 0} (Stands : V → Tree → Type 0) (blank : V) where
   read_cell : (cell : Cell Tree) (member : Option Node) (taken : V × ℕ)
@@ -41,14 +73,29 @@ module _ {V : Type 0} (Stands : V → Tree → Type 0) (blank : V) where
       subst (λ (o : Option Tree). IsTakenCell Stands blank (member_cell o) taken) read is
   read_cell (other b) member taken read is = absurd cc
 
+  none_held : (bytes : List ℕ) (place : KohibladPlace) (member : Option Node) (taken : V × ℕ)
+      → IsTakenCell Stands blank (member_cell (option_map node_tree member)) taken
+      → IfSome member (λ node. IsPlaceOf bytes (value (node_tree node)) place)
+      → IfNone member (place_state bytes place ≡ 0)
+      → HoldsNone bytes place → taken ≡ (blank, place_state bytes place)
+  none_held bytes place (Some node) taken is held none holds =
+      absurd (holds (node_tree node) held)
+  none_held bytes place None taken is held none holds =
+      is ∙ ap (λ (n : ℕ). (blank, n)) (sym none)
+
   pub taken_member : (bytes : List ℕ) (place : KohibladPlace) (member : Option Node)
       (taken : V × ℕ)
       → ((cell : Cell Tree) → IsPlaceOf bytes cell place → IsCellRead cell (Ok member))
       → IsTakenCell Stands blank (member_cell (option_map node_tree member)) taken
+      → IfSome member (λ node. IsPlaceOf bytes (value (node_tree node)) place)
+      → IfNone member (place_state bytes place ≡ 0)
       → IsTakenAt Stands blank bytes place taken
-  taken_member bytes place member taken read is = (
+  taken_member bytes place member taken read is held none = (
     λ cell there. read_cell cell member taken (read cell there) is,
-    some_taken Stands blank (option_map node_tree member) taken is,
+    (
+      none_held bytes place member taken is held none,
+      some_taken Stands blank (option_map node_tree member) taken is,
+    ),
   )
 
   -- What is taken of the payload that was read at its place.
@@ -67,10 +114,24 @@ module _ {V : Type 0} (Stands : V → Tree → Type 0) (blank : V) where
       → IsPayloadRead place.type_code cell (Ok (Some payload)))
       → ((t : Tree) → IsPayloadOf place.type_code payload.now t
       → IsTakenCell Stands blank (member_cell (Some t)) taken)
+      → IsThere bytes place payload.now
+      → (((t : Tree) → IsPayloadOf place.type_code payload.now t → ⊥)
+      → taken ≡ (blank, entry_state place.type_code))
       → IsSomeTaken blank taken → IsTakenAt Stands blank bytes place taken
-  taken_payload bytes place payload taken read entry some = (
+  taken_payload bytes place payload taken read entry there unread some = (
     λ cell there. payload_cell cell place.type_code payload taken (read cell there) entry,
-    some,
+    (
+      λ holds. unread (λ t means. holds t (
+        there.0,
+        (
+          there.1.0,
+          subst
+              (λ (p : List ℕ). IsPayloadOf place.type_code p t) there.1.1 means,
+        ),
+      ))
+          ∙ ap (λ (n : ℕ). (blank, n)) (sym (state_there bytes place there.0 there.1.0)),
+      some,
+    ),
   )
 
   none_cell : (cell : Cell Tree) (type : ℕ) → IsPayloadRead type cell (Ok None)
@@ -82,10 +143,14 @@ module _ {V : Type 0} (Stands : V → Tree → Type 0) (blank : V) where
   pub taken_none : (bytes : List ℕ) (place : KohibladPlace)
       → ((cell : Cell Tree) → IsPlaceOf bytes cell place
       → IsPayloadRead place.type_code cell (Ok None))
+      → place.status ≡ none
       → IsTakenAt Stands blank bytes place (blank, 0)
-  taken_none bytes place read = (
+  taken_none bytes place read is = (
     λ cell there. none_cell cell place.type_code (read cell there),
-    inr (refl, omega arith),
+    (
+      λ holds. ap (λ (n : ℕ). (blank, n)) (sym (state_none bytes place is)),
+      inr (refl, omega arith),
+    ),
   )
 
   fault_cell : (cell : Cell Tree) (type state : ℕ) → state ≡ 4
@@ -97,10 +162,14 @@ module _ {V : Type 0} (Stands : V → Tree → Type 0) (blank : V) where
   pub taken_fault : (bytes : List ℕ) (place : KohibladPlace) (state : ℕ) → state ≡ 4
       → ((cell : Cell Tree) → IsPlaceOf bytes cell place
       → IsPayloadRead place.type_code cell (Err state))
+      → IsNowhere bytes place
       → IsTakenAt Stands blank bytes place (blank, state)
-  taken_fault bytes place state is read = (
+  taken_fault bytes place state is read nowhere = (
     λ cell there. fault_cell cell place.type_code state is (read cell there),
-    known_state Stands blank state (inr is),
+    (
+      λ holds. ap (λ (n : ℕ). (blank, n)) (is ∙ sym (state_nowhere bytes place nowhere)),
+      known_state Stands blank state (inr is),
+    ),
   )
 
   state_cell : (cell : Cell Tree) (state : ℕ) → HoldsScalars Stands
@@ -114,7 +183,9 @@ module _ {V : Type 0} (Stands : V → Tree → Type 0) (blank : V) where
 
   pub taken_state : (bytes : List ℕ) (place : KohibladPlace) (state : ℕ) → HoldsScalars Stands
       → ((cell : Cell Tree) → IsPlaceOf bytes cell place → IsCellRead cell (Err state))
-      → (state ≡ 3) ⊎ (state ≡ 4)
+      → (state ≡ 3) ⊎ (state ≡ 4) → state ≡ place_state bytes place
       → IsTakenAt Stands blank bytes place (blank, state)
-  taken_state bytes place state scalars read known =
-      (λ cell there. state_cell cell state scalars (read cell there), known_state Stands blank state known)
+  taken_state bytes place state scalars read known is = (
+    λ cell there. state_cell cell state scalars (read cell there),
+    (λ holds. ap (λ (n : ℕ). (blank, n)) is, known_state Stands blank state known),
+  )

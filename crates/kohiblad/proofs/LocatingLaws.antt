@@ -45,6 +45,7 @@ use Rattle.kohiblad.specs.declared.taking.Reading.TheVariants.{Checked, Unchecke
 use Rattle.kohiblad.specs.Located.{IsPlaceOf}
 use Rattle.kohiblad.specs.Locating.{AreNamesLocated, ArePutBehind, IsInRow, IsKnownRow}
 use Rattle.kohiblad.specs.Locating.{IsLocated, IsLocatedIn, IsMemberPlace, IsSomePlace}
+use Rattle.kohiblad.specs.Locating.{IsValueOfName}
 use Rattle.kohiblad.specs.Locating.{WithNames, WithNamesOf, joined_places, placed_answer, row_at}
 use Rattle.kohiblad.specs.Locating.{spans_from}
 use Rattle.kohiblad.specs.Names.{names_in}
@@ -189,6 +190,15 @@ module _ (bytes row : List ℕ) (start end : ℕ) (is : row ≡ take (end - star
           let inner : entry.start + entry.length ≤ length row = within.0 in
           (omega arith, omega (arith, size, inner))
 
+  value_of_name : (reading : Reading) → IsKnownRow reading row → (name : Bor (List ℕ))
+      (place : KohibladPlace) → IsMemberPlace start row name place
+      → IsValueOfName reading start row name place
+  value_of_name Unchecked known name place (found, (same, (within, named))) =
+      λ t document_is. same ∙ ap (placed_answer start) (named t document_is)
+  value_of_name (Checked depth) (u, (document_is, means)) name place
+      (found, (same, (within, named))) =
+      λ t is. same ∙ ap (placed_answer start) (named u document_is)
+
   pub names_located : (reading : Reading) → IsKnownRow reading row
       → (names : List (Bor (List ℕ))) (places : List KohibladPlace)
       → AllZip (IsMemberPlace start row) names places
@@ -200,7 +210,11 @@ module _ (bytes row : List ℕ) (start end : ℕ) (is : row ≡ take (end - star
     (
       subst (λ (r : List ℕ). IsLocated reading bytes r name place) is
           (known_located reading known name place are.0),
-      in_row name place are.0,
+      (
+        in_row name place are.0,
+        subst (λ (r : List ℕ). IsValueOfName reading start r name place) is
+            (value_of_name reading known name place are.0),
+      ),
     ),
     names_located reading known names places are.1,
   )
@@ -217,16 +231,18 @@ pub same_located : (reading : Reading) (bytes : List ℕ) (span : ℕ × ℕ) (s
     (names : List (Bor (List ℕ))) (places : List KohibladPlace)
     → ((bytes_now : List ℕ) (name : Bor (List ℕ))
     → IsLocated reading bytes_now (row_at bytes span) name same)
+    → ((start : ℕ) (name : Bor (List ℕ))
+    → IsValueOfName reading start (row_at bytes span) name same)
     → same.status ≢ 0
     → AllZip (λ (name : Bor (List ℕ)) one. one ≡ same) names places
     → AreNamesLocated reading bytes names span places
-same_located reading bytes span same [] [] each none are = tt
-same_located reading bytes span same [] (place ∷ places) each none are = absurd are
-same_located reading bytes span same (name ∷ names) [] each none are = absurd are
-same_located reading bytes span same (name ∷ names) (place ∷ places) each none are = (
+same_located reading bytes span same [] [] each value none are = tt
+same_located reading bytes span same [] (place ∷ places) each value none are = absurd are
+same_located reading bytes span same (name ∷ names) [] each value none are = absurd are
+same_located reading bytes span same (name ∷ names) (place ∷ places) each value none are = (
   subst (IsLocatedIn reading bytes span name) (sym are.0)
-      (each bytes name, λ there. absurd (none there)),
-  same_located reading bytes span same names places each none are.1,
+      (each bytes name, ((λ there. absurd (none there)), value span.0 name)),
+  same_located reading bytes span same names places each value none are.1,
 )
 
 -- The places of the names that are left are still to be found in the walk.
@@ -499,24 +515,6 @@ one_more_located reading bytes names rows left later row at places places_now pl
           (omega (arith, long));
     }
 
-pub all_located : (reading : Reading) (bytes : List ℕ) (names : List (Bor (List ℕ)))
-    (rows left : List (ℕ × ℕ)) (at : ℕ) (places places_now : List KohibladPlace)
-    → LocatedSoFar reading bytes names rows left at places places_now → left ≡ []
-    → (found : List (List KohibladPlace))
-    × (AllZip (AreNamesLocated reading bytes names) rows found
-    × (places_now ≡ joined_places found ++ drop (length (joined_places found)) places))
-all_located reading bytes names rows left at places places_now so_far none =
-    let whole : rows ≡ so_far.done =
-    so_far.whole ∙ ap (λ (xs : List (ℕ × ℕ)). so_far.done ++ xs) none ∙ append-nil so_far.done in (
-      so_far.found,
-      (
-        subst (λ (xs : List (ℕ × ℕ)). AllZip (AreNamesLocated reading bytes names) xs so_far.found)
-            (sym whole) so_far.each,
-        so_far.places_are
-            ∙ ap (λ (n : ℕ). joined_places so_far.found ++ drop n places) (sym so_far.many),
-      ),
-    )
-
 -- A call with the names that a document gives.
 module _ (Refused : ℕ → Type 0) (Done : List (Bor (List ℕ)) → Type 0)
     (names : List (Bor (List ℕ)))
@@ -540,16 +538,3 @@ module _ (Refused : ℕ → Type 0) (Done : List (Bor (List ℕ)) → Type 0)
       (subst
       (λ (o : Option (List (List ℕ))). WithNames Refused Done o ⊎ Refused (code OutOfMemory)) are
       (by_order (names_ascend None (texts names)) refl))
-
--- A call without them.
-pub without_names : (Refused : ℕ → Type 0) (Done : List (Bor (List ℕ)) → Type 0) (t : Tree)
-    (m : Meaning) → m ≡ document t → None ≡ names_in t → Refused other_kind
-    → WithNamesOf Refused Done m
-without_names Refused Done t m means none refused =
-    subst (WithNamesOf Refused Done) (sym means)
-    (inl (subst (WithNames Refused Done) none refused))
-
-pub without_memory : (Refused : ℕ → Type 0) (Done : List (Bor (List ℕ)) → Type 0) (t : Tree)
-    (m : Meaning) → m ≡ document t → Refused 10 → WithNamesOf Refused Done m
-without_memory Refused Done t m means refused =
-    subst (WithNamesOf Refused Done) (sym means) (inr refused)

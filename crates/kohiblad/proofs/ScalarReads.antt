@@ -1,5 +1,5 @@
 -- What payloads of scalars are read as.
-use Rattle.std.proofs.Common.{◌≡◌, ◌≢◌, ℕ, Bool, true, false, List, Some, refl, sym, ap, ◌∙◌}
+use Rattle.std.proofs.Common.{◌≡◌, ◌≢◌, ℕ, Bool, true, false, List, [], Some, refl, sym, ap, ◌∙◌}
 use Rattle.std.proofs.Common.{arith}
 use Rattle.std.specs.Str.{IsUtf8}
 use Rattle.jsonb_value.specs.ExtCode.{ExtCode}
@@ -62,6 +62,50 @@ true_read p t h = ap (λ (u : Tree). Some u) (sym (truth_means true TRUE_TAG p t
 pub false_read : (p : List ℕ) (t : Tree) → IsPayloadOf FALSE_TAG p t
     → Some (trees.boolean false) ≡ Some t
 false_read p t h = ap (λ (u : Tree). Some u) (sym (truth_means false FALSE_TAG p t refl h))
+
+-- Null and truth values have no bytes.
+pub null_full : (p : List ℕ) (t : Tree) → IsPayloadOf NULL_TAG p t → p ≢ [] → ⊥
+null_full p trees.null h full = full h.1
+null_full p (trees.boolean true) h full = absurd (omega (arith, h.0))
+null_full p (trees.boolean false) h full = absurd (omega (arith, h.0))
+null_full p t h full = absurd (omega (arith, h.0))
+
+truth_full : (b : Bool) (tag : ℕ) (p : List ℕ) (t : Tree) → type_of (trees.boolean b) ≡ tag
+    → IsPayloadOf tag p t → p ≢ [] → ⊥
+truth_full true tag p (trees.boolean true) is h full = full h.1
+truth_full false tag p (trees.boolean false) is h full = full h.1
+truth_full true tag p (trees.boolean false) is h full = absurd (omega (arith, is, h.0))
+truth_full false tag p (trees.boolean true) is h full = absurd (omega (arith, is, h.0))
+truth_full true tag p t is h full = absurd (omega (arith, is, h.0))
+truth_full false tag p t is h full = absurd (omega (arith, is, h.0))
+
+pub true_full : (p : List ℕ) (t : Tree) → IsPayloadOf TRUE_TAG p t → p ≢ [] → ⊥
+true_full p t h full = truth_full true TRUE_TAG p t refl h full
+
+pub false_full : (p : List ℕ) (t : Tree) → IsPayloadOf FALSE_TAG p t → p ≢ [] → ⊥
+false_full p t h full = truth_full false FALSE_TAG p t refl h full
+
+-- What was read is held.
+pub null_held : (p : List ℕ) (t : Tree) → t ≡ trees.null → p ≡ [] → IsPayloadOf NULL_TAG p t
+null_held p t is empty = rw (is, empty) (refl, refl)
+
+pub true_held : (p : List ℕ) (t : Tree) → t ≡ trees.boolean true → p ≡ []
+    → IsPayloadOf TRUE_TAG p t
+true_held p t is empty = rw (is, empty) (refl, refl)
+
+pub false_held : (p : List ℕ) (t : Tree) → t ≡ trees.boolean false → p ≡ []
+    → IsPayloadOf FALSE_TAG p t
+false_held p t is empty = rw (is, empty) (refl, refl)
+
+pub number_held : (p : List ℕ) (x : Number) → NumCode p x → IsPayloadOf NUMBER_TAG p (trees.number x)
+number_held p x code = (refl, code)
+
+pub text_held : (p s : List ℕ) → s ≡ p → IsUtf8 p → IsPayloadOf STRING_TAG p (trees.text s)
+text_held p s same utf8 = rw same (refl, (refl, utf8))
+
+pub extension_held : (p : List ℕ) (e : Extension) → ExtCode p e
+    → IsPayloadOf EXTENSION_TAG p (trees.extension e)
+extension_held p e code = (refl, code)
 
 pub number_read : (p : List ℕ) (t : Tree) (x : Number) → IsPayloadOf NUMBER_TAG p t → NumCode p x
     → Some (trees.number x) ≡ Some t

@@ -1,10 +1,9 @@
 -- What C receives of files of typed columns.
-use Rattle.std.proofs.Common.{◌≡◌, ◌≢◌, ◌⊎◌, inl, inr, ℕ, ◌<◌, ◌≤◌, ◌-◌, List, [], ◌∷◌, ◌++◌, map}
-use Rattle.std.proofs.Common.{length, take, drop, slice_index_or, get_or, refl, sym, ap, subst}
-use Rattle.std.proofs.Common.{arith, ◌∙◌, append_assoc, Result, Ok, Err}
+use Rattle.std.proofs.Common.{◌≡◌, ◌≢◌, ◌⊎◌, inl, inr, ℕ, ◌<◌, ◌≤◌, List, [], ◌∷◌, ◌++◌, map}
+use Rattle.std.proofs.Common.{get_or, refl, sym, ap, subst}
+use Rattle.std.proofs.Common.{arith, Result, Ok, Err}
 use Rattle.std.specs.Prelude.{◌↔◌}
 use Rattle.std.specs.List.{AllZip}
-use Rattle.std.proofs.lemmas.List.{append-nil, take_all}
 use Rattle.jsonb_value.specs.declared.error.Error.{Error}
 use Rattle.jsonb_value.specs.declared.error.Error.TheVariants.{InvalidJsonb, OutOfMemory}
 use Rattle.jsonb_value.specs.Tree.{Tree}
@@ -20,7 +19,6 @@ use Rattle.jsonb_typed_file.specs.Layout.{IsCutOff, IsLayout, Parts, type_bytes}
 use Rattle.jsonb_typed_file.specs.OneRow.{IsRowInForm, IsRowOf, IsRowWithin}
 use Rattle.jsonb_typed_file.specs.Places.{IsColumnAt}
 use Rattle.jsonb_typed_file.specs.Rows.{IsMade, row_tree}
-use Rattle.kohiblad.specs.declared.typed_files.KohibladTypedColumn.{KohibladTypedColumn}
 use Rattle.kohiblad.specs.Status.{IsAnswered, IsRefused, code, too_deep}
 use Rattle.kohiblad.specs.TypedFiles.{IsColumnPlaced, IsFileRow, IsLayoutRefused}
 use Rattle.kohiblad.specs.TypedFiles.{IsRowRefused, column_struct, file_code}
@@ -47,27 +45,6 @@ structs_placed bytes rows [] (c ∷ cs) all = absurd all
 structs_placed bytes rows (p ∷ ps) [] all = absurd all
 structs_placed bytes rows (p ∷ ps) (c ∷ cs) all =
     (struct_placed bytes rows p c all.0, structs_placed bytes rows ps cs all.1)
-
--- One more struct.
-pub structs_push : (before after : List KohibladTypedColumn) (m : KohibladTypedColumn)
-    (left : List ColumnPlaces) (d : ColumnPlaces) (all : List KohibladTypedColumn)
-    → 1 ≤ length left → before ++ map column_struct left ≡ all → after ≡ before ++ m ∷ []
-    → m ≡ column_struct (slice_index_or left 0 d)
-    → after ++ map column_struct (take (length left - 1) (drop 1 left)) ≡ all
-structs_push before after m [] d all some was pushed is = absurd (omega (arith, some))
-structs_push before after m (c ∷ cs) d all some was pushed is =
-    let later : take (length (c ∷ cs) - 1) (drop 1 (c ∷ cs)) ≡ cs =
-    take_all (length (c ∷ cs) - 1) cs (omega arith) in
-    rw (later, pushed)
-    (append_assoc before (m ∷ []) (map column_struct cs)
-    ∙ ap (λ x. before ++ x ∷ map column_struct cs) is
-    ∙ was)
-
-pub structs_end : (made : List KohibladTypedColumn) (left : List ColumnPlaces)
-    (all : List KohibladTypedColumn) → length left < 1 → made ++ map column_struct left ≡ all
-    → made ≡ all
-structs_end made [] all few was = sym (append-nil made) ∙ was
-structs_end made (c ∷ cs) all few was = absurd (omega (arith, few))
 
 -- A row that is made is written.
 made_writes : (t : Tree) (r : Result OwnedJsonb Error) → IsMade t r

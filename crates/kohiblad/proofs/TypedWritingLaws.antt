@@ -1,14 +1,12 @@
 -- What C receives where a file of typed columns is written.
 use Rattle.std.proofs.Common.{◌≡◌, ◌⊎◌, inl, inr, ℕ, ◌<◌, ◌≤◌, ◌-◌, ◌^◌, List, [], ◌∷◌, ◌++◌}
 use Rattle.std.proofs.Common.{map, length, take, drop, slice_index_or, refl, sym, ap, subst}
-use Rattle.std.proofs.Common.{arith, ◌∙◌, ◌↔◌, append_assoc, Bor, Option, None, Result, Err}
+use Rattle.std.proofs.Common.{arith, ◌∙◌, ◌↔◌, append_assoc, Bor, None, Result, Err}
 use Rattle.std.specs.List.{flat_map}
 use Rattle.std.proofs.lemmas.Grind.{flat_map-append}
 use Rattle.std.proofs.lemmas.List.{append-nil, map-append, take_all}
 use Rattle.jsonb_value.specs.declared.error.Error.{Error}
 use Rattle.jsonb_value.specs.declared.error.Error.TheVariants.{InvalidJsonb, OutOfMemory}
-use Rattle.jsonb_value.specs.Meaning.{Meaning, document}
-use Rattle.jsonb_value.specs.Tree.{Tree}
 use Rattle.jsonb_codec.specs.Depth.{IsDocumentWithin}
 use Rattle.jsonb.specs.declared.document.Document.{Document}
 use Rattle.jsonb.specs.Document.{document_bytes}
@@ -19,11 +17,9 @@ use Rattle.jsonb_typed_file.specs.declared.write.ColumnPlan.{ColumnPlan}
 use Rattle.jsonb_typed_file.specs.Layout.{type_bytes}
 use Rattle.jsonb_typed_file.specs.Written.{AllFit, AscendPlans}
 use Rattle.jsonb_typed_file.proofs.LayoutLaws.{same_head}
-use Rattle.kohiblad.specs.Names.{names_in}
 use Rattle.kohiblad.specs.Results.{AreWithin}
 use Rattle.kohiblad.specs.Status.{code}
 use Rattle.kohiblad.specs.TypedWriting.{ArePlans, AreRowsOf, BuildsDocuments}
-use Rattle.kohiblad.specs.TypedWriting.{BuildsMeant, BuildsNamed}
 use Rattle.kohiblad.specs.TypedWriting.{BuildsRows, write_code}
 
 -- The documents so far are those of the rows before the rows that are left.
@@ -64,12 +60,6 @@ all_read depth rows left documents none so_far = (
       ∙ ap (λ bs. map document_bytes documents ++ bs) (sym none) ∙ so_far.parts,
 )
 
-pub not_within : (depth : ℕ) (rows left later : List (List ℕ)) (row : List ℕ)
-    (documents : List Document) → ReadSoFar depth rows left documents → left ≡ row ∷ later
-    → (IsDocumentWithin depth row → ⊥) → AreWithin depth rows → ⊥
-not_within depth rows left later row documents so_far split refused are =
-    refused (subst (AreWithin depth) split (so_far.all are)).0
-
 -- The names and the bytes of the types of plans.
 abbrev pub plan_names : List ColumnPlan → List (List ℕ)
 plan_names plans = map (λ q. q.name.now) plans
@@ -82,13 +72,6 @@ pub record PlannedSoFar (names : List (List ℕ)) (types : List ℕ) (names_left
     (types_left : List ℕ) (plans : List ColumnPlan) : Type 0 where
   pub names_are : plan_names plans ++ names_left ≡ names
   pub types_are : plan_types plans ++ types_left ≡ types
-
-pub none_planned : (names : List (List ℕ)) (types : List ℕ) (plans : List ColumnPlan)
-    → plans ≡ [] → PlannedSoFar names types names types plans
-none_planned names types plans none = record {
-  names_are = ap (λ ps. plan_names ps ++ names) none;
-  types_are = ap (λ ps. plan_types ps ++ types) none;
-}
 
 -- The names after the first.
 pub names_later : (left : List (Bor (List ℕ))) (d : Bor (List ℕ)) → 1 ≤ length left
@@ -122,16 +105,6 @@ one_more_planned names types left later name types_left others plans more q so_f
           ∙ ap (λ bs. plan_types plans ++ bs) (sym cut)
           ∙ so_far.types_are;
     }
-
-pub all_planned : (names : List (List ℕ)) (types : List ℕ) (left : List (List ℕ))
-    (types_left : List ℕ) (plans : List ColumnPlan) → left ≡ [] → types_left ≡ []
-    → PlannedSoFar names types left types_left plans → ArePlans names types plans
-all_planned names types left types_left plans none last so_far = (
-  sym (append-nil (plan_names plans)) ∙ ap (λ ns. plan_names plans ++ ns) (sym none)
-      ∙ so_far.names_are,
-  sym (append-nil (plan_types plans)) ∙ ap (λ bs. plan_types plans ++ bs) (sym last)
-      ∙ so_far.types_are,
-)
 
 -- What is left of the names and types is that of other plans.
 abbrev LeftPlans : List (List ℕ) → List ℕ → Type 0
@@ -218,21 +191,6 @@ rows_refused depth rows plans e (inl (is, other)) =
     inl (other, ap (λ (x : Error). refusal (code x)) is)
 rows_refused depth rows plans e (inr is) =
     inr (inr (ap (λ (x : Error). refusal (code x)) is))
-
--- What is built with the names that a document gives.
-pub built_named : (depth : ℕ) (rows : List (List ℕ)) (t : Tree) (m : Meaning) (types : List ℕ)
-    (named : Option (List (List ℕ))) (made : Result (List ℕ) ℕ) → m ≡ document t
-    → named ≡ names_in t → BuildsNamed depth rows named types made
-    → BuildsMeant depth rows m types made
-built_named depth rows t m types named made means are built =
-    subst (λ x. BuildsMeant depth rows x types made) (sym means)
-    (inl (subst (λ x. BuildsNamed depth rows x types made) are built))
-
-pub built_without_memory : (depth : ℕ) (rows : List (List ℕ)) (t : Tree) (m : Meaning)
-    (types : List ℕ) (made : Result (List ℕ) ℕ) → m ≡ document t
-    → made ≡ Err (code OutOfMemory) → BuildsMeant depth rows m types made
-built_without_memory depth rows t m types made means memory =
-    subst (λ x. BuildsMeant depth rows x types made) (sym means) (inr memory)
 
 -- The same of names that are borrowed.
 pub no_type_left : (names : List (List ℕ)) (types : List ℕ) (left : List (Bor (List ℕ)))

@@ -2,6 +2,7 @@
 use Rattle.std.proofs.Common.{◌≡◌, ◌⊎◌, ◌<◌, ◌≤◌, ◌==◌, ◌&&◌, if◌then◌else◌, ℕ, Bool, true}
 use Rattle.std.proofs.Common.{false, List, [], ◌∷◌, length, Option, None, Some, option_map, Result}
 use Rattle.std.proofs.Common.{Ok, Err, IsOkAnd, get_or, inl, inr, refl, sym, ap, subst, arith}
+use Rattle.std.specs.Prelude.{IfSome, IsSome}
 use Rattle.std.specs.Borrow.{Bor}
 use Rattle.std.specs.Map.{keys_of, values_of}
 use Rattle.jsonb_value.specs.NumCode.{NumCode}
@@ -242,6 +243,13 @@ module _ {V : Type 0} (Stands : V → Tree → Type 0) (blank : V) where
       known_state state known,
     ),
   )
+
+-- What was read of an entry is held by it.
+pub held_read : (type : ℕ) (p : List ℕ) (member : Option Node) → IsSome member
+    → IfSome member (λ node. IsPayloadOf type p (node_tree node))
+    → ((t : Tree) → IsPayloadOf type p t → ⊥) → ⊥
+held_read type p None some held none = absurd (cc)
+held_read type p (Some node) some held none = none (node_tree node) held
 
 -- No value of a type stands for an array or object.
 scalar_texts : HoldsScalars IsText

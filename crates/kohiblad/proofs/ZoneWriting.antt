@@ -31,17 +31,6 @@ pub record ZonesSoFar {A Z : Type 0} (cmp : A → A → Ordering) (written : Opt
   pub each : (k : ℕ) → k < number
       → IsBlockZone cmp size values states k (slice_index_or zones k None)
 
-pub no_zones : {A Z : Type 0} (cmp : A → A → Ordering) (written : Option (Zone A) → Z) (size : ℕ)
-    (values : List A) (states : List ℕ) (out : List Z)
-    → ZonesSoFar cmp written size values states 0 out out
-no_zones cmp written size values states out = record {
-  zones = [];
-  many = refl;
-  room = refl;
-  are = refl;
-  each = λ k low. absurd (omega (arith, low));
-}
-
 pub one_more_zone : {A Z : Type 0} (cmp : A → A → Ordering) (written : Option (Zone A) → Z)
     (size : ℕ) (values : List A) (states : List ℕ) (number : ℕ) (out out_now : List Z)
     (zone : Option (Zone A)) → ZonesSoFar cmp written size values states number out out_now

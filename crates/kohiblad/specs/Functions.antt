@@ -1,6 +1,6 @@
 -- The results of the functions over documents, as C receives them.
-use Rattle.std.specs.Prelude.{◌≡◌, ◌⊎◌, ◌<◌, ◌≤◌, ◌+◌, ◌*◌, ℕ, zero, suc, List, length, map, Option}
-use Rattle.std.specs.Prelude.{None, Some, Result, Ok, Err}
+use Rattle.std.specs.Prelude.{◌≡◌, ◌⊎◌, ◌<◌, ◌≤◌, ◌+◌, ◌*◌, ℕ, zero, suc, true, List, length, map}
+use Rattle.std.specs.Prelude.{Option, None, Some, Result, Ok, Err}
 use Rattle.jsonb_value.specs.declared.error.Error.{Error}
 use Rattle.jsonb_value.specs.declared.error.Error.TheVariants.{InvalidJsonb}
 use Rattle.jsonb_value.specs.declared.error.Error.TheVariants.{OutOfMemory}
@@ -8,6 +8,7 @@ use Rattle.jsonb_value.specs.Meaning.{Meaning, document, other_bytes}
 use Rattle.jsonb_value.specs.Tree.{Tree}
 use Rattle.jsonb_codec.specs.Canon.{canon, Fits}
 use Rattle.jsonb_functions.specs.Contains.{contains_whole, has_top_key}
+use Rattle.jsonb_functions.specs.ContainSteps.{contains_work}
 use Rattle.jsonb_functions.specs.Edited.{Operation, create, edited_whole, insert, put, remove}
 use Rattle.jsonb_functions.specs.EditSource.{edit_operation}
 use Rattle.kohiblad.specs.Scalars.{no_truth, truth_of}
@@ -19,14 +20,15 @@ use Rattle.kohiblad.specs.Status.{code, other_kind, too_many_steps, IsHandedOver
 use Rattle.kohiblad.specs.Status.{IsRefused}
 use Rattle.kohiblad.specs.declared.scalar.KohibladTruth.{KohibladTruth}
 
--- Whether the first document contains the second, unless that takes more than so many steps, which
--- it does only if there are fewer than the product of the weights of both trees, or there is not
--- enough memory; bytes that are not a document are refused.
+-- Whether the first document contains the second, exactly if that takes at most so many steps,
+-- which never are more than the product of the weights of both trees; or there is not enough
+-- memory, where it sorts. Bytes that are not a document are refused.
 abbrev pub IsContainedAnswer : ℕ → Meaning → Meaning → KohibladTruth → Type 0
 IsContainedAnswer steps (document t) (document u) answer =
-    (answer ≡ truth_of (contains_whole t u))
-    ⊎ (((answer ≡ no_truth too_many_steps) × (steps < weight t * weight u))
-    ⊎ (answer ≡ no_truth (code OutOfMemory)))
+    ((contains_work t u).steps ≤ weight t * weight u)
+    × (((answer ≡ truth_of (contains_whole t u)) × ((contains_work t u).steps ≤ steps))
+    ⊎ (((answer ≡ no_truth too_many_steps) × (steps < (contains_work t u).steps))
+    ⊎ ((answer ≡ no_truth (code OutOfMemory)) × ((contains_work t u).sorts ≡ true))))
 IsContainedAnswer steps m n answer = answer ≡ no_truth (code InvalidJsonb)
 
 -- Whether the document has the key; bytes that are not a document are refused.

@@ -41,6 +41,21 @@ IsLocated Unchecked bytes row name place =
     ((t : Tree) → Doc row t → IsPlaceOf bytes (member_cell (found_at (Key name ∷ []) t)) place)
     × ((row ≡ [] → place ≡ place_answer (Ok None)) × IsSomePlace bytes place)
 
+-- The place in all bytes of an entry that was found in a row, which begins at `start`.
+abbrev pub placed_answer : ℕ → Option Entry → KohibladPlace
+placed_answer start None = place_answer (Ok None)
+placed_answer start (Some entry) = place_answer (Ok (Some (moved start entry)))
+
+-- The place is that of the value of the name in a row that begins at `start`, or that the row has
+-- none, by how rows are read: of a document of at most the depth, and if rows are not checked of
+-- every document.
+abbrev pub IsValueOfName : Reading → ℕ → List ℕ → Bor (List ℕ) → KohibladPlace → Type 0
+IsValueOfName (Checked depth) start row name place =
+    (t : Tree) → meaning_within depth row ≡ document t
+    → place ≡ placed_answer start (name_place name.now row)
+IsValueOfName Unchecked start row name place =
+    (t : Tree) → Doc row t → place ≡ placed_answer start (name_place name.now row)
+
 -- Where rows begin and end in all bytes: the first begins at `start`, and each other at the end of
 -- the previous one.
 abbrev pub spans_from : ℕ → List ℕ → List (ℕ × ℕ)
@@ -61,11 +76,13 @@ abbrev pub IsInRow : ℕ × ℕ → KohibladPlace → Type 0
 IsInRow span place =
     place.status ≡ 0 → (span.0 ≤ place.offset) × (place.offset + place.length ≤ span.1)
 
--- The place of the member with a name of the row that begins and ends there, which is inside that
--- row.
+-- The place of the member with a name of the row that begins and ends there: it holds the value
+-- that the row's tree has for the name, is inside the row, and is that of the value stored for the
+-- name.
 abbrev pub IsLocatedIn : Reading → List ℕ → ℕ × ℕ → Bor (List ℕ) → KohibladPlace → Type 0
 IsLocatedIn reading bytes span name place =
-    IsLocated reading bytes (row_at bytes span) name place × IsInRow span place
+    IsLocated reading bytes (row_at bytes span) name place
+    × (IsInRow span place × IsValueOfName reading span.0 (row_at bytes span) name place)
 
 -- The places of the members with these names of a row.
 abbrev pub AreNamesLocated : Reading → List ℕ → List (Bor (List ℕ)) → ℕ × ℕ
@@ -120,11 +137,6 @@ AreLocated reading bytes offsets names before after status =
     ⊎ ((are_offsets (length bytes) 0 offsets ≡ true)
     × WithNamesOf (λ refusal. (status ≡ refusal) × (after ≡ before))
     (λ names. ArePlacesWritten reading bytes names (spans offsets) before after status) names)
-
--- The place in all bytes of an entry that was found in a row, which begins at `start`.
-abbrev pub placed_answer : ℕ → Option Entry → KohibladPlace
-placed_answer start None = place_answer (Ok None)
-placed_answer start (Some entry) = place_answer (Ok (Some (moved start entry)))
 
 -- The row is known to be a document, if rows are checked.
 abbrev pub IsKnownRow : Reading → List ℕ → Type 0

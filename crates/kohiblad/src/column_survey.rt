@@ -49,13 +49,14 @@ pub struct KohibladSurvey {
 /// stored, and rows without the member. Row k begins at `offsets[k]` and ends at `offsets[k + 1]`.
 /// A row of no bytes has no member, and one that is not a document of at most this depth has a
 /// count of its own. Beside the counts are the least and the greatest number of digits after the
-/// point, the most digits of a number without its point, and the longest text in bytes; each is 0
-/// if there is no number or text. `path` is the document of a path, as `kohiblad_get_path` takes
-/// it. `InvalidEOF` if an offset is below the previous one or beyond the bytes; then `InvalidJsonb`
-/// if the path is not a document of at most this depth; `OTHER_KIND` if it is not an array of texts
-/// and whole numbers of 64 bits; `OutOfMemory` if an allocation fails, which only the path makes.
-/// If the status is not `OK`, all fields are 0. A scalar has depth 0, an array or object one more
-/// than its deepest child, and at least 1. Deeper levels are not examined.
+/// point, the most digits of a number without its point and the zeros in front of it, as 1 of 0.05,
+/// and the longest text in bytes; each is 0 if there is no number or text. `path` is the document
+/// of a path, as `kohiblad_get_path` takes it. `InvalidEOF` if an offset is below the previous one
+/// or beyond the bytes; then `InvalidJsonb` if the path is not a document of at most this depth;
+/// `OTHER_KIND` if it is not an array of texts and whole numbers of 64 bits; `OutOfMemory` if an
+/// allocation fails, which only the path makes. If the status is not `OK`, all fields are 0. A
+/// scalar has depth 0, an array or object one more than its deepest child, and at least 1. Deeper
+/// levels are not examined.
 #[unsafe(no_mangle)]
 pub extern "C" fn kohiblad_survey(
     alloc: Global,

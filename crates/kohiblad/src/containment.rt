@@ -15,17 +15,17 @@ use std::alloc::Global;
 /// Whether the document `left` contains `right`, as 0 or 1. An object contains the objects whose
 /// keys it has, with values that contain those; an array contains the arrays for each of whose
 /// items it has one that contains it; a scalar contains what equals it; and at the top an array
-/// also contains a scalar that is one of its items. `TOO_MANY_STEPS` if that takes more than
-/// `steps` steps. There is one for each pair of values that are compared, and for each member that
-/// is passed in search of a key, up to the first whose key is not below it; and one for each byte
-/// of the keys of these members, and of two texts, or two binary or opaque values, that are
+/// also contains a scalar that is one of its items. `TOO_MANY_STEPS` exactly if that takes more
+/// than `steps` steps. There is one for each pair of values that are compared, and for each member
+/// that is passed in search of a key, up to the first whose key is not below it; and one for each
+/// byte of the keys of these members, and of two texts, or two binary or opaque values, that are
 /// compared and equally long: 4 for {"a":1} in {"a":1}. If more than 16 items are looked for in an
 /// array of more than 16, there is a step in place of these for each scalar of the array, which are
-/// sorted, and for each that is looked for, and one for each of its bytes. `steps` suffice that are
-/// at least the product of the weights of both, the numbers of their values and keys and of the
-/// bytes of texts, keys, and binary and opaque values. `InvalidJsonb` if `left` or `right` is not a
-/// document of at most this depth; `OutOfMemory` if an allocation fails, which only such a sort
-/// makes.
+/// sorted, and for each that is looked for, and one for each of its bytes. `steps` always suffice
+/// that are at least the product of the weights of both, the numbers of their values and keys and
+/// of the bytes of texts, keys, and binary and opaque values. `InvalidJsonb` if `left` or `right`
+/// is not a document of at most this depth; `OutOfMemory` if an allocation fails, which only such a
+/// sort makes.
 #[unsafe(no_mangle)]
 pub extern "C" fn kohiblad_contains(
     alloc: Global,

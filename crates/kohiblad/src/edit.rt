@@ -19,11 +19,12 @@ use std::alloc::Global;
 /// step before the last leads nowhere nothing is edited, and neither is the whole document but by
 /// putting a value. With 3 the value is put there, and what the path lacks is made: an object for
 /// each missing key, an array for the index 0 or 2^64 - 1; an item is added right after the last
-/// one only, at its index or at 2^64 - 1. `InvalidJsonb` if the bytes, the path or the value are
-/// not a document of at most this depth, or the result exceeds a limit of the format; `OTHER_KIND`
-/// if there is no such edit, or the path is not an array of texts and whole numbers of 64 bits;
-/// `OutOfMemory` if an allocation fails. The document has at most 5/4 of the bytes of the document
-/// and the value together, 3 times those of the path, and 2 more.
+/// one only, at its index or at 2^64 - 1. Any other number is refused without reading the value.
+/// `InvalidJsonb` if the bytes, the path or the value are not a document of at most this depth, or
+/// the result exceeds a limit of the format; `OTHER_KIND` if there is no such edit, or the path is
+/// not an array of texts and whole numbers of 64 bits; `OutOfMemory` if an allocation fails. The
+/// document has at most 5/4 of the bytes of the document and the value together, 3 times those of
+/// the path, and 2 more.
 #[unsafe(no_mangle)]
 pub extern "C" fn kohiblad_edit(
     alloc: Global,

@@ -1,11 +1,13 @@
 //! The places of members in rows, and what is read there.
 
-ghost use Rattle.std.specs.Prelude.{◌≡◌, ◌∷◌, ◌⊎◌, ◌+◌, ◌≤◌, [], IfErr, IfOk, IfSome, List};
-ghost use Rattle.std.specs.Prelude.{MatchOption, drop, length, nat_le, take};
+ghost use Rattle.std.specs.Prelude.{◌≡◌, ◌∷◌, ◌⊎◌, ◌+◌, ◌≤◌, [], IfErr, IfNone, IfOk, IfSome};
+ghost use Rattle.std.specs.Prelude.{List, MatchOption, drop, length, nat_le, take};
 ghost use Rattle.typed_vector.specs.Cells.{Cell};
 ghost use Rattle.jsonb_typed.specs.Words.{HoldsNoScalar};
-ghost use Rattle.kohiblad.specs.Located.{IsCellRead, IsPayloadRead, IsPlaceOf, each_of};
-ghost use Rattle.kohiblad.specs.Words.{Tree};
+ghost use Rattle.kohiblad.specs.Located.{IsCellRead, IsNowhere, IsPayloadRead, IsPlaceOf};
+ghost use Rattle.kohiblad.specs.Located.{IsThere, each_of, place_state};
+ghost use Rattle.kohiblad.specs.Status.{none};
+ghost use Rattle.kohiblad.specs.Words.{Tree, node_tree};
 ghost use Rattle.kohiblad.specs.declared.places.KohibladPlace.{KohibladPlace};
 
 use crate::answer::{NONE, OK};
@@ -89,11 +91,16 @@ fn places_after(places: &[KohibladPlace], passed: usize) -> &[KohibladPlace]
 }
 
 /// The member of a row at its place, if it is a scalar; or the state of the row. At any other place
-/// it is some scalar, none, or a state.
+/// it is the scalar that is there, none, or the state of the place.
 pub fn member_at<'a>(bytes: &'a [u8], place: KohibladPlace) -> Result<Option<Node<'a>>, u8>
     ensures cell { (cell : Cell Tree) → IsPlaceOf bytes.entry.now cell place
         → IsCellRead cell result }
     ensures scalar { IfOk result (λ member. IfSome member HoldsNoScalar) }
+    ensures held { IfOk result (λ member. IfSome member (λ node.
+        IsPlaceOf bytes.entry.now (Cell.value (node_tree node)) place)) }
+    ensures none { IfOk result (λ member. IfNone member
+        (place_state bytes.entry.now place ≡ 0)) }
+    ensures other { IfErr result (λ state. state ≡ place_state bytes.entry.now place) }
     ensures state { IfErr result (λ state. (state ≡ 3) ⊎ (state ≡ 4)) }
 {
     match payload_at(bytes, place) {
@@ -104,11 +111,15 @@ pub fn member_at<'a>(bytes: &'a [u8], place: KohibladPlace) -> Result<Option<Nod
 }
 
 /// The payload of a row's member at its place, or the state of the row. At any other place it is
-/// some part of the bytes, none, or a state.
+/// what is there, or the state of the place.
 #[inline(always)]
 pub fn payload_at<'a>(bytes: &'a [u8], place: KohibladPlace) -> Result<Option<&'a [u8]>, u8>
     ensures cell { (cell : Cell Tree) → IsPlaceOf bytes.entry.now cell place
         → IsPayloadRead place.type_code cell result }
+    ensures there { IfOk result (λ found. IfSome found (λ payload.
+        IsThere bytes.entry.now place payload.now)) }
+    ensures none { IfOk result (λ found. IfNone found (place.status ≡ none)) }
+    ensures nowhere { IfErr result (λ state. IsNowhere bytes.entry.now place) }
     ensures state { IfErr result (λ state. state ≡ 4) }
 {
     match place.status {
@@ -125,7 +136,8 @@ pub fn payload_at<'a>(bytes: &'a [u8], place: KohibladPlace) -> Result<Option<&'
 #[inline(always)]
 fn bytes_within<'a>(bytes: &'a [u8], place: KohibladPlace) -> Option<&'a [u8]>
     ensures { MatchOption result (place.offset + place.length ≤ length bytes.entry.now → ⊥)
-        (λ payload. payload.now ≡ take place.length (drop place.offset bytes.entry.now)) }
+        (λ payload. (place.offset + place.length ≤ length bytes.entry.now)
+        × (payload.now ≡ take place.length (drop place.offset bytes.entry.now))) }
 {
     let offset = place.offset as usize;
     let length = place.length as usize;

@@ -8,7 +8,8 @@ ghost use Rattle.typed_vector.specs.Cells.{rest_cell};
 ghost use Rattle.kohiblad.specs.Located.{IsPlaceOf};
 ghost use Rattle.kohiblad.specs.Locating.{AreLocated, AreNamesLocated, ArePlacesWritten};
 ghost use Rattle.kohiblad.specs.Locating.{ArePutBehind, AreRowsLocated, IsKnownRow, IsLocated};
-ghost use Rattle.kohiblad.specs.Locating.{IsMemberPlace, placed_answer, spans, spans_from};
+ghost use Rattle.kohiblad.specs.Locating.{IsMemberPlace, IsValueOfName, placed_answer, spans};
+ghost use Rattle.kohiblad.specs.Locating.{spans_from};
 ghost use Rattle.kohiblad.specs.PlacedMembers.{names_ascend};
 ghost use Rattle.kohiblad.specs.RowWalks.{IsFoundIn, IsWalk};
 ghost use Rattle.kohiblad.specs.Status.{code, other_kind};
@@ -30,7 +31,8 @@ use std::cmp::Ordering;
 /// Finds the members of rows that have these names, in one walk over each row, and writes their
 /// places: of row k and name j of m to `places[k * m + j]`. `names` is the document of an array of
 /// texts, which ascend by their bytes. A place has the type and the length of the member's payload,
-/// and its offset in the bytes of all rows. It has the status `NONE` if the row has no such member
+/// and its offset in the bytes of all rows: the row's own member of that name, also where another
+/// has an equal value. It has the status `NONE` if the row has no such member
 /// or no bytes, and `InvalidJsonb` if the row is not a document of at most this depth. The calls
 /// whose names end in `_at` take values there. `InvalidEOF` if an offset is below the previous one
 /// or beyond the bytes; then `InvalidJsonb` if the names are not a document of at most this depth;
@@ -274,6 +276,8 @@ fn walk_of<'a>(row: &'a [u8], reading: Reading) -> Result<RowWalk<'a>, KohibladP
     ensures known { IfOk result (λ walk. IsKnownRow reading row.entry.now) }
     ensures same { IfErr result (λ place. (bytes : List ℕ) (name : Bor (List ℕ))
         → IsLocated reading bytes row.entry.now name place) }
+    ensures other { IfErr result (λ place. (start : ℕ) (name : Bor (List ℕ))
+        → IsValueOfName reading start row.entry.now name place) }
     ensures none { IfErr result (λ place. place.status ≢ 0) }
 {
     match reading {

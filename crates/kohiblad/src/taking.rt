@@ -5,6 +5,7 @@ ghost use Rattle.std.specs.Prelude.{option_map};
 ghost use Rattle.jsonb_codec.specs.declared.constants.TheConstants.{NUMBER_TAG};
 ghost use Rattle.jsonb_functions.specs.Found.{found_at};
 ghost use Rattle.jsonb_typed.specs.Words.{HoldsNoScalar, member_cell};
+ghost use Rattle.kohiblad.specs.Located.{entry_state};
 ghost use Rattle.kohiblad.specs.Taking.{AreRowsPut, AreRowsTaken, AreTaken, HoldsScalars};
 ghost use Rattle.kohiblad.specs.Taking.{IsReadRow, IsSomeTaken, IsTakenCell, IsTakenRow};
 ghost use Rattle.kohiblad.specs.Taking.{IsTakenUnchecked, bytes_state, first_unfit, fit_of};
@@ -275,7 +276,7 @@ fn take_unchecked<T: ColumnType>(
 
 /// What is written for a row whose member has an entry of this type and this payload.
 #[inline(always)]
-#[tactic(auto, using(crate::proofs::UncheckedLaws::read_taken, crate::proofs::UncheckedLaws::state_found, crate::proofs::UncheckedLaws::some_taken, crate::proofs::UncheckedLaws::known_state))]
+#[tactic(auto, using(crate::proofs::UncheckedLaws::read_taken, crate::proofs::UncheckedLaws::state_found, crate::proofs::UncheckedLaws::some_taken, crate::proofs::UncheckedLaws::known_state, crate::proofs::UncheckedLaws::held_read))]
 pub fn take_entry<T: ColumnType>(
     type_code: u32,
     payload: &[u8],
@@ -285,6 +286,8 @@ pub fn take_entry<T: ColumnType>(
     requires { HoldsScalars (T.stands column_type.now) }
     ensures entry { (t : Tree) → IsPayloadOf type_code payload.now t
         → IsTakenCell (T.stands column_type.now) blank (member_cell (Some t)) result }
+    ensures other { ((t : Tree) → IsPayloadOf type_code payload.now t → ⊥)
+        → result ≡ (blank, entry_state type_code) }
     ensures some { IsSomeTaken blank result }
 {
     // A number is not handed on as one of many kinds of scalars: to copy such a value takes longer
@@ -304,6 +307,8 @@ pub fn take_entry<T: ColumnType>(
 fn take_number<T: ColumnType>(payload: &[u8], column_type: &T, blank: T::Value) -> (T::Value, u8)
     ensures number { (t : Tree) → IsPayloadOf NUMBER_TAG payload.now t
         → IsTakenCell (T.stands column_type.now) blank (member_cell (Some t)) result }
+    ensures other { ((t : Tree) → IsPayloadOf NUMBER_TAG payload.now t → ⊥)
+        → result ≡ (blank, 4) }
     ensures some { IsSomeTaken blank result }
 {
     match NumberItem::from_bytes(payload) {

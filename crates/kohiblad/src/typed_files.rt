@@ -90,14 +90,14 @@ pub fn file_code(error: FileError) -> u32
 
 /// Copies the columns of a file of typed columns to `out`, in the order of their names, and how
 /// many they are to `count`: of each its type, the number of rows and where its name and its
-/// buffers lie in the bytes. Only lengths are tested, and no buffer is read:
-/// `kohiblad_check_typed_file` checks what is in them. Flags have a bit for each row, eight in a
-/// byte, the first in the lowest bit; it is 1 if the row has a value. Numbers have 8 bytes for each
-/// row, the highest first, and of decimals 16; of truth values 1, which is 0 for false; of dates 4;
-/// of timestamps with a zone 12, the last four for the offset of the zone; and of intervals 16,
-/// four for the months, four for the days and eight for the microseconds. Of texts and binary
-/// values they are offsets of 8 bytes, one more than there are rows. The statuses are those of
-/// `kohiblad_check_typed_file`.
+/// buffers lie in the bytes. Types and lengths are tested, and that each name is UTF-8, and no
+/// buffer is read: `kohiblad_check_typed_file` checks what is in them, and that the names ascend.
+/// Flags have a bit for each row, eight in a byte, the first in the lowest bit; it is 1 if the row
+/// has a value. Numbers have 8 bytes for each row, the highest first, and of decimals 16; of truth
+/// values 1, which is 0 for false; of dates 4; of timestamps with a zone 12, the last four for the
+/// offset of the zone; and of intervals 16, four for the months, four for the days and eight for
+/// the microseconds. Of texts and binary values they are offsets of 8 bytes, one more than there
+/// are rows. The statuses are those of `kohiblad_check_typed_file`.
 #[unsafe(no_mangle)]
 pub extern "C" fn kohiblad_typed_columns(
     alloc: Global,

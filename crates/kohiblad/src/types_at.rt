@@ -27,12 +27,13 @@ use jsonb_typed::{Decimal, Int64, UInt64};
 /// after the one before it. The bytes are those of all rows, as that call had them. Values and
 /// states are as `kohiblad_take_int64` has them, which looks up the name in each row; after
 /// `kohiblad_locate_unchecked` as `kohiblad_take_int64_unchecked` has them. At any other place
-/// nothing beyond the bytes is read, and the state is one of the five, with the value 0 unless it
-/// is 1. With `fit` 0 a number is taken if it equals the value, as 2.0 equals 2; otherwise only if
-/// it is stored in the kind that the value's digits have in a JSON text. The answer counts the rows
-/// of states 3 and 4, and names the first of them, or their number if there is none. `NO_ROOM` if
-/// `values` or `states` has fewer places than are read; they are then unchanged, and the counts are
-/// 0.
+/// nothing beyond the bytes is read, and what is taken is what is there: a payload of its type as
+/// that member, and everywhere else no value, with the state 0 of the status `NONE`, 3 where the
+/// type is that of arrays and objects, and otherwise 4. With `fit` 0 a number is taken if it equals
+/// the value, as 2.0 equals 2; otherwise only if it is stored in the kind that the value's digits
+/// have in a JSON text. The answer counts the rows of states 3 and 4, and names the first of them,
+/// or their number if there is none. `NO_ROOM` if `values` or `states` has fewer places than are
+/// read; they are then unchanged, and the counts are 0.
 #[tactic(auto, using(crate::proofs::UncheckedLaws::scalar_int64s))]
 #[unsafe(no_mangle)]
 pub extern "C" fn kohiblad_take_int64_at(

@@ -1,11 +1,12 @@
 //! The members of rows that are not checked.
 
-ghost use Rattle.std.specs.Prelude.{◌≡◌, ◌≢◌, ◌⊎◌, [], IfErr, IfOk, IfSome, IsOkAnd, None, Ok};
-ghost use Rattle.std.specs.Prelude.{Some, option_map};
+ghost use Rattle.std.specs.Prelude.{◌≡◌, ◌≢◌, ◌⊎◌, [], IfErr, IfOk, IfSome, IsOkAnd, IsSome};
+ghost use Rattle.std.specs.Prelude.{MatchOption, None, Ok, Some, option_map};
 ghost use Rattle.jsonb_codec.specs.declared.constants.TheConstants.{CONTAINER_TAG};
 ghost use Rattle.jsonb_functions.specs.Found.{found_at};
 ghost use Rattle.jsonb_functions.specs.PathPlaces.{HoldsFound, IsPlaceWithin};
 ghost use Rattle.jsonb_typed.specs.Words.{HoldsNoScalar};
+ghost use Rattle.kohiblad.specs.Located.{entry_state};
 ghost use Rattle.kohiblad.specs.UncheckedRows.{IsReadAs};
 ghost use Rattle.kohiblad.specs.Words.{Doc, IsPayloadOf, Tree, node_tree};
 
@@ -74,6 +75,10 @@ pub fn scalar_at<'a>(type_code: u32, payload: &'a [u8]) -> Result<Option<Node<'a
     ensures entry { (t : Tree) → IsPayloadOf type_code payload.entry.now t
         → IsReadAs (Some t) result }
     ensures scalar { IfOk result (λ member. IfSome member HoldsNoScalar) }
+    ensures held { IfOk result (λ member. IfSome member (λ node.
+        IsPayloadOf type_code payload.entry.now (node_tree node))) }
+    ensures some { IfOk result IsSome }
+    ensures other { IfErr result (λ state. state ≡ entry_state type_code) }
     ensures state { IfErr result (λ state. (state ≡ 3) ⊎ (state ≡ 4)) }
 {
     if type_code == CONTAINER_TAG {
@@ -86,16 +91,18 @@ pub fn scalar_at<'a>(type_code: u32, payload: &'a [u8]) -> Result<Option<Node<'a
 }
 
 // The scalar with this type and payload. `None` if there is none.
-#[tactic(auto, using(crate::proofs::ScalarReads::null_read, crate::proofs::ScalarReads::true_read, crate::proofs::ScalarReads::false_read, crate::proofs::ScalarReads::number_read, crate::proofs::ScalarReads::some_number, crate::proofs::ScalarReads::text_read, crate::proofs::ScalarReads::some_text, crate::proofs::ScalarReads::extension_read, crate::proofs::ScalarReads::some_extension, crate::proofs::ScalarReads::tagged))]
+#[tactic(auto, using(crate::proofs::ScalarReads::null_read, crate::proofs::ScalarReads::null_held, crate::proofs::ScalarReads::null_full, crate::proofs::ScalarReads::true_read, crate::proofs::ScalarReads::true_held, crate::proofs::ScalarReads::true_full, crate::proofs::ScalarReads::false_read, crate::proofs::ScalarReads::false_held, crate::proofs::ScalarReads::false_full, crate::proofs::ScalarReads::number_held, crate::proofs::ScalarReads::text_held, crate::proofs::ScalarReads::extension_held, crate::proofs::ScalarReads::number_read, crate::proofs::ScalarReads::some_number, crate::proofs::ScalarReads::text_read, crate::proofs::ScalarReads::some_text, crate::proofs::ScalarReads::extension_read, crate::proofs::ScalarReads::some_extension, crate::proofs::ScalarReads::tagged))]
 fn scalar_of<'a>(type_code: u32, payload: &'a [u8]) -> Option<Node<'a>>
     ensures means { (t : Tree) → type_code ≢ CONTAINER_TAG
         → IsPayloadOf type_code payload.entry.now t → option_map node_tree result ≡ Some t }
     ensures scalar { IfSome result HoldsNoScalar }
+    ensures held { IfSome result (λ node.
+        IsPayloadOf type_code payload.entry.now (node_tree node)) }
 {
     match type_code {
-        NULL_TAG => Some(Node::Null),
-        FALSE_TAG => Some(Node::Boolean(false)),
-        TRUE_TAG => Some(Node::Boolean(true)),
+        NULL_TAG => if_empty(payload, Node::Null),
+        FALSE_TAG => if_empty(payload, Node::Boolean(false)),
+        TRUE_TAG => if_empty(payload, Node::Boolean(true)),
         NUMBER_TAG => match NumberItem::from_bytes(payload) {
             Ok(number) => Some(Node::Number(number)),
             Err(_) => None,
@@ -109,5 +116,20 @@ fn scalar_of<'a>(type_code: u32, payload: &'a [u8]) -> Option<Node<'a>>
             Err(_) => None,
         },
         _ => None,
+    }
+}
+
+// A value that has no bytes. `None` if there are some.
+#[inline(always)]
+fn if_empty<'a>(payload: &[u8], value: Node<'a>) -> Option<Node<'a>>
+    requires { HoldsNoScalar value }
+    ensures empty { MatchOption result (payload.now ≢ [])
+        (λ node. (node_tree node ≡ node_tree value.entry) × (payload.now ≡ [])) }
+    ensures scalar { IfSome result HoldsNoScalar }
+{
+    if payload.is_empty() {
+        Some(value)
+    } else {
+        None
     }
 }

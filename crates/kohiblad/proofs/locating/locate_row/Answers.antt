@@ -21,7 +21,8 @@ returns-in-Err c =
       found,
       (
         same_located c.args.reading c.args.bytes.now (c.args.start, c.args.end) c.in-Err.place
-            c.args.names.now found c.in-Err.ensures.same c.in-Err.ensures.none are,
+            c.args.names.now found c.in-Err.ensures.same c.in-Err.ensures.other
+            c.in-Err.ensures.none are,
         put,
       ),
     )

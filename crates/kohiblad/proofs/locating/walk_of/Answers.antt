@@ -1,6 +1,6 @@
 use Rattle.std.proofs.Common.{sym, subst, ◌∙◌}
 use Rattle.jsonb_codec.proofs.Scalars.{empty_test}
-use Rattle.kohiblad.specs.Locating.{IsLocated}
+use Rattle.kohiblad.specs.Locating.{IsLocated, IsValueOfName}
 use Rattle.kohiblad.specs.declared.taking.Reading.{Reading}
 use Rattle.kohiblad.proofs.LocatingLaws.{empty_located}
 use Rattle.kohiblad.proofs.UncheckedLaws.{no_document}
@@ -18,3 +18,10 @@ returns-then-is_empty-clause-same c bytes name =
     (empty_located c.args.row.now c.no_place.result
     ((empty_test _ c.args.row.now c.is_empty.ensures).0 c.if-is_empty.true) c.no_place.ensures
     bytes name)
+
+pub returns-then-is_empty-clause-other : goal.returns-then-is_empty-clause-other
+returns-then-is_empty-clause-other c start name =
+    subst (λ (r : Reading). IsValueOfName r start c.args.row.now name c.no_place.result)
+    (sym c.in-Unchecked.is)
+    (λ t document. absurd (no_document c.args.row.now t document
+    ((empty_test _ c.args.row.now c.is_empty.ensures).0 c.if-is_empty.true)))

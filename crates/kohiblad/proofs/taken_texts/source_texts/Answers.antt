@@ -1,4 +1,4 @@
-use Rattle.std.proofs.Common.{◌≡◌, true, Err, length, List, [], inr, subst, ◌∙◌, rules}
+use Rattle.std.proofs.Common.{◌≡◌, true, Err, length, List, inr, subst, ◌∙◌, rules}
 use Rattle.jsonb.specs.Within.{meaning_within}
 use Rattle.jsonb_functions.specs.declared.path.Step.{Step}
 use Rattle.kohiblad.specs.Rows.{are_offsets, rows}
