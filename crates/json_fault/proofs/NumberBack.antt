@@ -12,7 +12,7 @@ use Rattle.jsonb_value.specs.declared.parser.number.Exponents.TheVariants.{Forbi
 use Rattle.jsonb_value.specs.Json.Characters.{point, zero_digit, all_digits}
 use Rattle.jsonb_value.specs.Json.Numeral as json
 use Rattle.jsonb_value.specs.Json.Numeral.{Numeral, sign_text, is_whole, fraction_text}
-use Rattle.jsonb_value.specs.Json.Numeral.{signed_number, number_of, numeral_meaning, scaled_number}
+use Rattle.jsonb_value.specs.Json.Numeral.{numeral_meaning, scaled_number}
 use Rattle.jsonb_value.specs.Json.Syntax.{numeral}
 use Rattle.jsonb_value.proofs.Json.Exponents.{scaled_plain}
 use Rattle.jsonb_value.proofs.Json.Tests.{and_both, by_true, cond_some}

@@ -8,7 +8,7 @@ use Rattle.jsonb_value.specs.declared.parser.number.Exponents.TheVariants.{Allow
 use Rattle.jsonb_value.specs.Json.Characters.{plus, minus, point, zero_digit, all_digits}
 use Rattle.jsonb_value.specs.Json.Characters.{is_exponent_mark}
 use Rattle.jsonb_value.specs.Json.Numeral as json
-use Rattle.jsonb_value.specs.Json.Numeral.{no_sign, plus_sign, minus_sign, sign_text, is_whole}
+use Rattle.jsonb_value.specs.Json.Numeral.{no_sign, plus_sign, minus_sign, sign_text}
 use Rattle.jsonb_value.specs.Json.Numeral.{fraction_text, exponent_text, numeral_text, is_numeral}
 use Rattle.jsonb_value.proofs.Json.Tests.{and_both, cond_some, chosen}
 use Rattle.json_fault.specs.declared.number.Part.{Part}

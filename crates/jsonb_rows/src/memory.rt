@@ -172,6 +172,19 @@ fn arrays_are_put_together(rt: HostRuntime) -> Result<(), Fail> {
     Ok(())
 }
 
+// Refused memory for an input does not hide a later one that is not a document.
+#[test]
+fn a_faulty_input_is_refused(rt: HostRuntime) -> Result<(), Fail> {
+    let inputs = [
+        RawJsonb::new(FIVE),
+        RawJsonb::new(b"\x01\x02\x03\x04"),
+        RawJsonb::new(X),
+    ];
+    let array = OwnedJsonb::build_array(rt.alloc(), inputs);
+    assert!(rt; matches!(array, Err(Error::InvalidJsonb)));
+    Ok(())
+}
+
 // The object {"a":5,"b":"x"}.
 const OBJECT: &[u8] = b"\x40\0\0\x02\x10\0\0\x01\x10\0\0\x01\x20\0\0\x02\x10\0\0\x01ab\x50\x05x";
 

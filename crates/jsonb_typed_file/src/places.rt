@@ -41,9 +41,10 @@ pub struct ColumnPlaces {
     pub texts: SectionPlace,
 }
 
-/// Where the columns of a file lie in its bytes. Each length is tested, but nothing in the buffers
-/// is read: it is not checked whether names ascend, texts are UTF-8, offsets are in order and rests
-/// are documents. The errors are those of `TypedFile::new`, but for what is not checked.
+/// Where the columns of a file lie in its bytes. Each type and length is tested, and that each name
+/// is UTF-8, but nothing in the buffers is read: it is not checked whether names ascend, texts are
+/// UTF-8, offsets are in order and rests are documents. The errors are those of `TypedFile::new`,
+/// but for what is not checked.
 pub fn column_places(alloc: Global, bytes: &[u8]) -> Result<Vec<ColumnPlaces>, FileError>
     ensures places { IfOk result (λ places. (f : Contents) × (IsLayout f bytes.now
         × (LengthsFit f × AllZip (IsColumnAt bytes.now (row_count f)) f.columns

@@ -1,5 +1,5 @@
 -- Sizes with and without a unit.
-use Rattle.std.proofs.Common.{◌≡◌, ℕ, List, [], ◌∷◌, ◌++◌, Option, None, Some, IfSome, sym, append-nil}
+use Rattle.std.proofs.Common.{◌≡◌, ℕ, List, [], ◌++◌, Option, None, Some, IfSome, sym, append-nil}
 use Rattle.kohiblad_shell.specs.Arguments.{IsScaled, IsSize, IsUnit, bytes}
 
 pub with_unit : (text digits unit : List ℕ) (factor : ℕ) (result : Option ℕ)

@@ -1,29 +1,25 @@
 -- Merging runs, row by row.
 use Rattle.std.proofs.Common.{◌≡◌, ◌≢◌, ℕ, zero, suc, ◌+◌, ◌<◌, ◌^◌, Bool, true, false, cond}
 use Rattle.std.proofs.Common.{List, [], ◌∷◌, ◌++◌, length, take, drop, set, get_or, refl, sym}
-use Rattle.std.proofs.Common.{ap, ap₂, ◌∙◌, subst, append_assoc, append-nil, Option, None, Some}
-use Rattle.std.proofs.Common.{flat_map, arith, not, ◌&&◌}
+use Rattle.std.proofs.Common.{ap, ap₂, ◌∙◌, subst, append_assoc, Option, None, Some}
+use Rattle.std.proofs.Common.{flat_map, arith}
 use Rattle.std.proofs.Common.{◌≤◌, below_more, get_or-set_other, get_or-set_same, length-append}
 use Rattle.std.proofs.Math.ListN.{get_or-append}
 use Rattle.std.proofs.Math.Seq.{get_or-append_seam}
 use Rattle.std.proofs.lemmas.List.{get_or_default}
-use Rattle.std.specs.Prelude.{nat_eq}
 use Rattle.std.specs.Int.{w64, to_be_bytes, from_be_bytes}
 use Rattle.std.specs.Cmp.{IsStrictWeakOrder}
-use Rattle.std.specs.Cmp.Lexicographic.{pointwise, slice_cmp}
-use Rattle.std.specs.Io.KnownBytes.{Appends}
 use Rattle.std.specs.List.Sorted.{ties}
-use Rattle.std.specs.Ordering.{is_lt, nat_cmp}
 use Rattle.std.proofs.Math.Seq.{drop-append_seam, take-append_seam}
 use Rattle.std.proofs.lemmas.Nat.{from_be_bytes-to_be_bytes_8}
-use Rattle.answer_lines.proofs.Output.{Known, appends_both}
+use Rattle.answer_lines.proofs.Output.{Known}
 use Rattle.jsonb_column.specs.Storage.{row_bytes}
 use Rattle.kohiblad_shell.specs.declared.sort.Keyed.{Keyed}
 use Rattle.kohiblad_shell.specs.declared.sorted_run.LastKey.{LastKey}
 use Rattle.kohiblad_shell.specs.declared.sorted_run.RunHead.{RunHead}
 use Rattle.kohiblad_shell.specs.declared.sorted_run.RowParts.{RowParts}
 use Rattle.kohiblad_shell.specs.Sorts.{key_and_line, keyed_bytes}
-use Rattle.kohiblad_shell.specs.SortedRuns.{HaveLengths, IsFirst, IsFirstInput, ReadHeads, ReadsHead, TakesIf}
+use Rattle.kohiblad_shell.specs.SortedRuns.{HaveLengths, IsFirst, ReadHeads, ReadsHead, TakesIf}
 use Rattle.kohiblad_shell.specs.SortedRuns.{is_before, row_parts}
 use Rattle.kohiblad_shell.proofs.OrderLaws.{Above, Below, Up, above_append, all, chosen, facing}
 use Rattle.kohiblad_shell.proofs.OrderLaws.{above_trans, below_from, isort, isort_first, singles}

@@ -20,7 +20,7 @@ use Rattle.kohiblad_shell.specs.declared.part_lines.Sheet.{Sheet}
 use Rattle.kohiblad_shell.specs.declared.row.TheConstants.{MAX_ROW_DEPTH}
 use Rattle.kohiblad_shell.specs.declared.show.Inside.{Inside}
 use Rattle.kohiblad_shell.specs.declared.show.Spot.{Spot}
-use Rattle.kohiblad_shell.specs.PartLines.{PartView, head_line, part_lines, sheet_for}
+use Rattle.kohiblad_shell.specs.PartLines.{head_line, part_lines, sheet_for}
 use Rattle.kohiblad_shell.specs.Titles.{grouped_number, quoted_key, value_title}
 
 -- Where a value is: its entry word, unless it is the whole, the place of its payload, what stands

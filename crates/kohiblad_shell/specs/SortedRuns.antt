@@ -1,6 +1,6 @@
 -- Runs: the rows of parts, sorted, each with its key; and merging them.
 use Rattle.std.specs.Prelude.{◌≡◌, ◌<◌, ◌^◌, ◌&&◌, ⊤, ℕ, Bool, true, false, not, List, [], ◌∷◌}
-use Rattle.std.specs.Prelude.{◌++◌, Option, None, Some, IfSome, flat_map, length, nat_eq, reverse}
+use Rattle.std.specs.Prelude.{◌++◌, Option, None, Some, flat_map, length, nat_eq, reverse}
 use Rattle.std.specs.Prelude.{slice_index_or}
 use Rattle.std.specs.Cmp.Lexicographic.{pointwise, slice_cmp}
 use Rattle.std.specs.Io.KnownBytes.{Appends}

@@ -1,12 +1,7 @@
 -- The bits of a byte that is the sum of eight.
-use Rattle.std.proofs.Common.{◌≡◌, ℕ, zero, suc, ◌+◌, ◌*◌, ◌<◌, ◌≤◌, Bool, true, false}
+use Rattle.std.proofs.Common.{◌≡◌, ℕ, zero, suc, ◌+◌, ◌*◌, ◌<◌, ◌≤◌}
 use Rattle.std.proofs.Common.{arith, ap, ◌∙◌}
 use Rattle.std.specs.Int.{bit_at}
-use Rattle.typed_vector.specs.Bits.{bit}
-
-pub bit-le : (flag : Bool) → bit flag ≤ 1
-bit-le true = omega arith
-bit-le false = omega arith
 
 -- The one of eight at a place.
 abbrev pub pick : ℕ → ℕ → ℕ → ℕ → ℕ → ℕ → ℕ → ℕ → ℕ → ℕ

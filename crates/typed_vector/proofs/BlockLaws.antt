@@ -2,8 +2,6 @@
 use Rattle.std.proofs.Common.{◌≡◌, ℕ, suc, zero, Bool, true, false, cond, ◌+◌, ◌-◌, ◌*◌, ◌<◌}
 use Rattle.std.proofs.Common.{List, [], ◌∷◌, ◌++◌, length, get_or, min, take, drop, refl, sym, ap}
 use Rattle.std.proofs.Common.{ap₂, subst, ◌∙◌, arith, below_more}
-use Rattle.std.specs.Int.{div_ceil}
-use Rattle.std.proofs.lemmas.Grind.{div_ceil_times}
 use Rattle.std.proofs.lemmas.List.{append-nil, drop-map, get_or-map, get_or_append_left}
 use Rattle.std.proofs.lemmas.List.{get_or_push, length-drop, length-map, length-take, take-map}
 use Rattle.std.proofs.lemmas.List.{take_min, take_more}
@@ -101,12 +99,6 @@ block_values vs bs rs size index end hb hr is =
     ap₂ set_values (slice_is vs size start end is)
     (slice_is bs size start end (is ∙ ap (λ n. start + min size (n - start)) (sym hb)))
     ∙ sym (cell_values-between size start vs bs rs hb hr)
-
--- Each block begins before the last row ends.
-pub starts_within : (rows size index : ℕ) → 0 < size → index < div_ceil rows size
-    → index * size < rows
-starts_within rows size index some low =
-    let times = div_ceil_times rows size some in grind (arith, times.1)
 
 -- One more item: what holds of each, by its index, holds of it too.
 each_more : {X : Type 0} (P : ℕ → X → Type 0) (xs : List X) (x d : X) (i : ℕ) → length xs ≡ i

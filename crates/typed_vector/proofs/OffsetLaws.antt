@@ -1,7 +1,7 @@
 -- The offsets of all rows, from those of the rows that are listed.
-use Rattle.std.proofs.Common.{◌≡◌, ℕ, zero, suc, ◌+◌, ◌-◌, ◌<◌, ◌≤◌, ◌≢◌, List, [], ◌∷◌, inl, inr}
-use Rattle.std.proofs.Common.{length, get_or, take, drop, refl, sym, ap, ◌∙◌, arith, add-one, subst}
-use Rattle.std.specs.Prelude.{All, set}
+use Rattle.std.proofs.Common.{◌≡◌, ℕ, suc, ◌+◌, ◌-◌, ◌<◌, ◌≤◌, ◌≢◌, List, [], ◌∷◌, inl, inr}
+use Rattle.std.proofs.Common.{length, get_or, take, drop, sym, ap, ◌∙◌, arith, add-one, subst}
+use Rattle.std.specs.Prelude.{set}
 use Rattle.std.specs.List.Sorted.{IsStrictlyIncreasing}
 use Rattle.std.proofs.lemmas.Bool.{cases_eq, cases_lt}
 use Rattle.std.proofs.lemmas.Grind.{get_or-set_at}
@@ -18,14 +18,6 @@ pub record IsPlace (indices : List ℕ) (row place : ℕ) : Type 0 where
   pub within : place ≤ length indices
   pub below : (k : ℕ) → k < place → get_or indices k 0 < row
   pub above : (k : ℕ) → place ≤ k → k < length indices → row ≤ get_or indices k 0
-
-pub place-first : (is : List ℕ) → IsPlace is 0 0
-place-first is =
-    record {
-      within = omega arith;
-      below = λ k low. absurd (omega (arith, low));
-      above = λ k low within. omega arith;
-    }
 
 pub place-moves : (is : List ℕ) (row place : ℕ) → IsStrictlyIncreasing is → IsPlace is row place
     → place < length is → get_or is place 0 ≡ row → IsPlace is (row + 1) (place + 1)

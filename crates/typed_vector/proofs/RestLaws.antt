@@ -1,6 +1,6 @@
 -- The other bytes of rows: one more row, and the row at an index.
 use Rattle.std.proofs.Common.{◌≡◌, ℕ, zero, suc, ◌+◌, ◌<◌, ◌≤◌, ◌≢◌, List, [], ◌∷◌, ◌++◌, inl, inr}
-use Rattle.std.proofs.Common.{length, get_or, refl, sym, ap, ap₂, subst, ◌∙◌, arith}
+use Rattle.std.proofs.Common.{length, get_or, sym, ap, ap₂, ◌∙◌, arith}
 use Rattle.std.specs.Prelude.{All, Err, Ok, replicate, set}
 use Rattle.std.specs.List.Sorted.{IsBinarySearchResult, IsStrictlyIncreasing}
 use Rattle.std.specs.Ordering.{nat_cmp}
@@ -13,7 +13,7 @@ use Rattle.std.proofs.lemmas.List.{length-set, replicate-append-replicate, set-a
 use Rattle.std.proofs.lemmas.List.Elements.{All-get_or, All-head, All-push, All-tail, All-weaker}
 use Rattle.std.proofs.lemmas.List.Kept.{AllPairs-from_increasing}
 use Rattle.std.proofs.lemmas.List.Sorted.{searched}
-use Rattle.typed_vector.specs.Cells.{AreOffsets, rows}
+use Rattle.typed_vector.specs.Cells.{rows}
 use Rattle.typed_vector.specs.Rest.{IsRest, spread}
 use Rattle.typed_vector.proofs.CellLaws.{AreOffsets-push, length-rows, rows-push}
 

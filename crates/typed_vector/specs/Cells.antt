@@ -1,5 +1,5 @@
 -- What the rows of a column have, and how it is stored.
-use Rattle.std.specs.Prelude.{◌≡◌, ◌≤◌, ◌+◌, ◌-◌, ℕ, Bool, true, false, List, [], ◌∷◌, length, take}
+use Rattle.std.specs.Prelude.{◌≡◌, ◌≤◌, ◌-◌, ℕ, Bool, true, false, List, [], ◌∷◌, length, take}
 use Rattle.std.specs.Prelude.{drop}
 
 -- A row has nothing, a value, or other bytes.

@@ -1,6 +1,6 @@
-use Rattle.std.proofs.Common.{◌≡◌, ◌<◌, Bool, true, false, ap, sym, ◌∙◌, get_or, not, arith}
+use Rattle.std.proofs.Common.{◌≡◌, false, sym, ◌∙◌, get_or, arith}
 use Rattle.std.proofs.lemmas.List.{get_or_default}
-use Rattle.kohiblad_shell.specs.SortedRuns.{IsFirst, is_before}
+use Rattle.kohiblad_shell.specs.SortedRuns.{IsFirst}
 use Rattle.kohiblad_shell.specs.declared.sorted_run.RunHead.{RunHead}
 use Rattle.kohiblad_shell.proofs.SortedRunLaws.{first_moves}
 use Rattle.kohiblad_shell.proofs.sorted_run.first_with.Goals as goal

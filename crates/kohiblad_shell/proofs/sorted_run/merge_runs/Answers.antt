@@ -1,6 +1,5 @@
-use Rattle.std.proofs.Common.{◌≡◌, ◌<◌, None, get_or, length, refl, sym, arith}
+use Rattle.std.proofs.Common.{◌<◌, None, get_or, length, refl, sym, arith}
 use Rattle.std.proofs.lemmas.List.{get_or_default}
-use Rattle.std.proofs.KnownBytes.{Keeps-refl}
 use Rattle.answer_lines.proofs.Running.{on_err}
 use Rattle.kohiblad_shell.specs.SortedRuns.{IsFirst, IsFirstInput}
 use Rattle.kohiblad_shell.proofs.SortLaws.{on_ok}

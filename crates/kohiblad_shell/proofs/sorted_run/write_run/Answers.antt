@@ -1,4 +1,4 @@
-use Rattle.std.proofs.Common.{◌≡◌, ◌<◌, length, take, arith, flat_map, refl, ◌∙◌}
+use Rattle.std.proofs.Common.{◌≡◌, ◌<◌, length, take, arith, flat_map, refl}
 use Rattle.std.proofs.lemmas.Grind.{common_steps}
 use Rattle.kohiblad_shell.specs.SortedRuns.{WritesRun}
 use Rattle.kohiblad_shell.specs.Sorts.{keyed_bytes}

@@ -1,4 +1,4 @@
-use Rattle.std.proofs.Common.{◌≡◌, ap, length, subst, sym, ◌∙◌, ℕ, rules}
+use Rattle.std.proofs.Common.{◌≡◌, ap, length, subst, sym, ◌∙◌, ℕ}
 use Rattle.typed_vector.specs.Cells.{rows}
 use Rattle.typed_vector.specs.Rest.{IsRest, spread}
 use Rattle.typed_vector.proofs.RestLaws.{length-spread}

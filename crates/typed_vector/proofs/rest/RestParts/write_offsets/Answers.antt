@@ -1,4 +1,4 @@
-use Rattle.std.proofs.Common.{ℕ, ◌≡◌, ◌+◌, ◌-◌, ◌<◌, List, length, arith, subst, sym}
+use Rattle.std.proofs.Common.{ℕ, ◌≡◌, ◌+◌, ◌-◌, length, arith, subst, sym}
 use Rattle.typed_vector.specs.Rest.{IsRest}
 use Rattle.typed_vector.proofs.OffsetLaws.{IsPlace, place-moves, place-stays, written-more}
 use Rattle.typed_vector.proofs.OffsetLaws.{written-rows}

@@ -1,4 +1,4 @@
-use Rattle.std.proofs.Common.{◌≡◌, [], arith, ap, length, ◌∙◌, get_or, false, sym, Some}
+use Rattle.std.proofs.Common.{◌≡◌, arith, ap, length, ◌∙◌, get_or, false, sym, Some}
 use Rattle.std.specs.Prelude.{slice_get}
 use Rattle.std.proofs.lemmas.List.{get_or_read}
 use Rattle.typed_vector.specs.Cells.{rest_cell}
