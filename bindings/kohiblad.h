@@ -24,13 +24,15 @@
  * KOHIBLAD_OK has zeros beside it. The calls that differ say so. Texts are UTF-8, without a zero
  * byte at the end.
  *
- * ORDER: if a call has several reasons to refuse, KOHIBLAD_OVERLAP comes first. Then come texts,
- * keys and names that are not UTF-8, in calls with a depth bytes that are not documents within it,
- * what is of another kind, what is past a limit of the format, and last KOHIBLAD_NO_ROOM. The calls
- * that differ say so: kohiblad_parse, kohiblad_text_fault, kohiblad_build_object, kohiblad_sort,
- * kohiblad_locate and the kohiblad_take calls.
- * KOHIBLAD_OUT_OF_MEMORY comes after the tests for UTF-8 and documents, and in place of any status
- * that would be found later.
+ * ORDER: if a call has several reasons to refuse, KOHIBLAD_OVERLAP comes first, and then
+ * KOHIBLAD_INVALID_EOF for offsets of rows. Then come texts, keys and names that are not UTF-8, in
+ * calls with a depth bytes that are not documents within it, what is of another kind, what is past
+ * a limit of the format, and last KOHIBLAD_NO_ROOM. KOHIBLAD_OUT_OF_MEMORY comes after the tests
+ * for UTF-8 and documents, and in place of any status that would be found later. The calls that
+ * differ say so: kohiblad_parse, kohiblad_text_fault and kohiblad_text_expected;
+ * kohiblad_build_object and kohiblad_build_typed_file; the three kohiblad_take_decimal calls and
+ * kohiblad_take_members; and kohiblad_sort, kohiblad_pretty and kohiblad_pretty_at, which ask for
+ * memory only where there is room.
  *
  * OWNERSHIP: everything belongs to the caller. No call keeps a pointer, and none hands memory out.
  * What a call writes must lie apart from its input, and from all else that it writes. If it does
@@ -46,9 +48,10 @@
  *
  * STACK: calls with a depth recurse as deep as the document nests, up to that depth.
  * KOHIBLAD_LEVEL_STACK bytes for each level, and KOHIBLAD_CALL_STACK beside them, are enough for
- * all but the five calls below: 64 levels need 72 KB, and 1,000 levels 1,008 KB. Most calls need
- * fewer bytes for each level (these were measured and rounded up, so that 1,000 levels need 258 KB
- * in kohiblad_check):
+ * all but the five calls below: 64 levels need 72 KB, and 1,000 levels 1,008 KB. So many levels fit
+ * a stack as kohiblad_depth_of_stack says; kohiblad_stack.h asks how much is left to a thread. Most
+ * calls need fewer bytes for each level (these were measured and rounded up, so that 1,000 levels
+ * need 258 KB in kohiblad_check):
  *
  *     256 bytes: check, is_canonical, build_array, build_object, exists, exists_any, exists_all,
  *                object_keys, top_keys, get_path, path_in, survey, locate, take_int64, take_text,
@@ -104,6 +107,12 @@
 #ifdef __cplusplus
 extern "C" {
 #endif
+
+/* The depth that so many bytes of stack carry, in calls that take `level_stack` of them for each
+ * level: KOHIBLAD_LEVEL_STACK, KOHIBLAD_EDIT_LEVEL_STACK or KOHIBLAD_PATCH_LEVEL_STACK. */
+static inline size_t kohiblad_depth_of_stack(size_t stack, size_t level_stack) {
+    return stack > KOHIBLAD_CALL_STACK ? (stack - KOHIBLAD_CALL_STACK) / level_stack : 0;
+}
 
 /* Whether kohiblad_parse and kohiblad_text_fault take numbers with an exponent. */
 enum kohiblad_exponents { KOHIBLAD_EXPONENTS_FORBIDDEN = 0, KOHIBLAD_EXPONENTS_ALLOWED = 1 };
@@ -745,8 +754,10 @@ static inline struct kohiblad_expected kohiblad_text_expected(const uint8_t *tex
 
 /* The same as kohiblad_text_fault, and writes why the text is refused, in words that are put after
  * what was tried: "expected ':' at byte 5, found '1'", "at byte 3 of a number that is unfinished or
- * too long, in '1.'", or the reason of the status. Writes no more bytes than `room`, the last of
- * them zero; KOHIBLAD_WORDS_ROOM are enough. If an allocation fails, there are fewer words. */
+ * too long, in '1.'", or the reason of the status. In what is quoted of the text, characters that a
+ * terminal may obey have escapes, as \u202e. Writes no more bytes than `room`, the last of them
+ * zero; KOHIBLAD_WORDS_ROOM are enough. If an allocation fails, there are fewer words. OVERLAP if
+ * `out` overlaps the text. */
 static inline struct kohiblad_fault kohiblad_fault_words(const uint8_t *text, size_t size,
     size_t depth, uint32_t exponents, char *out, size_t room);
 
@@ -831,12 +842,13 @@ static inline uint32_t kohiblad_sort(const uint8_t *bytes, size_t size, const si
 /* Counts what the members of rows at the end of a path are: numbers by the kind in which they are
  * stored, and rows without the member. A row of no bytes has no member, and one that is not a
  * document of at most this depth has a count of its own. Beside the counts are the least and the
- * greatest number of digits after the point, the most digits of a number without its point, and the
- * longest text in bytes; each is 0 if there is no number or text. `path` is the document of a path,
- * as kohiblad_get_path takes it. INVALID_EOF if an offset is below the previous one or beyond the
- * bytes; then INVALID_JSONB if the path is not a document of at most this depth; OTHER_KIND if it
- * is not an array of texts and whole numbers of 64 bits; OUT_OF_MEMORY if an allocation fails,
- * which only the path makes. If the status is not OK, all fields are 0. */
+ * greatest number of digits after the point, the most digits of a number without its point and the
+ * zeros in front of it, as 1 of 0.05, and the longest text in bytes; each is 0 if there is no
+ * number or text. `path` is the document of a path, as kohiblad_get_path takes it. INVALID_EOF if
+ * an offset is below the previous one or beyond the bytes; then INVALID_JSONB if the path is not a
+ * document of at most this depth; OTHER_KIND if it is not an array of texts and whole numbers of 64
+ * bits; OUT_OF_MEMORY if an allocation fails, which only the path makes. If the status is not OK,
+ * all fields are 0. */
 static inline struct kohiblad_survey_counts kohiblad_survey(const uint8_t *bytes, size_t size,
     const size_t *offsets, size_t count, const uint8_t *path, size_t path_size, size_t depth)
     KOHIBLAD_INLINE("kohiblad_survey");
@@ -1104,13 +1116,14 @@ static inline struct kohiblad_typed_file kohiblad_check_typed_file(const uint8_t
 
 /* Copies the columns of a file of typed columns to `out`, in the order of their names, and how many
  * they are to `*count`: of each its type, the number of rows and where its name and its buffers lie
- * in the bytes. Only lengths are tested, and no buffer is read: kohiblad_check_typed_file checks
- * what is in them. Flags have a bit for each row, eight in a byte, the first in the lowest bit; it
- * is 1 if the row has a value. Numbers have 8 bytes for each row, the highest first, and of
- * decimals 16; of truth values 1, which is 0 for false; of dates 4; of timestamps with a zone 12,
- * the last four for the offset of the zone; and of intervals 16, four for the months, four for the
- * days and eight for the microseconds. Of texts and binary values they are offsets of 8 bytes, one
- * more than there are rows. The statuses are those of kohiblad_check_typed_file. */
+ * in the bytes. Types and lengths are tested, and that each name is UTF-8, and no buffer is read:
+ * kohiblad_check_typed_file checks what is in them, and that the names ascend. Flags have a bit for
+ * each row, eight in a byte, the first in the lowest bit; it is 1 if the row has a value. Numbers
+ * have 8 bytes for each row, the highest first, and of decimals 16; of truth values 1, which is 0
+ * for false; of dates 4; of timestamps with a zone 12, the last four for the offset of the zone;
+ * and of intervals 16, four for the months, four for the days and eight for the microseconds. Of
+ * texts and binary values they are offsets of 8 bytes, one more than there are rows. The statuses
+ * are those of kohiblad_check_typed_file. */
 static inline uint32_t kohiblad_typed_columns(const uint8_t *bytes, size_t size,
     struct kohiblad_typed_column *out, size_t room, size_t *count)
     KOHIBLAD_INLINE("kohiblad_typed_columns");
@@ -1128,13 +1141,14 @@ static inline uint32_t kohiblad_typed_row(const uint8_t *bytes, size_t size, siz
 /* Finds the members of rows that have these names, in one walk over each row, and writes their
  * places: of row k and name j of m to `places[k * m + j]`. `names` is the document of an array of
  * texts, which ascend by their bytes. A place has the type and the length of the member's payload,
- * and its offset in the bytes of all rows. It has the status NONE if the row has no such member or
- * no bytes, and INVALID_JSONB if the row is not a document of at most this depth. The calls whose
- * names end in `_at` take values there. INVALID_EOF if an offset is below the previous one or
- * beyond the bytes; then INVALID_JSONB if the names are not a document of at most this depth;
- * OTHER_KIND if they are not an array of texts, or a text is not greater than the one before it;
- * OUT_OF_MEMORY if an allocation fails, which only the names make; then NO_ROOM if `places` has
- * fewer than there are rows times names. If the status is not OK, `places` is unchanged. */
+ * and its offset in the bytes of all rows: the row's own member of that name, also where another
+ * has an equal value. It has the status NONE if the row has no such member or no bytes, and
+ * INVALID_JSONB if the row is not a document of at most this depth. The calls whose names end in
+ * `_at` take values there. INVALID_EOF if an offset is below the previous one or beyond the bytes;
+ * then INVALID_JSONB if the names are not a document of at most this depth; OTHER_KIND if they are
+ * not an array of texts, or a text is not greater than the one before it; OUT_OF_MEMORY if an
+ * allocation fails, which only the names make; then NO_ROOM if `places` has fewer than there are
+ * rows times names. If the status is not OK, `places` is unchanged. */
 static inline uint32_t kohiblad_locate(const uint8_t *bytes, size_t size, const size_t *offsets,
     size_t count, const uint8_t *names, size_t names_size, size_t depth,
     struct kohiblad_place *places, size_t room) KOHIBLAD_INLINE("kohiblad_locate");
@@ -1153,12 +1167,13 @@ static inline uint32_t kohiblad_locate_unchecked(const uint8_t *bytes, size_t si
  * after the one before it. The bytes are those of all rows, as that call had them. Values and
  * states are as kohiblad_take_int64 has them, which looks up the name in each row; after
  * kohiblad_locate_unchecked as kohiblad_take_int64_unchecked has them. At any other place nothing
- * beyond the bytes is read, and the state is one of the five, with the value 0 unless it is 1. With
- * KOHIBLAD_BY_VALUE a number is taken if it equals the value, as 2.0 equals 2; otherwise only if it
- * is stored in the kind that the value's digits have in a JSON text. The answer counts the rows of
- * states 3 and 4, and names the first of them, or their number if there is none. NO_ROOM if
- * `values` or `states` has fewer places than are read; they are then unchanged, and the counts are
- * 0. */
+ * beyond the bytes is read, and what is taken is what is there: a payload of its type as that
+ * member, and everywhere else no value, with the state 0 of the status NONE, 3 where the type is
+ * that of arrays and objects, and otherwise 4. With KOHIBLAD_BY_VALUE a number is taken if it
+ * equals the value, as 2.0 equals 2; otherwise only if it is stored in the kind that the value's
+ * digits have in a JSON text. The answer counts the rows of states 3 and 4, and names the first of
+ * them, or their number if there is none. NO_ROOM if `values` or `states` has fewer places than are
+ * read; they are then unchanged, and the counts are 0. */
 static inline struct kohiblad_taken kohiblad_take_int64_at(const uint8_t *bytes, size_t size,
     const struct kohiblad_place *places, size_t count, size_t step, uint32_t fit, int64_t *values,
     size_t room, uint8_t *states, size_t states_room) KOHIBLAD_INLINE("kohiblad_take_int64_at");
@@ -1253,17 +1268,17 @@ static inline uint32_t kohiblad_take_members(const uint8_t *bytes, size_t size,
 /* Whether the document `left` contains `right`, as 0 or 1. An object contains the objects whose
  * keys it has, with values that contain those; an array contains the arrays for each of whose items
  * it has one that contains it; a scalar contains what equals it; and at the top an array also
- * contains a scalar that is one of its items. TOO_MANY_STEPS if that takes more than `steps` steps.
- * There is one for each pair of values that are compared, and for each member that is passed in
- * search of a key, up to the first whose key is not below it; and one for each byte of the keys of
- * these members, and of two texts, or two binary or opaque values, that are compared and equally
- * long: 4 for {"a":1} in {"a":1}. If more than 16 items are looked for in an array of more than 16,
- * there is a step in place of these for each scalar of the array, which are sorted, and for each
- * that is looked for, and one for each of its bytes. `steps` suffice that are at least the product
- * of the weights of both, the numbers of their values and keys and of the bytes of texts, keys, and
- * binary and opaque values. INVALID_JSONB if `left` or `right` is not a document of at most this
- * depth; OUT_OF_MEMORY if an allocation fails, which only such a sort makes. SIZE_MAX is no
- * limit. */
+ * contains a scalar that is one of its items. TOO_MANY_STEPS exactly if that takes more than
+ * `steps` steps. There is one for each pair of values that are compared, and for each member that
+ * is passed in search of a key, up to the first whose key is not below it; and one for each byte of
+ * the keys of these members, and of two texts, or two binary or opaque values, that are compared
+ * and equally long: 4 for {"a":1} in {"a":1}. If more than 16 items are looked for in an array of
+ * more than 16, there is a step in place of these for each scalar of the array, which are sorted,
+ * and for each that is looked for, and one for each of its bytes. `steps` always suffice that are
+ * at least the product of the weights of both, the numbers of their values and keys and of the
+ * bytes of texts, keys, and binary and opaque values. INVALID_JSONB if `left` or `right` is not a
+ * document of at most this depth; OUT_OF_MEMORY if an allocation fails, which only such a sort
+ * makes. SIZE_MAX is no limit. */
 static inline struct kohiblad_truth kohiblad_contains(const uint8_t *left, size_t left_size,
     const uint8_t *right, size_t right_size, size_t depth, size_t steps)
     KOHIBLAD_INLINE("kohiblad_contains");
@@ -1374,13 +1389,13 @@ static inline struct kohiblad_truth kohiblad_array_overlap(const uint8_t *left,
  * first one in front of it. If a step before the last leads nowhere nothing is edited, and neither
  * is the whole document but by putting a value. With KOHIBLAD_CREATE the value is put there, and
  * what the path lacks is made: an object for each missing key, an array for the index 0 or 2^64 -
- * 1; an item is added right after the last one only, at its index or at 2^64 - 1. INVALID_JSONB if
- * the bytes, the path or the value are not a document of at most this depth, or the result exceeds
- * a limit of the format; OTHER_KIND if there is no such edit, or the path is not an array of texts
- * and whole numbers of 64 bits; OUT_OF_MEMORY if an allocation fails. The document has at most 5/4
- * of the bytes of the document and the value together, 3 times those of the path, and 2 more.
- * `edit` is one of enum kohiblad_edit_kind. Where nothing is edited, the result is the canonical
- * form of the document. */
+ * 1; an item is added right after the last one only, at its index or at 2^64 - 1. Any other number
+ * is refused without reading the value. INVALID_JSONB if the bytes, the path or the value are not a
+ * document of at most this depth, or the result exceeds a limit of the format; OTHER_KIND if there
+ * is no such edit, or the path is not an array of texts and whole numbers of 64 bits; OUT_OF_MEMORY
+ * if an allocation fails. The document has at most 5/4 of the bytes of the document and the value
+ * together, 3 times those of the path, and 2 more. `edit` is one of enum kohiblad_edit_kind. Where
+ * nothing is edited, the result is the canonical form of the document. */
 static inline uint32_t kohiblad_edit(const uint8_t *bytes, size_t size, const uint8_t *path,
     size_t path_size, uint32_t edit, const uint8_t *value, size_t value_size, size_t depth,
     uint8_t *out, size_t room, size_t *length) KOHIBLAD_INLINE("kohiblad_edit");
@@ -2638,6 +2653,49 @@ static inline struct kohiblad_taken kohiblad_take_batch(const uint8_t *bytes, si
     }
 }
 
+/* The bytes of one value of a member, 0 of a type that kohiblad_take_members does not take. */
+static inline size_t kohiblad_value_size(uint32_t type) {
+    switch (type) {
+    case KOHIBLAD_COLUMN_BOOLEAN: return sizeof(uint8_t);
+    case KOHIBLAD_COLUMN_INT64: return sizeof(int64_t);
+    case KOHIBLAD_COLUMN_UINT64: return sizeof(uint64_t);
+    case KOHIBLAD_COLUMN_DECIMAL: return sizeof(struct kohiblad_int128);
+    case KOHIBLAD_COLUMN_DATE: return sizeof(int32_t);
+    case KOHIBLAD_COLUMN_TIMESTAMP: return sizeof(int64_t);
+    case KOHIBLAD_COLUMN_TIMESTAMP_TZ: return sizeof(struct kohiblad_timestamp_tz);
+    case KOHIBLAD_COLUMN_INTERVAL: return sizeof(struct kohiblad_interval);
+    default: return 0;
+    }
+}
+
+/* Whether the values and states of a member lie apart from a block, */
+static inline bool kohiblad_is_member_apart(const struct kohiblad_member *member, size_t rows,
+                                            const void *other, size_t size) {
+    return !kohiblad_meet(member->values, rows * kohiblad_value_size(member->type), other, size)
+        && !kohiblad_meet(member->states, rows, other, size);
+}
+/* from each other, and from those of the members after it, */
+static inline bool kohiblad_is_member_alone(const struct kohiblad_member *member, size_t after,
+                                            size_t rows) {
+    size_t size = rows * kohiblad_value_size(member->type);
+    if (!kohiblad_is_column(member->values, size, member->states, rows)) return false;
+    for (size_t j = 1; j <= after; j++)
+        if (!kohiblad_is_member_apart(&member[j], rows, member->values, size)
+            || !kohiblad_is_member_apart(&member[j], rows, member->states, rows))
+            return false;
+    return true;
+}
+/* and from rows and names. */
+static inline bool kohiblad_is_member_outside(const struct kohiblad_member *member,
+                                              const uint8_t *bytes, size_t size,
+                                              const size_t *offsets, size_t count,
+                                              const uint8_t *names, size_t names_size) {
+    size_t rows = count > 0 ? count - 1 : 0;
+    return kohiblad_is_member_apart(member, rows, bytes, size)
+        && kohiblad_is_member_apart(member, rows, offsets, count * sizeof *offsets)
+        && kohiblad_is_member_apart(member, rows, names, names_size);
+}
+
 /* Adds the answer of a batch of rows, which begins at row `first`, to that of the rows before. */
 static inline void kohiblad_add_taken(struct kohiblad_taken *all, struct kohiblad_taken batch,
     size_t first) {
@@ -2650,10 +2708,25 @@ static inline uint32_t kohiblad_take_members(const uint8_t *bytes, size_t size,
     uint32_t fit, struct kohiblad_member *members, size_t wanted, struct kohiblad_place *places,
     size_t room) {
     size_t rows = count > 0 ? count - 1 : 0, first = 0;
+    size_t members_size = wanted * sizeof *members, places_size = room * sizeof *places;
     struct kohiblad_taken none = { KOHIBLAD_OK, 0, rows };
+    if (kohiblad_meet(members, members_size, places, places_size)
+        || !kohiblad_is_outside(members, members_size, bytes, size, offsets, count, names,
+                                names_size)
+        || !kohiblad_is_outside(places, places_size, bytes, size, offsets, count, names,
+                                names_size))
+        return KOHIBLAD_OVERLAP;
+    for (size_t j = 0; j < wanted; j++)
+        if (!kohiblad_is_member_apart(&members[j], rows, members, members_size)
+            || !kohiblad_is_member_apart(&members[j], rows, places, places_size)
+            || !kohiblad_is_member_alone(&members[j], wanted - j - 1, rows)
+            || !kohiblad_is_member_outside(&members[j], bytes, size, offsets, count, names,
+                                           names_size))
+            return KOHIBLAD_OVERLAP;
     if (!kohiblad_check(names, names_size, depth)) return KOHIBLAD_INVALID_JSONB;
     if (kohiblad_kind(names, names_size).count != wanted) return KOHIBLAD_WRONG_LENGTH;
-    if (wanted == 0) return KOHIBLAD_OK;
+    if (wanted == 0)
+        return kohiblad_locate(bytes, size, offsets, count, names, names_size, depth, places, 0);
     if (room < wanted) return KOHIBLAD_NO_ROOM;
     for (size_t j = 0; j < wanted; j++) members[j].taken = none;
     do {
@@ -2950,6 +3023,51 @@ static inline void kohiblad_words_add_expected(kohiblad_words *words, uint32_t c
 
 static inline bool kohiblad_is_digit(uint8_t byte) { return byte >= '0' && byte <= '9'; }
 
+/* The character of UTF-8 at a byte, and how many bytes it has. */
+static inline uint32_t kohiblad_character_at(const uint8_t *at, size_t left, size_t *size) {
+    size_t whole = at[0] < 0xc0 ? 1 : at[0] < 0xe0 ? 2 : at[0] < 0xf0 ? 3 : 4;
+    uint32_t character = whole == 1 ? at[0] : at[0] & (0xffu >> (whole + 1));
+    for (*size = 1; *size < whole && *size < left; (*size)++)
+        character = character << 6 | (at[*size] & 0x3fu);
+    return character;
+}
+
+/* Whether a character has an escape in words that are quoted: a control character, a separator of
+ * lines, and one that changes the direction or the look of the text around it. */
+static inline bool kohiblad_is_escaped(uint32_t character) {
+    static const uint32_t ranges[][2] = {
+        { 0x0, 0x1f }, { 0x7f, 0x9f }, { 0xad, 0xad }, { 0x61c, 0x61c }, { 0x180e, 0x180e },
+        { 0x200b, 0x200f }, { 0x2028, 0x202e }, { 0x2060, 0x206f }, { 0xfeff, 0xfeff },
+        { 0xe0000, 0xe0fff },
+    };
+    for (size_t i = 0; i < sizeof ranges / sizeof *ranges; i++)
+        if (ranges[i][0] <= character && character <= ranges[i][1]) return true;
+    return false;
+}
+
+/* Adds the escape of a unit of UTF-16, as JSON has it. */
+static inline void kohiblad_words_add_escape(kohiblad_words *words, uint32_t unit) {
+    kohiblad_words_add(words, "\\u");
+    for (int shift = 12; shift >= 0; shift -= 4)
+        kohiblad_words_add_byte(words, (uint8_t)"0123456789abcdef"[unit >> shift & 15]);
+}
+
+/* Adds the character of UTF-8 at a byte, or its escape; returns how many bytes it has. */
+static inline size_t kohiblad_words_add_character(kohiblad_words *words, const uint8_t *at,
+    size_t left) {
+    size_t size;
+    uint32_t character = kohiblad_character_at(at, left, &size);
+    if (!kohiblad_is_escaped(character)) {
+        for (size_t i = 0; i < size; i++) kohiblad_words_add_byte(words, at[i]);
+    } else if (character < 0x10000) {
+        kohiblad_words_add_escape(words, character);
+    } else {
+        kohiblad_words_add_escape(words, 0xd800 + ((character - 0x10000) >> 10));
+        kohiblad_words_add_escape(words, 0xdc00 + (character & 0x3ff));
+    }
+    return size;
+}
+
 /* Whether words that are quoted have the byte; all bytes of characters past ASCII are taken. */
 static inline bool kohiblad_is_of_word(uint8_t byte) {
     uint8_t small = byte | 0x20;
@@ -2981,10 +3099,8 @@ static inline void kohiblad_words_add_found(kohiblad_words *words, const uint8_t
     }
     if (at[0] == '\'') quote = "\"";
     kohiblad_words_add(words, quote);
-    for (; size < left && kohiblad_is_of_word(at[size]); size++) {
-        if ((at[size] & 0xc0) != 0x80 && ++characters > 20) break;
-        kohiblad_words_add_byte(words, at[size]);
-    }
+    while (size < left && kohiblad_is_of_word(at[size]) && characters++ < 20)
+        size += kohiblad_words_add_character(words, at + size, left - size);
     if (size == 0) kohiblad_words_add_byte(words, at[0]);
     if (characters > 20) kohiblad_words_add(words, "..");
     kohiblad_words_add(words, quote);
@@ -3005,6 +3121,10 @@ static inline struct kohiblad_fault kohiblad_fault_words(const uint8_t *text, si
     size_t depth, uint32_t exponents, char *out, size_t room) {
     kohiblad_words words = { out, room, 0 };
     const uint8_t *in = kohiblad_in(text);
+    if (kohiblad_meet(out, room, text, size)) {
+        struct kohiblad_fault overlap = { KOHIBLAD_OVERLAP, 0 };
+        return overlap;
+    }
     struct kohiblad_fault fault = kohiblad_text_fault(in, size, depth, exponents);
     size_t offset = (size_t)fault.offset;
     if (fault.status == KOHIBLAD_INVALID_JSON) {

@@ -310,6 +310,57 @@ static void members(size_t size) {
     assert(kohiblad_take_members(rows, size, offsets, ROWS + 1, names, names_size, DEPTH,
                                  KOHIBLAD_BY_VALUE, wanted, 2, places, 2)
            == KOHIBLAD_INVALID_JSONB);
+
+    /* Of no names the offsets are tested too, and that they are an array. */
+    static uint8_t none[ROOM], object[ROOM];
+    size_t none_size = parsed("[]", none), object_size = parsed("{}", object);
+    assert(!kohiblad_take_members(rows, size, offsets, ROWS + 1, none, none_size, DEPTH,
+                                  KOHIBLAD_BY_VALUE, wanted, 0, places, 0));
+    assert(kohiblad_take_members(rows, size - 1, offsets, ROWS + 1, none, none_size, DEPTH,
+                                 KOHIBLAD_BY_VALUE, wanted, 0, places, 0) == KOHIBLAD_INVALID_EOF);
+    assert(kohiblad_take_members(rows, size, offsets, ROWS + 1, object, object_size, DEPTH,
+                                 KOHIBLAD_BY_VALUE, wanted, 0, places, 0) == KOHIBLAD_OTHER_KIND);
+}
+
+/* The zeros in front of a number without its point are no digits. */
+static void less_than_one(void) {
+    static uint8_t row[ROOM], whole[ROOM];
+    size_t ends[2] = { 0, parsed("0.05", row) }, whole_size = parsed("[]", whole);
+    struct kohiblad_survey_counts one = kohiblad_survey(row, ends[1], ends, 2, whole, whole_size,
+                                                        DEPTH);
+    assert(one.most_digits == 1 && one.least_scale == 2 && one.greatest_scale == 2);
+}
+
+/* Of two members with one value each has its own place, and a place of none gives no value. */
+static void own_places(void) {
+    static uint8_t row[ROOM], names[ROOM];
+    size_t size = parsed("{\"a\":true,\"b\":true,\"c\":7,\"d\":7}", row);
+    size_t names_size = parsed("[\"a\",\"b\",\"c\",\"d\"]", names);
+    size_t ends[2] = { 0, size };
+    const char *keys[4] = { "a", "b", "c", "d" };
+    struct kohiblad_place places[4];
+    assert(!kohiblad_locate(row, size, ends, 2, names, names_size, DEPTH, places, 4));
+    for (int j = 0; j < 4; j++) {
+        struct kohiblad_place own = kohiblad_find_key(row, size, (const uint8_t *)keys[j], 1);
+        assert(own.type == places[j].type && own.offset == places[j].offset);
+        assert(own.length == places[j].length);
+    }
+    assert(places[2].offset + places[2].length == places[3].offset);
+
+    /* A status of no call, a payload of no such type, a null with bytes, and a container. */
+    struct kohiblad_place others[4] = { places[2], places[2], places[2], places[2] };
+    others[0].status = 99;
+    others[1].length -= 1;
+    others[2].type = KOHIBLAD_TYPE_NULL;
+    others[3].type = KOHIBLAD_TYPE_CONTAINER;
+    int64_t values[4];
+    uint8_t their[5] = { 9, 9, 9, 9, 9 };
+    kohiblad_take_int64_at(row, size, others, 4, 1, KOHIBLAD_BY_VALUE, values, 4, their, 4);
+    assert(!memcmp(their, "\4\4\4\3\11", 5));
+    for (int j = 0; j < 4; j++) assert(values[j] == 0);
+    others[0].status = KOHIBLAD_NONE;
+    kohiblad_take_int64_at(row, size, others, 1, 1, KOHIBLAD_BY_VALUE, values, 1, their, 1);
+    assert(their[0] == KOHIBLAD_ROW_ABSENT && values[0] == 0);
 }
 
 /* The members "a" and "b" of the rows in one walk over each. */
@@ -395,6 +446,7 @@ int main(void) {
     assert(all.arrays == 0 && all.objects == 0 && all.dates == 0 && all.binaries == 0);
     assert(all.least_scale == 0 && all.greatest_scale == 2 && all.most_digits == 20);
     assert(all.longest_text == 3);
+    less_than_one();
     assert(kohiblad_survey(rows, size, offsets, ROWS + 1, path, path_size, 5).arrays == 1);
 
     int64_t whole[ROWS + 1];
@@ -600,6 +652,7 @@ int main(void) {
     make_zones();
     located(size);
     members(size);
+    own_places();
     other_kinds_at();
     shapes();
     puts("columns as the rules have them");

@@ -1,10 +1,12 @@
-/* Any bytes to each call, in blocks of exactly their size: fuzz [ROUNDS]. What must hold of the
- * answers is asserted beside what one call says of another's. */
+/* Any bytes to each call, in blocks of exactly their size: fuzz [ROUNDS [SEED [MINUTES]]]. It ends
+ * after so many rounds, of which 0 is no limit, or minutes. What must hold of the answers is
+ * asserted beside what one call says of another's. */
 #define _DEFAULT_SOURCE
 #include "block.h"
 #include "kohiblad.h"
 
 #include <stdio.h>
+#include <time.h>
 
 static uint64_t state = 88172645463325252u;
 static uint32_t below(uint32_t limit) {
@@ -826,7 +828,11 @@ static void column_of(struct block rows, const size_t *where, bool good, size_t 
  * inside it, and the rows of a file that is checked are documents. */
 static void typed_file_of(struct block rows, const size_t *where) {
     static const uint8_t names[] = { 128, 0, 0, 2, 16, 0, 0, 1, 16, 0, 0, 1, 'a', 'c' };
-    static const uint8_t kinds[] = { KOHIBLAD_COLUMN_INT64, 0, KOHIBLAD_COLUMN_TEXT, 0 };
+    uint8_t kinds[4];
+    for (size_t i = 0; i < 2; i++) {
+        kinds[2 * i] = (uint8_t)below(10);
+        kinds[2 * i + 1] = kinds[2 * i] == KOHIBLAD_COLUMN_DECIMAL ? (uint8_t)below(4) : 0;
+    }
     static uint8_t made[4 * ROOM], row[4 * ROOM];
     size_t length, count, size;
     uint32_t status = kohiblad_build_typed_file(rows.at, rows.size, where, 2, names, sizeof names,
@@ -853,6 +859,112 @@ static void typed_file_of(struct block rows, const size_t *where) {
         if (!told.status) assert(status == (i < told.rows ? KOHIBLAD_OK : KOHIBLAD_NONE));
     }
     drop(lie); drop(file);
+}
+
+/* Two members of rows in one walk, of any types: what the calls at the places of each take. */
+static void members_of(struct block rows, const size_t *where, bool good, size_t depth) {
+    static const uint8_t names[] = { 128, 0, 0, 2, 16, 0, 0, 1, 16, 0, 0, 1, 'a', 'c' };
+    static const uint32_t types[] = {
+        KOHIBLAD_COLUMN_BOOLEAN, KOHIBLAD_COLUMN_INT64, KOHIBLAD_COLUMN_UINT64,
+        KOHIBLAD_COLUMN_DECIMAL, KOHIBLAD_COLUMN_DATE, KOHIBLAD_COLUMN_TIMESTAMP,
+        KOHIBLAD_COLUMN_TIMESTAMP_TZ, KOHIBLAD_COLUMN_INTERVAL, KOHIBLAD_COLUMN_TEXT, 99,
+    };
+    struct block places = make(6 * sizeof(struct kohiblad_place));
+    struct block values[2], states[2], alone = make(48), its = make(3);
+    struct kohiblad_place *at = (struct kohiblad_place *)(void *)places.at;
+    struct kohiblad_member members[2];
+    size_t room = 2 + 2 * below(3);
+    uint32_t fit = below(2);
+    bool known = true;
+    for (size_t j = 0; j < 2; j++) {
+        uint32_t type = types[below(10)];
+        struct kohiblad_member member = { type, below(4), NULL, NULL, { 0, 0, 0 } };
+        values[j] = make(3 * kohiblad_value_size(type));
+        states[j] = make(3);
+        member.values = values[j].at, member.states = states[j].at;
+        members[j] = member;
+        known &= kohiblad_value_size(type) > 0;
+    }
+    uint32_t status = kohiblad_take_members(rows.at, rows.size, where, 4, names, sizeof names,
+                                            depth, fit, members, 2, at, room);
+    if (good && depth > 0) assert(status == (known ? KOHIBLAD_OK : KOHIBLAD_INVALID_JSONB));
+    else assert(status == KOHIBLAD_INVALID_EOF || status == KOHIBLAD_INVALID_JSONB);
+    if (!status) {
+        assert(!kohiblad_locate(rows.at, rows.size, where, 4, names, sizeof names, depth, at, 6));
+        for (size_t j = 0; j < 2; j++) {
+            struct kohiblad_member member = members[j];
+            member.values = alone.at, member.states = its.at;
+            struct kohiblad_taken taken =
+                kohiblad_take_batch(rows.at, rows.size, at + j, 6 - j, 2, fit, &member, 0, 3);
+            assert(taken.unfit == members[j].taken.unfit);
+            assert(taken.first_unfit == members[j].taken.first_unfit);
+            assert(!memcmp(its.at, states[j].at, 3));
+            assert(!memcmp(alone.at, values[j].at, values[j].size));
+        }
+    }
+    members[1].states = members[0].states;
+    assert(kohiblad_take_members(rows.at, rows.size, where, 4, names, sizeof names, depth, fit,
+                                 members, 2, at, room) == KOHIBLAD_OVERLAP);
+    for (size_t j = 0; j < 2; j++) drop(states[j]), drop(values[j]);
+    drop(its); drop(alone); drop(places);
+}
+
+/* A member of rows as texts or binary values, with either offsets, checked or not, in room that may
+ * be too small: they lie one after another. */
+static void bytes_of(struct block rows, const size_t *where, bool good) {
+    static const uint8_t path[] = { 128, 0, 0, 1, 16, 0, 0, 1, 'a' };
+    struct block out = make(below(3) ? rows.size : below((uint32_t)rows.size + 1));
+    struct block starts = make(4 * sizeof(size_t)), short_starts = make(4 * sizeof(uint32_t));
+    struct block states = make(3);
+    size_t *offsets = (size_t *)(void *)starts.at, length = 0;
+    uint32_t *short_offsets = (uint32_t *)(void *)short_starts.at;
+    for (int which = 0; which < 6; which++) {
+        struct kohiblad_taken taken;
+        if (which < 4)
+            taken = (which == 0 ? kohiblad_take_text : which == 1 ? kohiblad_take_text_unchecked
+                     : which == 2 ? kohiblad_take_binary : kohiblad_take_binary_unchecked)(
+                rows.at, rows.size, where, 4, path, sizeof path, DEPTH, out.at, out.size, &length,
+                offsets, 4, states.at, 3);
+        else
+            taken = (which == 4 ? kohiblad_take_text32 : kohiblad_take_text32_unchecked)(
+                rows.at, rows.size, where, 4, path, sizeof path, DEPTH, out.at, out.size, &length,
+                short_offsets, 4, states.at, 3);
+        assert(good || taken.status == KOHIBLAD_INVALID_EOF);
+        assert(!taken.status || taken.status == KOHIBLAD_INVALID_EOF
+               || (taken.status == KOHIBLAD_NO_ROOM && length > out.size));
+        for (int i = 0; i < 4 && !taken.status; i++) {
+            size_t start = which < 4 ? offsets[i] : short_offsets[i];
+            assert(start <= length && (i < 3 || start == length));
+        }
+    }
+    drop(states); drop(short_starts); drop(starts); drop(out);
+}
+
+/* The words for the fault of a text of any bytes: within their room they end with a zero byte, and
+ * have nothing that a terminal may obey. */
+static void words_of(void) {
+    static const char *const parts[] = {
+        "[", "]", "{", "\"", ",", ":", "1", "1e", "-", "true", "a", "'", " ", "\n", "\\", "\x7f",
+        "\302\233", "\342\200\256", "\341\246", "\357\273\277", "\363\240\201\201", "\377",
+        "\303\251",
+    };
+    char text[128];
+    size_t size = 0;
+    for (uint32_t i = below(12); i > 0; i--) {
+        const char *part = parts[below(sizeof parts / sizeof *parts)];
+        size += (size_t)sprintf(text + size, "%s", part);
+    }
+    struct block in = copy_of(text, size), out = make(below(2) ? KOHIBLAD_WORDS_ROOM : below(60));
+    char *words = (char *)out.at;
+    struct kohiblad_fault fault =
+        kohiblad_fault_words(in.at, in.size, DEPTH, below(2), words, out.size);
+    assert(fault.offset <= in.size);
+    if (out.size > 0) assert(memchr(words, 0, out.size));
+    for (size_t i = 0; out.size > 0 && words[i]; i++) {
+        assert((uint8_t)words[i] >= 0x20 && words[i] != 0x7f);
+        assert((uint8_t)words[i] != 0xc2 || !words[i + 1] || (uint8_t)words[i + 1] >= 0xa0);
+    }
+    drop(out); drop(in);
 }
 
 /* The zone that a block of rows has: by a loop over its values of the state 1. */
@@ -1081,8 +1193,17 @@ static void answer_functions(struct block b, struct block other, size_t depth, s
     select_within(b, shallow, depth, kohiblad_kind(b.at, b.size));
 }
 
+/* Whether so many minutes have gone by. */
+static bool is_over(double minutes) {
+    static time_t start;
+    if (start == 0) start = time(NULL);
+    return difftime(time(NULL), start) >= 60 * minutes;
+}
+
 int main(int argc, char **argv) {
     long rounds = argc > 1 ? atol(argv[1]) : 20000;
+    double minutes = argc > 3 ? atof(argv[3]) : 0;
+    if (argc > 2) state += strtoul(argv[2], NULL, 10);
     static uint8_t docs[TEXTS][ROOM];
     size_t sizes[TEXTS], length, again;
     uint32_t count = 0, status;
@@ -1109,7 +1230,8 @@ int main(int argc, char **argv) {
         drop(t);
     }
     long documents = 0, found = 0, built = 0, sorted = 0, children = 0, numbers_read = 0;
-    for (long round = 0; round < rounds; round++) {
+    long round = 0;
+    for (; (rounds == 0 || round < rounds) && (minutes == 0 || !is_over(minutes)); round++) {
         zones_of();
         uint32_t from = below(count);
         size_t size = below(3) ? sizes[from] : below((uint32_t)sizes[from] + 1);
@@ -1259,6 +1381,9 @@ int main(int argc, char **argv) {
             assert(order_of[0] == 7 && order_of[1] == 7 && order_of[2] == 7);
         }
         column_of(rows, where, good, depth);
+        members_of(rows, where, good, depth);
+        bytes_of(rows, where, good);
+        words_of();
         typed_file_of(rows, where);
         ANSWER(status, out, length,
                kohiblad_build_array(rows.at, rows.size, where, 3, SIZE_MAX, out.at, out.size,
@@ -1281,6 +1406,6 @@ int main(int argc, char **argv) {
     }
     assert(documents && found && built && sorted && children && numbers_read);
     printf("%ld rounds: %ld documents, %ld values found, %ld built, %ld sorted, %ld children, "
-           "%ld numbers\n", rounds, documents, found, built, sorted, children, numbers_read);
+           "%ld numbers\n", round, documents, found, built, sorted, children, numbers_read);
     return 0;
 }

@@ -228,6 +228,11 @@ int main(void) {
            == KOHIBLAD_INVALID_JSONB);
     assert(kohiblad_edit(null, sizeof null, null, sizeof null, KOHIBLAD_REMOVE, NULL, 0, 9, NULL, 0,
                          &length) == KOHIBLAD_OTHER_KIND);
+    /* Of an edit that is none of the four no value is read. */
+    assert(kohiblad_edit(null, sizeof null, array, sizeof array, 4, NULL, 0, 9, NULL, 0, &length)
+           == KOHIBLAD_OTHER_KIND);
+    assert(kohiblad_edit(NULL, 0, array, sizeof array, 4, NULL, 0, 9, NULL, 0, &length)
+           == KOHIBLAD_INVALID_JSONB);
     assert(kohiblad_path_of_text(NULL, 0, NULL, 0, &length) == KOHIBLAD_OTHER_KIND && length == 0);
     assert(kohiblad_path_of_text((const uint8_t *)"$", 1, NULL, 0, &length) == KOHIBLAD_NO_ROOM);
     assert(length == 4);

@@ -31,6 +31,18 @@ static const struct { const char *text; uint32_t exponents; const char *words; }
     { "[abcdefghijklmnopqrstu]", 1,
       "expected a value or ']' at byte 1, found 'abcdefghijklmnopqrst..'" },
     { "\xef\xbb\xbf[]", 1, "expected a value at byte 0, found a byte order mark" },
+    /* What a terminal may obey has an escape, which counts as one character. */
+    { "[\xc2\x9b" "2J\xe2\x80\xae" "c\xe2\x81\xa6]", 1,
+      "expected a value or ']' at byte 1, found '\\u009b2J\\u202ec\\u2066'" },
+    { "[\xf3\xa0\x81\x81\xc2\xad\xe2\x80\xa8\xef\xbb\xbf\xe2\x80\x8f\xd8\x9c\xe1\xa0\x8e]", 1,
+      "expected a value or ']' at byte 1, found "
+      "'\\udb40\\udc41\\u00ad\\u2028\\ufeff\\u200f\\u061c\\u180e'" },
+    { "[\xc2\x85" "aaaaaaaaaaaaaaaaaaa]", 1,
+      "expected a value or ']' at byte 1, found '\\u0085aaaaaaaaaaaaaaaaaaa'" },
+    { "[aaaaaaaaaaaaaaaaaaa\xc2\x85\xc2\x85]", 1,
+      "expected a value or ']' at byte 1, found 'aaaaaaaaaaaaaaaaaaa\\u0085..'" },
+    { "[\xf0\x9f\x98\x80\xe2\x82\xac]", 1,
+      "expected a value or ']' at byte 1, found '\xf0\x9f\x98\x80\xe2\x82\xac'" },
     { "[1.]", 1, "at byte 3 of a number that is unfinished or too long, in '1.'" },
     { "[1e5]", 0,
       "at byte 2 of a number that is unfinished, too long, or has an exponent, in '1e5'" },
