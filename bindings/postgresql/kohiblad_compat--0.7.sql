@@ -4,7 +4,8 @@
 
 DO $$
 BEGIN
-    IF to_regtype('@extschema@.kohiblad') IS NULL THEN
+    IF NOT EXISTS (SELECT FROM pg_extension WHERE extname = 'kohiblad'
+            AND extnamespace = (SELECT oid FROM pg_namespace WHERE nspname = current_schema())) THEN
         RAISE 'kohiblad_compat must be in the schema of kohiblad'
             USING HINT = 'CREATE EXTENSION kohiblad_compat SCHEMA ...';
     END IF;

@@ -246,6 +246,25 @@ run_trusted() {
         WHERE extname LIKE 'kohiblad%'" owned)"
 }
 
+# A schema whose name is a statement: no script has the name in a text that is run, and META.json
+# asks for the least servers that refuse scripts which have.
+run_schemas() {
+    note "a schema whose name is a statement"
+    ! grep -l '@extschema' "$folder"/kohiblad*.sql || fail "these scripts name the schema"
+    expect "the least server in META.json" '"PostgreSQL": "15.4.0"' \
+        "$(grep -o '"PostgreSQL": .*' "$folder/META.json")"
+    local schema="x'); CREATE TABLE taken(); --"
+    psql -c "CREATE DATABASE quoted"
+    psql -d quoted -c "CREATE SCHEMA \"$schema\"" -c "CREATE SCHEMA other" \
+        -c "CREATE EXTENSION kohiblad SCHEMA \"$schema\""
+    expect "the other schema" "ERROR:  kohiblad_compat must be in the schema of kohiblad" \
+        "$(query "CREATE EXTENSION kohiblad_compat SCHEMA other" quoted 2>&1 | head -n 1)"
+    query "CREATE EXTENSION kohiblad_compat SCHEMA \"$schema\"" quoted
+    expect "a function there" '["a"]' "$(query "SET search_path = \"$schema\";
+        SELECT jsonb_extract_path('{\"x\":[\"a\"]}'::kohiblad, 'x')" quoted)"
+    expect "tables" 0 "$(query "SELECT count(*) FROM pg_class WHERE relname = 'taken'" quoted)"
+}
+
 catalogue_of() { psql -At -d "$1" -f "$folder/tests/catalogue.sql"; }
 
 # An extension of version $1 that is updated has the catalogue of a new one, in the file $2.
@@ -310,6 +329,7 @@ run_servers
 run_replication
 run_stored
 run_trusted
+run_schemas
 run_updates
 run_cluster
 ! grep -E 'PANIC|terminated by signal' "$scratch/server.log" || fail "the server broke down"

@@ -69,3 +69,10 @@ SELECT answer_within(5, $$
     SELECT kohiblad_build_object('a', kohiblad_agg(i), 'b', kohiblad_agg(-i))
         @@ '$.a[*] < $.b[*]' FROM generate_series(1, 50000) i $$);
 RESET statement_timeout;
+-- And a long text that is indented: it is written a few bytes at a time, once.
+CREATE TABLE indented AS SELECT (repeat('[', 900) || repeat('1,', 449999) || '1'
+    || repeat(']', 900))::kohiblad AS d;
+SET statement_timeout = '200ms';
+SELECT answer_within(4, 'SELECT length(kohiblad_pretty(d)) FROM indented');
+RESET statement_timeout;
+DROP TABLE indented;

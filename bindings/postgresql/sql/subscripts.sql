@@ -49,10 +49,16 @@ SELECT write('[0]', '[1500]', '1') = kohiblad_build_array(VARIADIC '{0}'::int[]
         || array_fill(NULL::int, '{1499}') || 1),
     kohiblad_length(write('{}', '[''a''][4097]', '1') -> 'a');
 SELECT kohiblad_length(write('[1]', '[1000000]', '1'));
+SELECT write('[0]', '[2][''a''][3]', '1'), write('[[1],[2]]', '[1][3][1]', '{"x":1}');
+SELECT write('{"a":[1],"b":{"bb":2,"c":[[]]},"z":"x"}', '[''b''][''c''][0][2][1]', 'true'),
+    write('{"n":null}', '[''x''][-3][2]', 'null');
+SELECT write('[[],[[7]],"x"]', '[1][-1][3]', '[]'), write('[[],[[7]],"x"]', '[-2][3][0][1]', '2');
 SET statement_timeout = '3s';
 SELECT refusal($$ SELECT write('[]', '[16777216]', '1') $$);
 SELECT refusal($$ SELECT write('[]', '[40000000]', '1') $$);
 SELECT refusal($$ SELECT write('{"a":[1]}', '[''a''][40000000]', '1') $$);
 SELECT refusal($$ SELECT write('{}', '[''a''][2147483647][''b'']', '1') $$);
 SELECT refusal($$ SELECT write('[]', repeat('[16000000]', 17), '1') $$);
+SELECT refusal($$ SELECT write('[]', '[16777215][16777215][16777215]', '1') $$);
+SELECT refusal($$ SELECT write('[1]', '[8388608][''a''][8388609]', '1') $$);
 RESET statement_timeout;

@@ -31,6 +31,31 @@ FROM (SELECT (decode('800000021100000060000005' || repeat('61', 1 << 24), 'hex')
               || '\x1000000001')::kohiblad AS d) s;
 SELECT d::text::kohiblad::bytea = d::bytea, left(d::text, 22), length(d::text)
 FROM (SELECT decode('200000006100000100' || repeat('ff', 1 << 24), 'hex')::kohiblad AS d) s;
+-- Pretty texts of many bytes, which are written value by value.
+CREATE FUNCTION lines_of(margin text, count int) RETURNS text LANGUAGE sql AS $$
+    SELECT replace('[' || string_agg(E'
+  {
+    "a\\"": ' || i || E',
+    "é": [
+      {}
+    ]
+  }', ',' ORDER BY i) || E'
+]', E'\n', E'\n' || margin) FROM generate_series(1, count) i
+$$;
+CREATE TABLE long_lines AS SELECT kohiblad_agg(kohiblad_build_object('a"', i, 'é', '[{}]'::kohiblad)
+    ORDER BY i) AS d FROM generate_series(1, 20000) i;
+SELECT length(d::bytea) > 500000, kohiblad_pretty(d) = lines_of('', 20000),
+    kohiblad_pretty(kohiblad_build_object('b', d, 'x', '[]'::kohiblad, 'z"',
+        kohiblad_build_array(d, 1))) = format(E'{
+  "b": %s,
+  "x": [],
+  "z\\"": [
+    %s,
+    1
+  ]
+}', lines_of('  ', 20000), lines_of('    ', 20000)) FROM long_lines;
+-- What a terminal may obey has an escape.
+SELECT detail_of($$ SELECT ('[' || chr(8238) || 'x' || chr(155) || ']')::kohiblad $$);
 -- Bad hexadecimal, and bytes that are no document.
 SELECT refusal($$ SELECT '\x2000000g'::kohiblad $$), detail_of($$ SELECT '\x2000000g'::kohiblad $$);
 SELECT refusal($$ SELECT '\x200'::kohiblad $$), detail_of($$ SELECT '\x200'::kohiblad $$);

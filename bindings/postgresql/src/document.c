@@ -85,6 +85,7 @@ static char *write_within(size_t depth, size_t prefix, WriteCall call, Bytes in,
     size_t room = Min(guess, MAX_ROOM - 1);
     char *out = palloc(prefix + room + 1);
     uint32_t status = call(in.at, in.size, depth, (uint8_t *)out + prefix, room, length);
+    CHECK_FOR_INTERRUPTS();
     if (status == KOHIBLAD_NO_ROOM) {
         pfree(out);
         room = *length;

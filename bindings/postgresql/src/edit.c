@@ -24,6 +24,7 @@ static void check_depth_below(Bytes document, size_t levels) {
 
 /* Takes what a call wrote into a new value of so much room, or says how much it needs. */
 static struct varlena *taken(struct varlena *value, uint32_t status, size_t length, size_t *room) {
+    CHECK_FOR_INTERRUPTS();
     if (status == KOHIBLAD_OK) {
         SET_VARSIZE(value, VARHDRSZ + length);
         return value;
@@ -41,7 +42,7 @@ struct varlena *edited(Bytes document, Bytes steps, int count, enum kohiblad_edi
     struct varlena *result = NULL;
     size_t depth = depth_of_size(Max(document.size, value.size)), length;
     size_t room =
-        Min(document.size + value.size + steps.size + EDIT_SLACK, MaxAllocSize - VARHDRSZ);
+        Min(document.size + value.size + 3 * steps.size + EDIT_SLACK, MaxAllocSize - VARHDRSZ);
     check_stack_for(stack_of_levels(Min(MAX_DEPTH, depth + count), KOHIBLAD_EDIT_LEVEL_STACK));
     while (!result) {
         struct varlena *out = palloc(VARHDRSZ + room);

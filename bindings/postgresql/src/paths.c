@@ -86,7 +86,7 @@ bool find_step(Bytes container, Bytes element, Part *child) {
     return index_of_bytes(element, &index) && find_index(container, index, child);
 }
 
-static bool find_element(Bytes container, const Element *element, Part *child) {
+bool follow_element(Bytes container, const Element *element, Part *child) {
     struct kohiblad_value_kind kind = kind_of(container);
     if (kind.kind != KOHIBLAD_ARRAY)
         return find_key(container, utf8_of_text(element->given), child);
@@ -99,7 +99,7 @@ bool find_path(Bytes document, const Path *path, Part *child) {
         CHECK_FOR_INTERRUPTS();
         const Element *element = &path->elements[i];
         if (!element->given || !is_container(*child)) return false;
-        if (!find_element(child->payload, element, child)) return false;
+        if (!follow_element(child->payload, element, child)) return false;
     }
     return true;
 }
@@ -193,13 +193,25 @@ static Bytes first_steps(Path *path, int count, int64 last_index) {
     return bytes_of(path->steps);
 }
 
-Bytes steps_before(Path *path, const PathEnd *end) {
-    bool is_index = path->are_indexes[end->level - 1];
-    return first_steps(path, end->level, is_index ? path->elements[end->level - 1].index : 0);
-}
-
 Bytes steps_through(Path *path, const PathEnd *end, int64 index) {
     return first_steps(path, end->level + 1, end->is_array ? index : 0);
+}
+
+Bytes steps_to_make(const Path *path, const PathEnd *end) {
+    int64 index = Min(end->index, end->count);
+    if (index < 0) index += end->count;
+    Rows *rows = rows_of_steps(path, end->level + 1, index);
+    for (int i = end->level + 1; i < path->count; i++) {
+        CHECK_FOR_INTERRUPTS();
+        const Element *element = &path->elements[i];
+        if (element->is_index)
+            add_int64(rows, 0);
+        else
+            add_text(rows, utf8_of_text(element->given));
+    }
+    Bytes steps = bytes_of(array_of_rows(rows));
+    free_rows(rows);
+    return steps;
 }
 
 void refuse_path(void) {

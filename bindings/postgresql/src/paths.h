@@ -59,6 +59,7 @@ extern bool find_index(Bytes document, int64 index, Part *child);
 
 /* Finds what an element of a path names: a member, or in an array the item at an index. */
 extern bool find_step(Bytes container, Bytes element, Part *child);
+extern bool follow_element(Bytes container, const Element *element, Part *child);
 
 /* Finds what a path leads to. */
 extern bool find_path(Bytes document, const Path *path, Part *child);
@@ -68,10 +69,13 @@ extern bool find_path(Bytes document, const Path *path, Part *child);
  * one that is no index. */
 extern bool follow_path(Bytes document, Path *path, PathEnd *end);
 
-/* The document of the elements that a path was followed by to an end, and of these and the next
- * one, which in an array is this index. It is the path's own. */
-extern Bytes steps_before(Path *path, const PathEnd *end);
+/* The document of the elements that a path was followed by to an end, and of the next one, which in
+ * an array is this index. It is the path's own. */
 extern Bytes steps_through(Path *path, const PathEnd *end, int64 index);
+
+/* The document of all elements of a path, by which KOHIBLAD_CREATE makes what is not there: past
+ * the last item of an array the end is right after it, and in what is made each index is 0. */
+extern Bytes steps_to_make(const Path *path, const PathEnd *end);
 
 /* Whether an array of so many items has one at an index; a negative one counts from the end. */
 extern bool has_index(int64 count, int64 index);

@@ -157,7 +157,7 @@ static Bytes object_of_part(Part part) {
 
 static Datum composite_of(const Call *call, Part part, Type type, Datum given) {
     TupleDesc columns = lookup_rowtype_tupdesc_copy(type.oid, type.modifier);
-    HeapTupleHeader record = given ? DatumGetHeapTupleHeader(given) : NULL;
+    HeapTupleHeader record = given ? record_of_datum(given) : NULL;
     return HeapTupleHeaderGetDatum(record_of(call, object_of_part(part), columns, record));
 }
 
@@ -224,7 +224,7 @@ static void take_record(FunctionCallInfo fcinfo, Call *call) {
                         errmsg("kohiblad: first argument of %s must be a row type",
                                call->function)));
     if (!PG_ARGISNULL(0)) {
-        call->given = PG_GETARG_HEAPTUPLEHEADER(0);
+        call->given = record_of_datum(PG_GETARG_DATUM(0));
         if (call->type == RECORDOID) {
             call->base = HeapTupleHeaderGetTypeId(call->given);
             call->base_modifier = HeapTupleHeaderGetTypMod(call->given);

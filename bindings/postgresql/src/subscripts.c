@@ -1,5 +1,6 @@
 /* Subscripts, read and written as those of jsonb: doc['a'][0]. What is written is made where it is
- * not there: an object for a text, and for an integer an array, with nulls before the item. */
+ * not there: an object for a text, and for an integer an array, with nulls before the item: the
+ * gap. The document is made without its gaps, and then copied once with them. */
 #include "edit.h"
 
 #include "catalog/pg_type.h"
@@ -13,11 +14,9 @@
 #include "utils/builtins.h"
 #include "utils/fmgrprotos.h"
 
-/* No gap makes a longer array; jsonb ends at the same length. */
+/* No gap makes a longer array, as in jsonb, and all gaps together have fewer items. */
 #define MOST_ITEMS 16777216
 
-/* What the header of an array has beside the number of items. */
-#define ARRAY_HEADER 0x80000000
 #define HEADER_SIZE 4
 
 /* The subscripts of one expression, as texts, and the types that they are written with. */
@@ -116,73 +115,123 @@ static void fetch_old(ExprState *state pg_attribute_unused(), ExprEvalStep *step
         reference->prevvalue = value_at(*step->resvalue, path_of(reference), &reference->prevnull);
 }
 
-/* The bytes that nulls take before an index that so many items do not reach. */
-static size_t gap_before(int64 index, int64 count) {
-    if (index <= count) return 0;
-    if (index >= MOST_ITEMS)
+/* The nulls before the value in each array of a path, by its elements, and how many they are. */
+typedef struct Gaps {
+    int64 *nulls;
+    int64 sum;
+} Gaps;
+
+/* Adds the nulls before an index that so many items do not reach. */
+static void add_gap(Gaps *gaps, int level, int64 index, int64 count) {
+    if (index <= count) return;
+    gaps->nulls[level] = index - count;
+    gaps->sum += index - count;
+    if (index >= MOST_ITEMS || gaps->sum >= MOST_ITEMS)
         ereport(ERROR, (errcode(ERRCODE_PROGRAM_LIMIT_EXCEEDED),
                         errmsg("kohiblad: number of array elements exceeds the maximum allowed "
                                "(%d)", MOST_ITEMS)));
-    return (index - count) * ENTRY_SIZE;
 }
 
-/* Refuses gaps that do not fit a value beside so many bytes, before anything is made: the one at
- * the end of a path in the document, and those in the containers that the rest of it names. */
-static void check_gaps(const Path *path, const PathEnd *end, size_t bytes) {
-    if (end->is_array) bytes += gap_before(end->index, end->count);
+/* The gaps of a path that was followed to an end: the one there, and those in the containers that
+ * the rest of it names. */
+static Gaps gaps_of(const Path *path, const PathEnd *end) {
+    Gaps gaps = {palloc0(path->count * sizeof *gaps.nulls), 0};
+    if (end->is_array) add_gap(&gaps, end->level, end->index, end->count);
     for (int i = end->level + 1; i < path->count; i++) {
         CHECK_FOR_INTERRUPTS();
-        if (path->elements[i].is_index) bytes += gap_before(path->elements[i].index, 0);
+        if (path->elements[i].is_index) add_gap(&gaps, i, path->elements[i].index, 0);
     }
-    check_room(bytes);
+    return gaps;
 }
 
-static struct varlena *array_of_value(Bytes value) {
-    Rows *rows = new_rows();
-    add_row(rows, value);
-    struct varlena *array = array_of_rows(rows);
-    free_rows(rows);
-    return array;
+static uint32 word_at(Bytes document, size_t offset) {
+    uint32 word;
+    memcpy(&word, document.at + offset, sizeof word);
+    return pg_ntoh32(word);
 }
 
-/* The array of so many nulls and a value after them. Of a null the format has its entry word alone,
- * which is 0: so these come between the header of an array of the value and that one's entry. */
-static struct varlena *array_with_gap(int64 nulls, Bytes value) {
-    struct varlena *array = array_of_value(value);
-    if (nulls <= 0) return array;
-    Bytes last = bytes_of(array);
-    size_t gap = nulls * ENTRY_SIZE;
-    uint32 header = pg_hton32(ARRAY_HEADER | (uint32)(nulls + 1));
-    check_room(gap + last.size);
-    struct varlena *wide = palloc0(VARHDRSZ + gap + last.size);
-    uint8_t *out = (uint8_t *)VARDATA(wide);
-    memcpy(out, &header, HEADER_SIZE);
-    memcpy(out + HEADER_SIZE + gap, last.at + HEADER_SIZE, last.size - HEADER_SIZE);
-    SET_VARSIZE(wide, VARHDRSZ + gap + last.size);
-    pfree(array);
-    return wide;
+/* A copy that is being made of a document: how far it is read and written. */
+typedef struct Copy {
+    Bytes document;
+    size_t read;
+    uint8_t *out;
+} Copy;
+
+static void copy_to(Copy *copy, size_t offset) {
+    size_t size = offset - copy->read;
+    memcpy(copy->out, copy->document.at + copy->read, size);
+    copy->out += size;
+    copy->read = offset;
 }
 
-static struct varlena *object_of_member(Bytes key, Bytes value) {
-    Rows *rows = new_rows();
-    add_row(rows, key);
-    add_row(rows, value);
-    struct varlena *object = object_of_rows(rows);
-    free_rows(rows);
-    return object;
+/* Writes the word at an offset with more in its number, which has 28 bits. */
+static void copy_word(Copy *copy, size_t offset, size_t more) {
+    uint32 word = word_at(copy->document, offset);
+    if ((word & (PAYLOAD_LIMIT - 1)) + more >= PAYLOAD_LIMIT)
+        refuse(KOHIBLAD_INVALID_JSONB, ERRCODE_PROGRAM_LIMIT_EXCEEDED);
+    copy_to(copy, offset);
+    word = pg_hton32(word + (uint32)more);
+    memcpy(copy->out, &word, sizeof word);
+    copy->out += sizeof word;
+    copy->read += sizeof word;
 }
 
-/* A value in the containers that these elements of a path name, from the last one to the first. */
-static Bytes wrapped(const Path *path, int first, Bytes value) {
-    struct varlena *inner = NULL, *outer;
-    for (int i = path->count - 1; i >= first; i--, inner = outer) {
+/* The offset of the entry word of a child, whose payload is not empty, in an array or object. */
+static size_t word_of_child(Bytes container, Bytes child) {
+    struct kohiblad_value_kind kind = kind_of(container);
+    size_t words = kind.kind == KOHIBLAD_OBJECT ? 2 * kind.count : kind.count;
+    size_t payload = HEADER_SIZE + words * ENTRY_SIZE, offset = child.at - container.at;
+    for (size_t i = 0; i < words; i++) {
+        size_t place = HEADER_SIZE + i * ENTRY_SIZE;
+        size_t size = word_at(container, place) & (PAYLOAD_LIMIT - 1);
+        if (payload == offset && size == child.size) return place;
+        payload += size;
+    }
+    refuse(KOHIBLAD_INVALID_JSONB, ERRCODE_DATA_CORRUPTED);
+}
+
+/* The offset of the last entry word of an array. */
+static size_t word_of_last(Bytes array) {
+    return HEADER_SIZE + (kind_of(array).count - 1) * ENTRY_SIZE;
+}
+
+/* What an element names in a container where it is known to be, and there in an array the last
+ * item. */
+static Part child_of(Bytes container, const Element *element) {
+    Part child;
+    if (!follow_element(container, element, &child)) refuse(KOHIBLAD_NONE, ERRCODE_DATA_CORRUPTED);
+    return child;
+}
+static Part end_of(Bytes container, const Element *element) {
+    Part child;
+    return find_index(container, -1, &child) ? child : child_of(container, element);
+}
+
+/* The document with its gaps, each before the last item of its array; from the level after the end
+ * on each array has one item. Of a null the format has its entry word alone, which is 0. */
+static struct varlena *widened(Bytes document, const Path *path, int end, const Gaps *gaps) {
+    size_t left = gaps->sum * ENTRY_SIZE, size = document.size + left;
+    check_room(size);
+    struct varlena *value = palloc(VARHDRSZ + size);
+    Copy copy = {document, 0, (uint8_t *)VARDATA(value)};
+    Part part = part_of_document(document);
+    for (int level = 0; left > 0; level++) {
         CHECK_FOR_INTERRUPTS();
-        const Element *element = &path->elements[i];
-        outer = element->is_index ? array_with_gap(element->index, value)
-                                  : object_of_member(utf8_of_text(element->given), value);
-        value = bytes_of(outer);
-        if (inner) pfree(inner);
+        Bytes container = part.payload;
+        const Element *element = &path->elements[level];
+        size_t start = container.at - document.at, gap = gaps->nulls[level] * ENTRY_SIZE;
+        part = gap > 0 || level > end ? end_of(container, element) : child_of(container, element);
+        if (gap > 0) {
+            copy_word(&copy, start, gaps->nulls[level]);
+            copy_to(&copy, start + word_of_last(container));
+            memset(copy.out, 0, gap);
+            copy.out += gap;
+            left -= gap;
+        }
+        if (left > 0) copy_word(&copy, start + word_of_child(container, part.payload), left);
     }
+    copy_to(&copy, document.size);
+    SET_VARSIZE(value, VARHDRSZ + size);
     return value;
 }
 
@@ -190,15 +239,6 @@ static void pg_attribute_noreturn() refuse_scalar(void) {
     ereport(ERROR, (errcode(ERRCODE_INVALID_PARAMETER_VALUE),
                     errmsg("kohiblad: cannot replace existing key"),
                     errdetail("The path leads into a scalar.")));
-}
-
-/* The document with a value after the items of the array at the end, behind nulls for a gap. */
-static struct varlena *with_item(Bytes document, Path *path, const PathEnd *end, Bytes value) {
-    struct varlena *more = array_with_gap(end->index - end->count, value);
-    struct varlena *array = joined(end->container.payload, bytes_of(more));
-    pfree(more);
-    if (end->level == 0) return array;
-    return edited(document, steps_before(path, end), end->level, KOHIBLAD_PUT, bytes_of(array));
 }
 
 /* The document with a value at the subscripts, in containers that are made where there is none. */
@@ -209,11 +249,11 @@ static struct varlena *with_value(Bytes document, Path *path, Bytes value) {
         ereport(ERROR, (errcode(ERRCODE_INVALID_PARAMETER_VALUE),
                         errmsg("kohiblad: path element at position %d is out of range: %d",
                                end.level + 1, (int)end.index)));
-    check_gaps(path, &end, document.size + value.size);
-    value = wrapped(path, end.level + 1, value);
-    if (end.is_array && end.index >= end.count) return with_item(document, path, &end, value);
-    Bytes steps = steps_through(path, &end, end.index);
-    return edited(document, steps, end.level + 1, KOHIBLAD_PUT, value);
+    Gaps gaps = gaps_of(path, &end);
+    check_room(document.size + value.size + gaps.sum * ENTRY_SIZE);
+    struct varlena *made =
+        edited(document, steps_to_make(path, &end), path->count, KOHIBLAD_CREATE, value);
+    return gaps.sum > 0 ? widened(bytes_of(made), path, end.level, &gaps) : made;
 }
 
 /* An empty array or object, for a column that is null. */

@@ -11,6 +11,7 @@
 /* The words for a fault, as a sentence in the server's encoding. */
 Fault fault_of_text(Bytes utf8, size_t depth) {
     char words[KOHIBLAD_WORDS_ROOM];
+    CHECK_FOR_INTERRUPTS();
     struct kohiblad_fault found = kohiblad_fault_words(
         utf8.at, utf8.size, depth, KOHIBLAD_EXPONENTS_ALLOWED, words, sizeof words);
     if (found.status != KOHIBLAD_INVALID_JSON && found.status != KOHIBLAD_BAD_NUMBER)
@@ -167,11 +168,116 @@ Datum pg_kohiblad_out(PG_FUNCTION_ARGS) {
     PG_RETURN_CSTRING(shown);
 }
 
+/* A text of lines that is written value by value, and the room for one of them. */
+typedef struct Lines {
+    char *at, *end;
+    char *piece;
+    size_t piece_room;
+} Lines;
+
+static void pg_attribute_noreturn() refuse_damaged(void) {
+    refuse(KOHIBLAD_INVALID_JSONB, ERRCODE_DATA_CORRUPTED);
+}
+
+static void put(Lines *lines, const char *text, size_t size) {
+    if (size > lines->end - lines->at) refuse_damaged();
+    memcpy(lines->at, text, size);
+    lines->at += size;
+}
+
+static void put_line_end(Lines *lines, int level) {
+    put(lines, "\n", 1);
+    if (2 * level > lines->end - lines->at) refuse_damaged();
+    memset(lines->at, ' ', 2 * level);
+    lines->at += 2 * level;
+}
+
+/* Puts what a call of the library writes of a part, with each of its lines indented. */
+static void put_piece(Lines *lines, uint32_t (*call)(uint32_t, const uint8_t *, size_t, size_t,
+                                                     uint8_t *, size_t, size_t *),
+                      Part part, int level) {
+    size_t length, depth = depth_of_size(part.payload.size);
+    check_stack_for(stack_of_depth(depth));
+    for (;;) {
+        uint32_t status = call(part.type, part.payload.at, part.payload.size, depth,
+                               (uint8_t *)lines->piece, lines->piece_room, &length);
+        if (status == KOHIBLAD_OK) break;
+        if (status != KOHIBLAD_NO_ROOM) refuse(status, ERRCODE_DATA_CORRUPTED);
+        check_room(length);
+        lines->piece_room = length;
+        lines->piece = repalloc(lines->piece, length);
+    }
+    const char *text = lines->piece, *end = text + length, *line;
+    for (; (line = memchr(text, '\n', end - text)); text = line + 1) {
+        put(lines, text, line - text);
+        put_line_end(lines, level);
+    }
+    put(lines, text, end - text);
+}
+
+static void put_lines(Lines *lines, Part part, int level);
+
+/* Puts the children of a container of many bytes one after another. */
+static void put_children(Lines *lines, Bytes container, int level) {
+    bool is_list = is_array((Part){KOHIBLAD_TYPE_CONTAINER, container});
+    struct kohiblad_cursor cursor;
+    struct kohiblad_place key, child;
+    put(lines, is_list ? "[" : "{", 1);
+    uint32_t status = kohiblad_begin(container.at, container.size, &cursor);
+    while (status == KOHIBLAD_OK) {
+        CHECK_FOR_INTERRUPTS();
+        bool is_first = cursor.index == 0;
+        status = kohiblad_next(container.at, container.size, &cursor, &key, &child);
+        if (status != KOHIBLAD_OK) break;
+        if (!is_first) put(lines, ",", 1);
+        put_line_end(lines, level + 1);
+        if (!is_list) {
+            put_piece(lines, kohiblad_print_at, part_at(container, key), 0);
+            put(lines, ": ", 2);
+        }
+        put_lines(lines, part_at(container, child), level + 1);
+    }
+    if (status != KOHIBLAD_NONE) refuse(status, ERRCODE_DATA_CORRUPTED);
+    put_line_end(lines, level);
+    put(lines, is_list ? "]" : "}", 1);
+}
+
+static void put_lines(Lines *lines, Part part, int level) {
+    check_stack_depth();
+    if (is_container(part) && part.payload.size > BYTES_UNCHECKED)
+        put_children(lines, part.payload, level);
+    else
+        put_piece(lines, kohiblad_pretty_at, part, level);
+}
+
+/* The pretty text of a container of many bytes, whose length was asked for: it is written where it
+ * stays, a few bytes at a time. */
+static struct varlena *long_lines(Bytes container, size_t length) {
+    check_room(length);
+    struct varlena *value = palloc(VARHDRSZ + length);
+    Lines lines = {VARDATA(value), VARDATA(value) + length, palloc(BYTES_UNCHECKED),
+                   BYTES_UNCHECKED};
+    put_lines(&lines, (Part){KOHIBLAD_TYPE_CONTAINER, container}, 0);
+    if (lines.at != lines.end) refuse_damaged();
+    pfree(lines.piece);
+    SET_VARSIZE(value, VARHDRSZ + length);
+    return value;
+}
+
 /* Each line is indented, so the text may be a thousand times as long as the document: its length is
- * asked for first, without room for it. */
+ * asked for first, without room for it. That of damaged bytes is `null`. */
+static struct varlena *pretty_lines(Bytes document) {
+    size_t length, depth = depth_of_size(document.size);
+    if (document.size <= BYTES_UNCHECKED || !is_container(part_of_document(document)))
+        return write_value(kohiblad_pretty, document, 0, ERRCODE_DATA_CORRUPTED);
+    check_stack_for(stack_of_depth(depth));
+    uint32_t status = kohiblad_pretty(document.at, document.size, depth, NULL, 0, &length);
+    if (status != KOHIBLAD_NO_ROOM) refuse(status, ERRCODE_DATA_CORRUPTED);
+    if (length == strlen("null")) refuse_damaged();
+    return long_lines(document, length);
+}
+
 PG_FUNCTION_INFO_V1(pg_kohiblad_pretty);
 Datum pg_kohiblad_pretty(PG_FUNCTION_ARGS) {
-    Bytes document = bytes_of(PG_GETARG_VARLENA_PP(0));
-    struct varlena *shown = write_value(kohiblad_pretty, document, 0, ERRCODE_DATA_CORRUPTED);
-    PG_RETURN_TEXT_P(server_text(shown));
+    PG_RETURN_TEXT_P(server_text(pretty_lines(bytes_of(PG_GETARG_VARLENA_PP(0)))));
 }

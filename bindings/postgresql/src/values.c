@@ -158,23 +158,41 @@ static void add_array(Rows *rows, Datum value, Oid documents) {
         add_dimension(rows, ARR_DIMS(array), ARR_NDIM(array), &elements, &nulls, type, documents);
 }
 
+/* Servers from 15.20 on check a record where it is taken, by a function; the headers of older ones
+ * have a macro. The function is looked for when the module is loaded, so that one that was compiled
+ * for a newer server is loaded by the older ones too. */
+#ifdef DatumGetHeapTupleHeader
+HeapTupleHeader record_of_datum(Datum value) {
+    return DatumGetHeapTupleHeader(value);
+}
+#else
+#pragma weak DatumGetHeapTupleHeader
+HeapTupleHeader record_of_datum(Datum value) {
+    if (DatumGetHeapTupleHeader) return DatumGetHeapTupleHeader(value);
+    return (HeapTupleHeader)PG_DETOAST_DATUM(value);
+}
+#endif
+
 static void add_object(Rows *rows, Datum value, Oid documents) {
-    HeapTupleHeader header = DatumGetHeapTupleHeader(value);
+    HeapTupleHeader header = record_of_datum(value);
     TupleDesc columns = lookup_rowtype_tupdesc(HeapTupleHeaderGetTypeId(header),
                                                HeapTupleHeaderGetTypMod(header));
     HeapTupleData tuple = {.t_len = HeapTupleHeaderGetDatumLength(header), .t_data = header};
+    Datum *fields = palloc(columns->natts * sizeof *fields);
+    bool *nulls = palloc(columns->natts * sizeof *nulls);
+    heap_deform_tuple(&tuple, columns, fields, nulls);
     Rows *members = new_rows();
     for (int i = 0; i < columns->natts; i++) {
         CHECK_FOR_INTERRUPTS();
         Form_pg_attribute column = TupleDescAttr(columns, i);
         if (column->attisdropped) continue;
-        bool is_null;
-        Datum field = heap_getattr(&tuple, i + 1, columns, &is_null);
         const char *name = NameStr(column->attname);
         add_row(members, utf8_of_server(name, strlen(name)));
-        add_value(members, field, is_null, column->atttypid, documents);
+        add_value(members, fields[i], nulls[i], column->atttypid, documents);
     }
     ReleaseTupleDesc(columns);
+    pfree(fields);
+    pfree(nulls);
     struct varlena *object = object_of_rows(members);
     add_row(rows, bytes_of(object));
     pfree(object);

@@ -4,10 +4,15 @@
 
 #include "rows.h"
 
+#include "access/htup.h"
+
 #pragma GCC visibility push(hidden)
 
 /* The SQL type of documents: it is in the schema of the extension's functions. */
 extern Oid type_of_documents(FunctionCallInfo fcinfo);
+
+/* The record of a value of a composite type. */
+extern HeapTupleHeader record_of_datum(Datum value);
 
 /* Adds the document of a value of a type, or a value as a key. Null is null of JSON, and no key. */
 extern void add_value(Rows *rows, Datum value, bool is_null, Oid type, Oid documents);

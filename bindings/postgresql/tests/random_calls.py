@@ -27,6 +27,7 @@ NAMES = ["a", "b", "c", "é", "", "x y", "0", "-1", "name", "\u20ac", "tags"]
 CALLS = """
 {d}
 kohiblad_pretty({d})
+length(kohiblad_pretty(kohiblad_build_object({k}, {d}, 'x', {d}, 'y', {e})))
 kohiblad_canonical({d})
 kohiblad_strip_nulls({d})
 kohiblad_key({d})
@@ -122,6 +123,9 @@ UPDATE docs SET d[{k}] = {e} WHERE i = {n}
 UPDATE docs SET d[{i}] = {e} WHERE i = {n}
 UPDATE docs SET d[{k}][{i}][{k}] = {e} WHERE i = {n}
 UPDATE docs SET d[{far}] = {e} WHERE i = {n}
+UPDATE docs SET d[{k}][{far}][{k}][{far}] = {e} WHERE i = {n}
+UPDATE docs SET d[{i}][{far}][{i}] = {e}, d[{k}][{i}][{far}] = {d} WHERE i = {n}
+UPDATE damaged SET d[{i}][{far}] = {e} WHERE i = {n}
 UPDATE docs SET d = d || {e} WHERE i < {i}
 INSERT INTO docs VALUES (0, {d})
 """.strip().split("\n")
