@@ -4,9 +4,9 @@
 #     PREFIX=/usr/local bindings/python/test.sh
 #     PKG_CONFIG_PATH=/usr/local/lib/pkgconfig bindings/python/test.sh
 #
-# All tests run twice: without the extension module, and with it if it can be compiled. Then random
-# calls run for SOAK_MINUTES, 0.1 if it is not set, with a module that was compiled with sanitizers,
-# and are cancelled at random. At the end drivers.sh runs the lines of DRIVERS.md. PYTHON names
+# All tests run twice: without the extension module, and with it if it can be compiled. Then soak.sh
+# makes random calls for SOAK_MINUTES, 0.1 if it is not set, with a module that was compiled with
+# sanitizers. At the end drivers.sh runs the lines of DRIVERS.md. PYTHON names
 # another Python than python3. The last line says how many tests passed, and lines before it which
 # were passed over; the status is 0, 1 after a failure, or 77 if a tool is missing.
 set -euo pipefail
@@ -77,19 +77,6 @@ has_sanitizers() {
         ${CC:-cc} -fsanitize=address,undefined -x c - -o "$scratch/tried" 2> "$scratch/found"
 }
 
-# Random calls, cancelled at random, with the module compiled with sanitizers. Python does not free
-# all of its memory, so leaks are not looked for.
-soak() {
-    local preloaded
-    preloaded="$(${CC:-cc} -print-file-name=libasan.so) $(${CC:-cc} -print-file-name=libubsan.so)"
-    KOHIBLAD_NATIVE=1 CFLAGS='-O1 -g -fsanitize=address,undefined -fno-sanitize-recover=all' \
-        run "${build[@]}" || fail "the build with sanitizers failed"
-    (cd tests && LD_PRELOAD=$preloaded PYTHONMALLOC=malloc KOHIBLAD_NATIVE=1 \
-        ASAN_OPTIONS=detect_leaks=0:exitcode=99 UBSAN_OPTIONS=print_stacktrace=1:exitcode=99 \
-        run "$python" soak.py "${SOAK_MINUTES:-0.1}" "${SOAK_SEED:-1}") ||
-        fail "tests/soak.py failed"
-}
-
 rm -f src/kohiblad/_native.*.so
 build=("$python" build_backend/kohiblad_build.py --extension src/kohiblad)
 if KOHIBLAD_NATIVE=1 run "${build[@]}"; then has_module=1; else has_module=; fi
@@ -101,7 +88,10 @@ if [ "$has_module" ]; then
     run_tests 1
     told="$told, $passed with it"
 fi
-if [ "$has_module" ] && has_sanitizers; then soak; fi
+if [ "$has_module" ] && has_sanitizers; then
+    PREFIX=${library%/lib/*} run "$top/$name/soak.sh" "${SOAK_MINUTES:-0.1}" "${SOAK_SEED:-1}" ||
+        fail "soak.sh failed"
+fi
 # The lines of DRIVERS.md, with the drivers that are installed.
 status=0
 PYTHONPATH=$packages run "$top/$name/drivers.sh" 2>&1 | tee "$scratch/log" || status=$?

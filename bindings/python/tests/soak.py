@@ -3,8 +3,9 @@
     python3 tests/soak.py MINUTES [SEED]
 
 Signals raise an exception in the main thread, in the middle of calls, and another thread raises one
-in each of two threads that make calls, too. A call that was not cancelled has the right answer. To
-be run with an extension module that was compiled with sanitizers; test.sh says how.
+in each of two threads that make calls, too. A call that was not cancelled has the right answer, or
+refuses bytes that were changed at random. To be run with an extension module that was compiled with
+sanitizers, as bindings/python/soak.sh does.
 """
 import ctypes
 import json
@@ -13,12 +14,26 @@ import signal
 import sys
 import threading
 import time
+from datetime import date, datetime, timedelta, timezone
 from decimal import Decimal
 
 import kohiblad
-from kohiblad import Document, KohibladError, dumps, loads
+from kohiblad import Document, Interval, KohibladError, dumps, loads
 from kohiblad.arrow import Column
+from kohiblad.typed_file import TypedFile
 from models import FewNames, Values
+from test_arrow import Producer
+
+if kohiblad.IS_NATIVE:
+    from kohiblad import _native as native
+
+TYPES = ("boolean", "int64", "uint64", "decimal 0", "decimal 2", "decimal 255", "text", "date",
+         "timestamp", "timestamp_tz", "interval", "binary", "nothing", "mixed", None)
+# Those that a file has.
+FILE_TYPES = [it for it in TYPES if it not in ("nothing", "mixed", None)]
+NOON = datetime(2026, 11, 29, 12, tzinfo=timezone(timedelta(hours=-3)))
+SCALARS = (None, True, 7, -1, 2**63, Decimal("1.50"), Decimal("-0.25"), "t", "é" * 9, b"", b"\xff",
+           date(2026, 11, 29), NOON, NOON.replace(tzinfo=None), Interval(1, -2, 3))
 
 raise_in_thread = ctypes.pythonapi.PyThreadState_SetAsyncExc
 raise_in_thread.argtypes = ctypes.c_ulong, ctypes.py_object
@@ -40,6 +55,7 @@ class Calls:
         self.random = random.Random(seed)
         self.values, self.few = Values(seed), FewNames(seed)
         self.long = [number % 1000 for number in range(20_000)]
+        self.sources = []
 
     def value(self):
         choice = self.random.randrange(20)
@@ -58,11 +74,19 @@ class Calls:
 
     def bytes(self):
         """Those of a document, some of which are changed."""
-        data = bytearray(bytes(Document.of(self.value())))
-        for _ in range(self.random.randrange(3)):
+        return self.changed(bytes(Document.of(self.value())))
+
+    def changed(self, whole):
+        """Bytes, some of which are changed, and which may be cut."""
+        data = bytearray(whole)
+        for _ in range(self.random.randrange(3) if data else 0):
             data[self.random.randrange(len(data))] ^= 1 << self.random.randrange(8)
         return bytes(data[:self.random.randrange(len(data) + 1)]
                      if self.random.random() < .2 else data)
+
+    def row(self):
+        """The members of a row, of all types."""
+        return {name: self.random.choice(SCALARS) for name in "abc" if self.random.random() < .8}
 
     def call_loads(self):
         text, value = self.text()
@@ -159,6 +183,96 @@ class Calls:
                == [row for row, it in enumerate(values) if isinstance(it, str)], values)
         expect(column.survey([]).nulls == values.count(None), values)
         numbers.__arrow_c_array__(), texts.__arrow_c_stream__()
+
+    def call_types(self):
+        """Each type, of rows that fit it or not, by a subclass that tells another length."""
+        rows = [self.row() for _ in range(self.random.randrange(200))]
+        told = self.random.choice([0, 3, 2**40])
+        members = type("Members", (Column,), {"__len__": lambda it: told})
+        column = members.of(Document.of(it) if it else None for it in rows)
+        types = [self.random.choice(TYPES) for _ in range(3)]
+        columns = column.extract(["a", "b", ["c"]], types, exact=self.random.random() < .5,
+                                 unfit=self.random.choice(["rest", "null"]))
+        for name, typed in zip("abc", columns):
+            if typed.type not in ("nothing", "mixed"):
+                expect(all(it is None or name in row for it, row in zip(typed, rows)), rows)
+            expect(len(typed.to_list()) == len(rows), rows)
+            typed[::2], typed.rest, repr(typed)
+            for call in (lambda: typed.zones(self.random.randrange(1, 50)).may_hold(),
+                         typed.__arrow_c_array__, typed.__arrow_c_stream__):
+                try:
+                    call()
+                except (TypeError, ValueError):
+                    pass
+
+    def call_typed_file(self):
+        rows = [self.row() for _ in range(self.random.randrange(60))]
+        types = {name: self.random.choice(FILE_TYPES)
+                 for name in "abd" if self.random.random() < .8}
+        data = TypedFile.build(rows, types)
+        expect([it.value() for it in TypedFile(data)] == [Document.of(it).value() for it in rows],
+               rows)
+        for it in (data, self.changed(data), self.changed(data)):
+            self.read_file(it, self.random.random() < .5)
+
+    def read_file(self, data, is_checked):
+        """Reads all of a file, which may be out of form anywhere."""
+        try:
+            file = TypedFile(data, check=is_checked)
+        except KohibladError:
+            return
+        for call in [*(lambda row=row: file[row] for row in range(min(len(file), 40))),
+                     *(lambda it=it: list(it[:40]) for it in file.columns)]:
+            try:
+                call()
+            except (ValueError, IndexError, OverflowError):
+                expect(not is_checked, data)
+
+    def call_arrow(self):
+        """Rows of another library, which need be no documents, some of them missing."""
+        rows = [self.bytes() if self.random.random() < .3 else bytes(Document.of(self.row()))
+                for _ in range(self.random.randrange(1, 40))]
+        first = self.random.randrange(len(rows))
+        source = Producer(rows, self.random.choice([b"z", b"Z"]), first)
+        # It has the function by which it is released, so it stays until that was called.
+        self.sources = [it for it in self.sources if not it.released] + [source]
+        column = Column.from_arrow(source)
+        column.survey("a"), column.least_type(["b"])
+        for typed in column.extract(["a", "b", ["c", 0]], [self.random.choice(TYPES)
+                                                           for _ in range(3)]):
+            expect(len(typed) == len(rows) - first, rows)
+            typed.to_list(), typed.rest
+        order = column.sorted_order()
+        expect(sorted(order) == list(range(len(rows) - first)), rows)
+        Column.from_arrow(column[self.random.randrange(len(column) + 1):]).sorted_order()
+
+    def call_texts(self):
+        """Paths and texts that may be none."""
+        document = Document.of(self.few.any(depth=3))
+        text = self.random.choice(['$.a[*]?(@.b > 1 && !(exists(@.c) || @ == "x"))',
+                                   "$.*[0 to #-1]", "/a/0/-", "{a,-1}", '{"a":[1.50,"\\u00e9"]}'])
+        for it in (text, self.changed(text.encode())):
+            for call in (document.select, document.path_of, Document.parse):
+                try:
+                    call(it)
+                except KohibladError as error:
+                    expect(str(error).isprintable(), it)
+
+    def call_module(self):
+        """Functions of the extension module with any arguments."""
+        if not kohiblad.IS_NATIVE:
+            return
+        data = bytes(Document.of(self.value()))
+        things = (data, self.bytes(), b"", "a", "\ud800", None, -1, 2**70, 1.5, [], {}, object())
+        name = self.random.choice([it for it in dir(native) if it not in (
+            "VERSION", "bind", "end_uses", "new_use", "releases") and it[0] != "_"])
+        arguments = [self.random.choice(things) for _ in range(self.random.randrange(5))]
+        try:
+            result = getattr(native, name)(*arguments)
+            if name in ("names", "values", "pairs"):
+                list(result)
+        except (TypeError, ValueError, LookupError, OverflowError, MemoryError):
+            pass
 
     def call_json(self):
         text, value = self.text()

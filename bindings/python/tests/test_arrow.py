@@ -7,11 +7,13 @@ import array
 import ctypes
 import doctest
 import gc
+import os
 import random
 import struct
 import subprocess
 import sys
 import threading
+import time
 import unittest
 
 from kohiblad import Document, InvalidDocumentError, _capsules, arrow
@@ -148,7 +150,7 @@ class ArrowTest(unittest.TestCase):
         self.assertEqual(len(_capsules._exported), 1)
         read.release()
         _capsules.release_unused()
-        self.assertEqual((_capsules._exported, _capsules._handed_out), ({}, []))
+        self.assertEqual((_capsules._exported, _capsules._handed_out), ({}, {}))
 
     def test_capsules_that_nobody_takes_are_released(self):
         column = Column.of(ROWS)
@@ -156,7 +158,7 @@ class ArrowTest(unittest.TestCase):
             column.__arrow_c_array__()
             column.__arrow_c_schema__()
         _capsules.release_unused()
-        self.assertEqual((_capsules._exported, _capsules._handed_out), ({}, []))
+        self.assertEqual((_capsules._exported, _capsules._handed_out), ({}, {}))
 
     def test_rows_that_are_missing(self):
         rng = random.Random(1)
@@ -330,7 +332,7 @@ class ArrowTest(unittest.TestCase):
                 # The capsule is on the stack of the frame, which is cleared by the exception.
                 [capsule(), Failing() + 1]
         _capsules.release_unused()
-        self.assertEqual((_capsules._exported, _capsules._handed_out), ({}, []))
+        self.assertEqual((_capsules._exported, _capsules._handed_out), ({}, {}))
 
     def test_another_thread_releases(self):
         read = [Consumer(Column.of(ROWS)) for _ in range(8)]
@@ -351,6 +353,55 @@ class ArrowTest(unittest.TestCase):
                 kept.append(capsules)
         self.assertLess(len(_capsules._handed_out), 1000)
         self.assertEqual([list(Column.from_arrow(Given(it))) for it in kept], [ROWS] * 100)
+
+    def test_a_part_keeps_the_memory_of_an_array(self):
+        data = [bytes(Document.of({"a": it})) for it in ("x", 5)]
+        source = Producer(data, b"Z")
+        numbers, = Column.from_arrow(source).extract(["a"], ["int64"])
+        gc.collect()
+        self.assertEqual(source.released, [])
+        self.assertEqual([(row, str(it)) for row, it in numbers.rest], [(0, '"x"')])
+        other = Producer(data, b"Z")
+        read = Consumer(Column.from_arrow(other))
+        gc.collect()
+        self.assertEqual(other.released, [])
+        self.assertEqual(list(read.rows()), data)
+        read.release()
+        del numbers
+        _capsules.release_unused()
+        gc.collect()
+        self.assertEqual((len(source.released), len(other.released)), (1, 1))
+
+    def test_a_column_is_read_at_the_end_of_a_program(self):
+        """A handler that was registered before the column is called after those of the package."""
+        program = ("import atexit, sys\n"
+                   "sys.path.insert(0, sys.argv[1])\n"
+                   "atexit.register(lambda: print(column[0], sources[0].released))\n"
+                   "from kohiblad import Document\nfrom kohiblad.arrow import Column\n"
+                   "from test_arrow import Producer\n"
+                   "sources = [Producer([bytes(Document.of(7))], b'Z')]\n"
+                   "column = Column.from_arrow(sources[0])\n")
+        done = subprocess.run([sys.executable, "-c", program, os.path.dirname(__file__)],
+                              stdout=subprocess.PIPE, stderr=subprocess.PIPE)
+        self.assertEqual((done.returncode, done.stdout, done.stderr), (0, b"7 []\n", b""))
+
+    def test_capsules_that_are_held_are_looked_at_a_few_times(self):
+        """Four times as many take about four times as long, where each past all takes sixteen."""
+        column = Column.of(ROWS)
+
+        def seconds(count):
+            began, held = time.process_time(), []
+            for _ in range(count):
+                held.append(column.__arrow_c_array__()[1])
+                column.__arrow_c_schema__()
+            taken = time.process_time() - began
+            del held
+            _capsules.release_unused()
+            return taken
+
+        few, many = (min(seconds(count) for _ in range(3)) for count in (2000, 8000))
+        self.assertLess(many / few, 9)
+        self.assertEqual((_capsules._exported, _capsules._handed_out), ({}, {}))
 
     def test_a_program_that_ends_with_capsules(self):
         program = ("from kohiblad import Document\nfrom kohiblad.arrow import Column\n"

@@ -1,9 +1,11 @@
 """The program `python -m kohiblad`."""
 import os
 import shutil
+import signal
 import subprocess
 import sys
 import tempfile
+import time
 import unittest
 from datetime import date, datetime, timedelta, timezone
 from importlib.util import find_spec
@@ -139,6 +141,110 @@ class CommandTest(unittest.TestCase):
         self.assertIn("is the input", message)
         with open(source, "rb") as file:
             self.assertEqual(file.read(), NDJSON)
+
+    def test_no_two_of_the_files_are_one(self):
+        """The input, the output and the file of errors, by all of their names."""
+        source, link, hard = self.path("in", NDJSON + b"{\n"), self.path("link"), self.path("hard")
+        os.symlink("in", link)
+        os.link(source, hard)
+        rows, missing = self.path("rows", stored("1", "2")), self.path("missing")
+        os.symlink("missing", self.path("dangling"))
+        other = self.path("other")
+        for words, message in (
+                ([source, "--errors", source], "is the input: write the errors to another file"),
+                ([source, "--errors", link], "is the input"),
+                ([source, "--errors", hard, "-o", other], "is the input"),
+                ([link, "-o", hard], "is the input: write to another file"),
+                ([source, "-o", rows, "--errors", rows], "is the output: write the errors"),
+                ([source, "-o", missing, "--errors", missing], "is the output"),
+                ([source, "-o", missing, "--errors", self.path("dangling")], "is the output"),
+                ([source, "-o", os.path.join(self.folder, ".", "missing"), "--errors", missing],
+                 "is the output"),
+                (["/dev/zero", "--errors", "/dev/zero"], "is the input"),
+                (["/dev/zero", "-o", "/dev/zero"], "is the input")):
+            with self.subTest(words=words):
+                status, output, told = run("encode", *words)
+                self.assertEqual((status, output), (1, b""))
+                self.assertRegex(told, f"^kohiblad: .* {message}.*\n$")
+        for words in (["sort", rows], ["decode", rows], ["merge", rows], ["merge", source, rows],
+                      ["get", "a", rows], ["keys", rows], ["survey", "$.a", rows],
+                      ["extract", "$.a", "int64", rows]):
+            status, output, told = run(*words, "-o", rows)
+            self.assertEqual((status, output), (1, b""), words)
+            self.assertIn("is the input", told)
+        page = self.path("page", b"5")
+        self.assertIn("is the input", run("show", "--json", page, "--html", page)[2])
+        with open(source, "rb") as file:
+            self.assertEqual(file.read(), NDJSON + b"{\n")
+        with open(rows, "rb") as file:
+            self.assertEqual(file.read(), stored("1", "2"))
+        self.assertEqual(sorted(os.listdir(self.folder)),
+                         ["dangling", "hard", "in", "link", "page", "rows"])
+
+    def test_standard_streams_that_are_the_files(self):
+        source = self.path("in", NDJSON)
+        for given, words in (("r", [source]), ("r", ["-"])):
+            with open(source, given + "b") as first, open(source, "ab") as last:
+                done = subprocess.run([sys.executable, "-m", "kohiblad", "encode", *words],
+                                      stdin=first, stdout=last, stderr=subprocess.PIPE)
+            self.assertEqual((done.returncode, done.stderr),
+                             (1, b"kohiblad: standard output is the input: write to another "
+                                 b"file\n"))
+        with open(source, "rb") as file:
+            self.assertEqual(file.read(), NDJSON)
+        with open(os.devnull, "r+b") as null:
+            done = subprocess.run([sys.executable, "-m", "kohiblad", "encode", "--errors",
+                                   os.devnull], stdin=null, stdout=null)
+        self.assertEqual(done.returncode, 0)
+
+    def test_signals_leave_no_file(self):
+        for number in (signal.SIGINT, signal.SIGTERM, signal.SIGHUP):
+            output = self.path("out", b"before")
+            program = subprocess.Popen([sys.executable, "-m", "kohiblad", "encode", "-o", output,
+                                        "--errors", self.path("errors")], stdin=subprocess.PIPE,
+                                       stderr=subprocess.PIPE)
+            program.stdin.write(b"1\n[\n")
+            program.stdin.flush()
+            began = time.monotonic()
+            while len(os.listdir(self.folder)) < 3 and time.monotonic() < began + 60:
+                time.sleep(0.01)
+            self.assertEqual(len(os.listdir(self.folder)), 3)
+            program.send_signal(number)
+            self.assertEqual(program.wait(60), 128 + number)
+            program.stdin.close()
+            self.assertEqual(program.stderr.read(), b"")
+            program.stderr.close()
+            self.assertEqual(os.listdir(self.folder), ["out"], number)
+            with open(output, "rb") as file:
+                self.assertEqual(file.read(), b"before")
+
+    def test_signals_that_are_ignored_stay_so(self):
+        """As by nohup."""
+        # Without a buffer, in which some of the output would stay unseen.
+        program = subprocess.Popen([sys.executable, "-m", "kohiblad", "encode"], bufsize=0,
+                                   stdin=subprocess.PIPE, stdout=subprocess.PIPE,
+                                   preexec_fn=lambda: signal.signal(signal.SIGHUP, signal.SIG_IGN))
+        program.stdin.write(b"1\n" * 2000)
+        program.stdin.flush()
+        size = len(stored("1"))
+        self.assertEqual(program.stdout.read(size), stored("1"))
+        program.send_signal(signal.SIGHUP)
+        output, _ = program.communicate()
+        self.assertEqual((program.returncode, len(output)), (0, 1999 * size))
+
+    def test_names_that_are_not_utf8(self):
+        folder = os.fsencode(self.folder)
+        names = [os.path.join(folder, it) for it in (b"in\xff", b"out\x80", b"errors\xfe")]
+        with open(names[0], "wb") as file:
+            file.write(b"[1.50]\n[\n")
+        self.assertEqual(run("encode", names[0], "-o", names[1], "--errors", names[2]),
+                         (0, b"", "kohiblad: 1 lines were left out\n"))
+        self.assertEqual(run("decode", names[1]), (0, b"[1.50]\n", ""))
+        with open(names[2], "rb") as file:
+            self.assertIn(rb"in\udcff: line 2: InvalidJson", file.read())
+        page = os.path.join(folder, b"page")
+        self.assertEqual(run("show", "--row", "1", names[1], "--html", page), (0, b"", ""))
+        self.assertEqual(run("show", "--json", names[0], "--html", page)[0], 1)
 
     def test_faults_name_their_place(self):
         source = self.path("in", b"1\n\n1e99\n")

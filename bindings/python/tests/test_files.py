@@ -7,7 +7,8 @@ import unittest
 from unittest import mock
 
 import kohiblad
-from kohiblad import Document, InvalidDocumentError, InvalidTextError, TooDeepError, _files
+from kohiblad import (Document, InvalidDocumentError, InvalidTextError, TooDeepError, _files,
+                      _target)
 
 TEXTS = ['{"id":3,"town":"Oslo"}', "[2]", "1.50"]
 
@@ -136,6 +137,100 @@ class WriteTest(FilesTest):
         os.chmod(path, 0o640)
         kohiblad.write(path, [1])
         self.assertEqual(stat.S_IMODE(os.stat(path).st_mode), 0o640)
+
+    def test_the_mode_is_its_owner_s_while_it_is_written(self):
+        path, seen = self.path("out.docs", b""), []
+        os.chmod(path, 0o600)
+
+        def documents():
+            part, = set(os.listdir(self.folder)) - {"out.docs"}
+            seen.append((part, stat.S_IMODE(os.stat(self.path(part)).st_mode)))
+            yield 1
+
+        for mode in (0o600, 0o644):
+            os.chmod(path, mode)
+            kohiblad.write(path, documents())
+            self.assertEqual(stat.S_IMODE(os.stat(path).st_mode), mode)
+        self.assertRegex(seen[0][0], r"^\.out\.docs\.[0-9a-f]{16}\.part$")
+        self.assertEqual([mode for _, mode in seen], [0o600, 0o600])
+
+    def test_the_mode_of_a_new_file_is_that_of_any(self):
+        for mask in (0o022, 0o077, 0o002):
+            before = os.umask(mask)
+            self.addCleanup(os.umask, before)
+            kohiblad.write(self.path(f"out{mask}"), [1])
+            self.assertEqual(stat.S_IMODE(os.stat(self.path(f"out{mask}")).st_mode), 0o666 & ~mask)
+            with mock.patch.object(_target, "_told_umask", lambda: None):
+                kohiblad.write(self.path("untold"), [1])
+            self.assertEqual(stat.S_IMODE(os.stat(self.path("untold")).st_mode), 0o666 & ~mask)
+            os.remove(self.path("untold"))
+
+    def test_two_that_write_one_file(self):
+        path = self.path("out.docs", b"before")
+
+        def documents():
+            self.assertEqual(kohiblad.write(path, ["other"]), 1)
+            with self.assertRaises(TypeError):
+                kohiblad.write(path, [2.5])
+            self.assertEqual(self.content(path), stored('"other"'))
+            yield "mine"
+
+        self.assertEqual(kohiblad.write(path, documents()), 1)
+        self.assertEqual(self.content(path), stored('"mine"'))
+        self.assertEqual(os.listdir(self.folder), ["out.docs"])
+
+    def test_what_another_made_is_not_removed(self):
+        path = self.path("out.docs", b"before")
+        with mock.patch.object(os, "urandom", lambda size: bytes(size)):
+            name = f".out.docs.{'0' * 16}.part"
+            self.path(name, b"another's")
+            with self.assertRaises(FileExistsError) as refused:
+                kohiblad.write(path, [1])
+            self.assertEqual(refused.exception.filename, path)
+        self.assertEqual((self.content(path), self.content(self.path(name))),
+                         (b"before", b"another's"))
+
+    def test_the_bytes_are_on_the_device_before_the_name(self):
+        path, done = self.path("out.docs", b"before"), []
+        fsync, replace = os.fsync, os.replace
+
+        def synced(number):
+            kind = "folder" if stat.S_ISDIR(os.fstat(number).st_mode) else "file"
+            if kind == "file":
+                self.assertEqual(os.fstat(number).st_size, len(stored("1")))
+            done.append(kind)
+            fsync(number)
+
+        def replaced(*names, **folders):
+            done.append("name")
+            replace(*names, **folders)
+
+        with mock.patch.object(os, "fsync", synced), mock.patch.object(os, "replace", replaced):
+            kohiblad.write(path, [1])
+        self.assertEqual(done, ["file", "name", "folder"])
+
+    def test_a_device_that_fails(self):
+        path = self.path("out.docs", b"before")
+        with mock.patch.object(os, "fsync", mock.Mock(side_effect=OSError(28, "full"))):
+            with self.assertRaises(OSError):
+                kohiblad.write(path, [1])
+        self.assertEqual((self.content(path), os.listdir(self.folder)), (b"before", ["out.docs"]))
+
+    def test_names_of_any_bytes_and_lengths(self):
+        for name in ("x" * 255, "é" * 127, "日" * 85, b"\xff\x80name", b"\x80" * 255):
+            path = os.path.join(os.fsencode(self.folder), os.fsencode(name))
+            for _ in range(2):
+                self.assertEqual(kohiblad.write(path, [1]), 1)
+                self.assertEqual([str(it) for it in kohiblad.read(path)], ["1"])
+            with open(path, "rb") as file:
+                self.assertEqual(file.read(), stored("1"))
+        self.assertEqual(len(os.listdir(self.folder)), 5)
+        with self.assertRaises(OSError):
+            kohiblad.write(self.path("x" * 256), [1])
+
+    def test_a_folder_that_is_not_there(self):
+        with self.assertRaises(FileNotFoundError):
+            kohiblad.write(self.path("none/out"), [1])
 
     def test_a_link_stays(self):
         path, link = self.path("out.docs", b""), self.path("link")

@@ -1,12 +1,17 @@
 """Calls that could take long or much memory: signals end them, and memory is asked for once."""
+import random
 import signal
 import subprocess
 import sys
 import time
 import unittest
+from unittest import mock
 
 import kohiblad
-from kohiblad import Document, TooManyStepsError
+from kohiblad import Document, InvalidTextError, TooManyStepsError
+from kohiblad import _library as library
+from kohiblad import arrow
+from kohiblad.arrow import Column
 
 # 1,000 items within 500 arrays, each on a line after 1,000 blanks, and brackets after two for each
 # level around them.
@@ -49,6 +54,66 @@ class SignalTest(unittest.TestCase):
     def test_many_scalars_are_looked_for_in_few_steps(self):
         numbers = Document.of(list(range(20_000)))
         self.assertTrue(numbers.contains(numbers, steps=10_000_000))
+
+    def interrupted(self, call, seconds):
+        """How long a call takes that a signal ends: the least of some, since other programs may
+        take the processor meanwhile."""
+        def end(number, frame):
+            raise KeyboardInterrupt
+
+        signal.signal(signal.SIGALRM, end)
+        taken = []
+        for _ in range(7):
+            began = time.monotonic()
+            signal.setitimer(signal.ITIMER_REAL, seconds)
+            with self.assertRaises(KeyboardInterrupt):
+                call()
+            taken.append(time.monotonic() - began)
+        return min(taken)
+
+    def test_a_long_text_is_interrupted(self):
+        text = "[" + "1.5," * 1_000_000 + "true]"
+        began = time.monotonic()
+        document = Document.parse(text)
+        whole = time.monotonic() - began
+        self.assertEqual(len(document), 1_000_001)
+        for call in (lambda: Document.parse(text), lambda: kohiblad.loads(text.encode())):
+            self.assertLess(self.interrupted(call, whole / 20), whole / 2)
+        # What it raises otherwise is what a short text does.
+        with self.assertRaisesRegex(InvalidTextError, "expected ',' or ']' at byte .* the end"):
+            Document.parse(text[:-1])
+
+    def test_what_is_made_of_a_long_document_is_attended(self):
+        text = '{"a":["' + "x" * (2 << 20) + '"]}'
+        document = Document.parse(text)
+        calls = (lambda: Document.parse(text), lambda: Document(bytes(document)), document.key,
+                 document.canonical, document.pretty, lambda: str(document), document.index_keys,
+                 lambda: document.member_key("a"), document["a"].top_keys)
+        with mock.patch.object(library, "attended", wraps=library.attended) as attended:
+            for count, call in enumerate(calls, 1):
+                call()
+                self.assertEqual(attended.call_count, count)
+
+    def test_rows_are_sorted_in_rounds(self):
+        rng = random.Random(5)
+        column = Column.of([Document.of({"id": rng.randrange(10**9)}) for _ in range(60_000)])
+        began = time.monotonic()
+        order = column.sorted_order()
+        whole = time.monotonic() - began
+        ids = [column[row]["id"] for row in order[::50]]
+        self.assertEqual(ids, sorted(ids))
+        self.assertLess(self.interrupted(column.sorted_order, whole / 20), whole / 2)
+
+    def test_rounds_give_the_order_of_all_rows(self):
+        rng = random.Random(6)
+        rows = [rng.choice([None, Document.of(rng.randrange(40)), Document.of([rng.randrange(9)])])
+                for _ in range(500)]
+        column = Column.of(rows)
+        expected = sorted(range(500), key=lambda row: (
+            rows[row] is None, rows[row].key() if rows[row] is not None else b"", row))
+        for count in (1, 7, 64, 499, 500, 8192):
+            with mock.patch.object(arrow, "_SORTED_AT_ONCE", count):
+                self.assertEqual(column.sorted_order(), expected, count)
 
     @unittest.skipUnless(kohiblad.IS_NATIVE, "the loops are those of the extension module")
     def test_signals_are_handled_while_values_are_read_and_written(self):

@@ -5,8 +5,9 @@ from decimal import Decimal
 from enum import Enum, IntEnum
 
 import kohiblad
-from kohiblad import (Document, ExtensionError, Interval, InvalidTextError, NumberError, Opaque,
-                      TooDeepError, TooManyStepsError)
+from kohiblad import (Document, ExtensionError, Interval, InvalidDocumentError, InvalidTextError,
+                      NumberError, Opaque, TooDeepError, TooManyStepsError)
+from kohiblad import _library as library
 
 # What would be JSON of another value.
 OTHER_TEXT = '}],{"admin":1'
@@ -107,8 +108,30 @@ class SubclassTest(unittest.TestCase):
         for depth in (HostileInt(1001), HostileInt(-1)):
             with self.assertRaises(ValueError):
                 Document.parse("1", depth)
+        for depth in (HostileInt(1), True):
+            with self.assertRaisesRegex(InvalidDocumentError, "no document of depth 1 or less$"):
+                Document(b"", depth)
         with self.assertRaises(TooManyStepsError):
             Document.of([[1], [2]]).contains([[2]], steps=HostileInt(0))
+
+    def test_lengths_are_those_of_the_base(self):
+        class Text(str):
+            def __len__(self):
+                raise KeyError("length")
+
+        class Data(bytes):
+            def __len__(self):
+                return -1
+
+        long = '"' + "x" * library._LONG_BYTES + '"'
+        for text in ("[1]", long):
+            document = Document.parse(text)
+            for read in (Document.parse, kohiblad.loads):
+                self.assertEqual(read(Text(text)), read(text))
+                self.assertEqual(read(Data(text.encode())), read(text))
+            self.assertEqual(Document(Data(bytes(document))), document)
+        for given in (Text(long), HostileStr(long), Data(long.encode())):
+            self.assertTrue(library.is_long(given))
 
     def test_subclasses_that_mean_well(self):
         class Money(Decimal):

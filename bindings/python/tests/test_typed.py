@@ -11,6 +11,7 @@ import random
 import re
 import signal
 import struct
+import sys
 import threading
 import unittest
 import weakref
@@ -21,6 +22,7 @@ from unittest import mock
 
 from kohiblad import (Date, Document, Interval, InvalidDocumentError, InvalidTextError, Timestamp,
                       TimestampTz, UnfitError, _capsules, _typed)
+from kohiblad import _library as library
 from kohiblad.arrow import Column, Survey, Typed
 from test_arrow import (ARRAY, RELEASE, RELEASE_AT, SCHEMA, SCHEMA_RELEASE_AT, Consumer, Given,
                         Producer, children_of, new_capsule, pointer_of, words)
@@ -448,9 +450,10 @@ class TypedTest(unittest.TestCase):
     def test_a_missing_row_that_has_bytes(self):
         data = [bytes(row_of(it)) for it in ("5", "6", '"a"', "7")]
         source = Producer(data, b"Z")
-        column = Column.from_arrow(source)
+        whole = Column.from_arrow(source)._rows
         validity = array.array("B", [0b1001])
-        column._validity, column._kept = validity.buffer_info()[0], (*column._kept, validity)
+        column = library.with_fields(Column, _rows=whole._replace(
+            validity=validity.buffer_info()[0], kept=(*whole.kept, validity)))
         self.assertEqual([it is None for it in column], [False, True, True, False])
         typed, = column.extract(["a"])
         self.assertEqual((typed.type, typed.to_list()), ("int64", [5, None, None, 7]))
@@ -496,19 +499,52 @@ class TypedTest(unittest.TestCase):
             self.assertEqual([it() is None for it in buffers], [True] * 3, name)
 
     def test_an_interrupt_ends_a_long_call(self):
-        column = Column.of([row_of("5")] * 100)
-        batch = next(column._batches())
+        rows = Column.of([row_of("5")] * 100)._rows
+        batch = next(rows.batches())
         # The same rows, without an end.
-        endless = type("Endless", (), {"__len__": lambda self: 100, "_batches": lambda self:
-                                       itertools.repeat(batch), "_bytes_at": column._bytes_at,
-                                       "_are_documents": False})()
-        for call in (lambda: _typed.survey_of(endless._batches(), ("a",)),
+        endless = type("Endless", (), {"length": 100, "batches": lambda self:
+                                       itertools.repeat(batch), "bytes_at": rows.bytes_at,
+                                       "are_documents": False})()
+        for call in (lambda: _typed.survey_of(endless.batches(), ("a",)),
                      lambda: _typed.extract(endless, [(("a",), "int64")], "rest", False)):
             timer = threading.Timer(.1, signal.raise_signal, [signal.SIGINT])
             timer.start()
             with self.assertRaises(KeyboardInterrupt):
                 call()
             timer.join()
+
+    def test_a_subclass_does_not_say_how_much_is_written(self):
+        """The length that a subclass tells is no size of memory: all rows are taken."""
+        for told in (0, 1, 2**40):
+            members = type("Members", (Column,), {
+                "__len__": lambda self: told, "_row": None, "_batches": None, "_bytes_at": None})
+            column = members.of(map(row_of, ["5", '"a"', "null", "7"] * 3000))
+            numbers, texts = column.extract(["a", "b"], ["int64", None], unfit="null")
+            self.assertEqual(numbers.to_list(), [5, None, None, 7] * 3000)
+            self.assertEqual(texts.to_list(), [0] * 12000)
+            self.assertEqual(column.extract(["a"], ["int64"])[0].unfit, 3000)
+            self.assertEqual(column.least_type("b"), "int64")
+            self.assertEqual(len(column.sorted_order()), 12000)
+
+    def test_the_fields_by_which_c_is_called_stay(self):
+        column = Column.of(map(row_of, ["5", "7"]))
+        typed, = column.extract(["a"])
+        for it, names in ((column, ("_rows",)),
+                          (typed, ("states", "values", "offsets", "texts", "type", "_rows"))):
+            for name in names:
+                with self.assertRaisesRegex(AttributeError, f"^{name} of a .* cannot be assigned"):
+                    setattr(it, name, memoryview(b""))
+                with self.assertRaises(AttributeError):
+                    delattr(it, name)
+        with self.assertRaises(AttributeError):
+            column._rows.length = 2**40
+        self.assertEqual((typed.to_list(), typed.zones().greatest, list(column)),
+                         ([5, 7], [7], [row_of("5"), row_of("7")]))
+        # A subclass may have fields of its own.
+        named = type("Named", (Column,), {}).of([])
+        named.title = "rows"
+        self.assertEqual(named.title, "rows")
+        del named.title
 
     def test_several_threads(self):
         members = ["5", None, "7"] * 3000
@@ -620,7 +656,7 @@ class InterfaceTest(unittest.TestCase):
 
     def assert_all_released(self):
         _capsules.release_unused()
-        self.assertEqual((_capsules._exported, _capsules._handed_out), (self.before, []))
+        self.assertEqual((_capsules._exported, _capsules._handed_out), (self.before, {}))
 
     def test_each_type(self):
         rng = random.Random(5)
@@ -864,11 +900,51 @@ class InterfaceTest(unittest.TestCase):
         self.assert_all_released()
 
 
+class Arrays:
+    """What a column without values takes of numpy, as lists."""
+    @staticmethod
+    def zeros(length, dtype):
+        return [0] * length
+
+    @staticmethod
+    def asarray(given):
+        return Flags(given)
+
+    class ma:
+        @staticmethod
+        def MaskedArray(values, mask):
+            assert len(values) == len(mask)
+            return [None if is_masked else value for value, is_masked in zip(values, mask)]
+
+
+class Flags(list):
+    def __ne__(self, other):
+        return [it != other for it in self]
+
+
+class WithoutValuesTest(unittest.TestCase):
+    def test_arrays_are_as_long_as_the_column(self):
+        for module in ([sys.modules["numpy"]] if "numpy" in sys.modules else []) + [Arrays]:
+            with mock.patch.dict(sys.modules, numpy=module):
+                for members, name in ((["5", '"a"', "null", None], "mixed"),
+                                      (["null", None, "null"], "nothing"), ([], "nothing")):
+                    typed, = Column.of(map(row_of, members)).extract(["a"])
+                    self.assertEqual(typed.type, name)
+                    self.assertEqual(list(typed.numpy), [0] * len(members))
+                    self.assertEqual(list(typed.masked), [None] * len(members))
+
+
 @unittest.skipUnless(HAS_NUMPY, "typed members as arrays: needs the Debian package python3-numpy")
 class NumpyTest(unittest.TestCase):
     def setUp(self):
         import numpy
         self.numpy = numpy
+
+    def test_columns_without_values(self):
+        for members in (["5", '"a"', None], ["null", None]):
+            typed, = Column.of(map(row_of, members)).extract(["a"])
+            self.assertEqual(typed.numpy.tolist(), [0] * len(members))
+            self.assertEqual(typed.masked.tolist(), [None] * len(members))
 
     def test_the_values_are_not_copied(self):
         column = Column.of(map(row_of, ["5", "-1", "null", None, "true", "1.5"]))

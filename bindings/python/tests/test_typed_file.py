@@ -127,6 +127,15 @@ class TypedFileTest(unittest.TestCase):
         self.assertEqual(list(TypedFile(bytearray(built()))), documents())
         self.assertEqual(list(TypedFile(memoryview(b"x" + built())[1:])), documents())
 
+    def test_the_fields_by_which_c_is_called_stay(self):
+        file = TypedFile(built())
+        for it, names in ((file, ("_at", "_size", "_view", "_length")),
+                          (file.column("at"), ("numbers", "flags", "_length"))):
+            for name in names:
+                with self.assertRaisesRegex(AttributeError, f"^{name} of a .* cannot be assigned"):
+                    setattr(it, name, 0)
+        self.assertEqual(list(file), documents())
+
     def test_no_rows_and_no_columns(self):
         for check in (True, False):
             file = TypedFile(TypedFile.build([], {}), check=check)

@@ -4,21 +4,26 @@ import contextlib
 import heapq
 import os
 import re
+import signal
+import stat
 import sys
 import tempfile
+import threading
 import time
 from itertools import islice
-from typing import (IO, Any, Callable, ContextManager, Dict, Iterator, List, Optional, Tuple,
-                    TypeVar)
+from typing import (IO, Any, Callable, ContextManager, Dict, Iterator, List, NoReturn, Optional,
+                    Tuple, TypeVar)
 
 from . import Document, KohibladError, __version__
+from ._errors import printable
 from ._fault import fault_of
-from ._files import documents_of_lines, rest_of, stored, stored_documents, target_of
+from ._files import documents_of_lines, rest_of, stored, stored_documents
 from ._key_lines import add_key_options, add_range_options, key_line, key_row, range_lines
 from ._member_lines import (MemberError, add_extract_options, add_survey_options, csv_lines,
                             extracted, is_numpy, survey_lines, unfit_lines, write_numpy)
 from ._program import hand_over
 from ._show import lines_of, page_of
+from ._target import target_of
 from .arrow import Column
 
 _DESCRIPTION = """\
@@ -160,10 +165,17 @@ def in_order(documents: Iterator[Document], name: str) -> Iterator[Document]:
         yield document
 
 
+class _Parser(argparse.ArgumentParser):
+    """One that says what is wrong of arguments, which may have any characters."""
+
+    def error(self, message: str) -> NoReturn:
+        super().error(printable(message))
+
+
 def _parser() -> argparse.ArgumentParser:
     # As it was called: by its own name, or as a module.
     program = os.path.basename(sys.argv[0])
-    parser = argparse.ArgumentParser(
+    parser = _Parser(
         prog="python -m kohiblad" if program == "__main__.py" else program,
         description=_DESCRIPTION, epilog=_OTHERS)
     parser.add_argument("--version", action="version", version=f"kohiblad {__version__}")
@@ -251,6 +263,11 @@ def _add_show(commands: Any) -> None:
                          help="auto: on a terminal, unless the variable NO_COLOR is set")
 
 
+def _say(words: str) -> None:
+    """A line on standard error. Names that are given may have any characters."""
+    print(f"kohiblad: {printable(words)}", file=sys.stderr)
+
+
 def _input_name(path: str) -> str:
     return "standard input" if path == "-" else path
 
@@ -298,7 +315,7 @@ def _run(options: argparse.Namespace, sources: List[IO[bytes]], target: IO[bytes
         target.write(written[options.command](document))
     target.flush()
     if refusals and refusals.count:
-        print(f"kohiblad: {refusals.count:,} lines were left out", file=sys.stderr)
+        _say(f"{refusals.count:,} lines were left out")
 
 
 def _shown_input(given: str, is_json: bool) -> Tuple[bytes, str]:
@@ -352,9 +369,8 @@ def _is_colored(wish: str) -> bool:
 def _show(options: argparse.Namespace) -> None:
     document, name = _shown_document(options)
     if options.html is not None:
-        _expect_two_files(options.input, options.html)
         try:
-            page = page_of(document, os.path.basename(name)).encode()
+            page = page_of(document, os.path.basename(name)).encode("utf-8", "backslashreplace")
         except ValueError as error:
             raise InputError(f"{name}: {error}") from None
         with _written(options.html) as target:
@@ -378,16 +394,48 @@ def _written(path: str) -> ContextManager[IO[bytes]]:
     return target_of(path)
 
 
-def _expect_two_files(input_path: str, output_path: str) -> None:
-    if os.path.exists(output_path) and os.path.exists(input_path) \
-            and os.path.samefile(input_path, output_path):
-        raise InputError(f"{output_path} is the input: write to another file")
+def _place_of(path: str, stream: Optional[int] = None) -> Optional[Tuple[Any, ...]]:
+    """What all names of one file or device have in common, `-` among them if it is a stream.
+
+    None for what any number may share: the null device, and a stream that is no file.
+    """
+    is_stream = path == "-" and stream is not None
+    try:
+        status = os.stat(stream if is_stream and stream is not None else path)
+    except OSError:
+        return None if is_stream else ("name", os.path.realpath(path))
+    if os.path.exists(os.devnull) and os.path.samestat(status, os.stat(os.devnull)):
+        return None
+    if stat.S_ISREG(status.st_mode):
+        return status.st_dev, status.st_ino
+    if stat.S_ISBLK(status.st_mode) or stat.S_ISCHR(status.st_mode) and not is_stream:
+        return "device", stat.S_IFMT(status.st_mode), status.st_rdev
+    return None if is_stream else (status.st_dev, status.st_ino)
+
+
+def _expect_other_files(options: argparse.Namespace) -> None:
+    """InputError: two of the input, the output and the file of errors are one, by any name.
+
+    It is called before one of them is opened.
+    """
+    inputs = getattr(options, "inputs", [])
+    if options.command == "show":
+        # The bytes themselves are no file.
+        inputs = [it for it in inputs if os.path.exists(it)]
+    output = options.html if options.command == "show" else options.output
+    errors = getattr(options, "errors", None)
+    places = {_place_of(it, stream=0): "the input" for it in inputs}
+    for path, stream, wanted in ((output, 1, "write to another file"),
+                                 (errors, None, "write the errors to another file")):
+        place = None if path is None else _place_of(path, stream)
+        if place is not None and place in places:
+            name = "standard output" if path == "-" and stream else path
+            raise InputError(f"{name} is {places[place]}: {wanted}")
+        places[place] = "the output"
 
 
 def _convert(options: argparse.Namespace) -> None:
     with contextlib.ExitStack() as files:
-        for it in options.inputs:
-            _expect_two_files(it, options.output)
         sources = [files.enter_context(_opened(it)) for it in options.inputs]
         refusals = _refusals(options, files)
         target = files.enter_context(_written(options.output))
@@ -396,7 +444,6 @@ def _convert(options: argparse.Namespace) -> None:
 
 def _write_members(options: argparse.Namespace) -> None:
     """Surveys a member of the documents, or writes columns of members."""
-    _expect_two_files(options.input, options.output)
     with _opened(options.input) as source:
         is_shown = options.progress or sys.stderr.isatty()
         progress = Progress(is_shown, "document", [source])
@@ -406,7 +453,7 @@ def _write_members(options: argparse.Namespace) -> None:
     else:
         columns = extracted(column, options)
         for line in unfit_lines(columns):
-            print(f"kohiblad: {line}", file=sys.stderr)
+            _say(line)
         lines = csv_lines(columns)
     with _written(options.output) as target:
         if options.command == "extract" and is_numpy(options.output):
@@ -414,6 +461,35 @@ def _write_members(options: argparse.Namespace) -> None:
         else:
             target.writelines(lines)
         target.flush()
+
+
+class _Ended(BaseException):
+    """A signal came that ends the program."""
+
+    def __init__(self, number: int) -> None:
+        super().__init__(number)
+        self.number = number
+
+
+@contextlib.contextmanager
+def _raised_signals() -> Iterator[None]:
+    """Has the signals that end the program raise an exception, so that no file is left half done.
+
+    Those that the caller ignores or handles, as nohup does, stay so.
+    """
+    def end(number: int, _: Any) -> None:
+        raise _Ended(number)
+
+    before: Dict[int, Any] = {}
+    if threading.current_thread() is threading.main_thread():
+        for number in (signal.SIGINT, signal.SIGTERM, signal.SIGHUP):
+            if signal.getsignal(number) in (signal.SIG_DFL, signal.default_int_handler):
+                before[number] = signal.signal(number, end)
+    try:
+        yield
+    finally:
+        for number, handler in before.items():
+            signal.signal(number, handler)
 
 
 def _commands(parser: argparse.ArgumentParser) -> List[str]:
@@ -436,16 +512,17 @@ def _options(words: List[str]) -> Tuple[argparse.Namespace, List[str], str]:
 def main(arguments: Optional[List[str]] = None) -> int:
     options, for_program, what = _options(sys.argv[1:] if arguments is None else arguments)
     try:
-        return hand_over(for_program, what) if what else _answer(options)
+        with _raised_signals():
+            return hand_over(for_program, what) if what else _answer(options)
     except BrokenPipeError:
         # Nobody reads on, as after `| head`. Python would fail once more at its end.
         os.dup2(os.open(os.devnull, os.O_WRONLY), sys.stdout.fileno())
         return 1
     except (InputError, MemberError, KohibladError, OSError) as error:
-        print(f"kohiblad: {error}", file=sys.stderr)
+        _say(str(error))
         return 1
-    except KeyboardInterrupt:
-        return 130
+    except _Ended as ended:
+        return 128 + ended.number
 
 
 def _answer(options: argparse.Namespace) -> int:
@@ -454,6 +531,7 @@ def _answer(options: argparse.Namespace) -> int:
         return 0
     if options.command != "merge":
         options.inputs = [options.input]
+    _expect_other_files(options)
     if options.command == "show":
         _show(options)
     elif options.command in ("survey", "extract"):

@@ -2,6 +2,7 @@
 
 Others may use what they took as long as they like: it is kept until they release it.
 """
+import atexit
 import ctypes
 import errno
 import itertools
@@ -50,7 +51,6 @@ _Struct = Union[Type[Schema], Type[Array], Type[Stream]]
 
 # What others still use, by the numbers that they have as private data.
 _exported: Dict[int, Tuple[Any, ...]] = {}
-_numbers = itertools.count(1)
 
 
 def _releaser(struct: _Struct) -> Any:
@@ -73,20 +73,25 @@ def _kept(function: Any) -> Any:
     return function
 
 
+_new_number: Callable[[], int]
 if library.IS_NATIVE:
     _release_schema, _release_array, _release_stream = map(Release, native.releases(_exported))
+    _new_number = native.new_use
+    atexit.register(native.end_uses)
 else:
     _release_schema, _release_array = _releaser(Schema), _releaser(Array)
     _release_stream = _releaser(Stream)
+    _new_number = itertools.count(1).__next__
 
 _new_capsule = ctypes.PYFUNCTYPE(ctypes.py_object, c_void_p, c_char_p, c_void_p)(
     ("PyCapsule_New", ctypes.pythonapi))
 pointer_of = ctypes.PYFUNCTYPE(c_void_p, ctypes.py_object, c_char_p)(
     ("PyCapsule_GetPointer", ctypes.pythonapi))
 
-# Capsules that were handed out, with their structs. They have no destructor: one by ctypes would
-# run Python code while an exception is raised that ends the use of the capsule, and lose it.
-_handed_out: List[Tuple[Any, Any]] = []
+# Capsules that were handed out, with their structs, by the addresses of these. They have no
+# destructor: one by ctypes would run Python code while an exception is raised that ends the use of
+# the capsule, and lose it.
+_handed_out: Dict[int, Tuple[Any, Any]] = {}
 # They are looked through each time that a column is made or handed out while they are so few, and
 # else when they are twice as many as were in use.
 _FEW = 64
@@ -96,16 +101,14 @@ _bound = _FEW
 def release_unused() -> None:
     """Releases the structs of capsules that nobody has any more, unless a consumer took them."""
     global _bound
-    for entry in list(_handed_out):
+    # Each is looked at once, and taken out by its address, which no other has meanwhile.
+    for address, entry in _handed_out.copy().items():
         # One reference is that of the entry, and one that of the call.
         if sys.getrefcount(entry[0]) > 2:
             continue
-        try:
-            _handed_out.remove(entry)
-        except ValueError:
-            continue  # Another thread released it.
-        if entry[1].release:
-            entry[1].release(ctypes.addressof(entry[1]))
+        # None: another thread released it.
+        if _handed_out.pop(address, None) is not None and entry[1].release:
+            entry[1].release(address)
     _bound = max(_FEW, 2 * len(_handed_out))
 
 
@@ -127,7 +130,7 @@ def schema_capsule(form: bytes, metadata: bytes = b"", children: Sequence[Child]
 
 
 def _schema(form: bytes, name: bytes, metadata: bytes, children: Sequence[Any]) -> Any:
-    number, pairs, parts = next(_numbers), ctypes.create_string_buffer(metadata), _parts(children)
+    number, pairs, parts = _new_number(), ctypes.create_string_buffer(metadata), _parts(children)
     it = Schema(form, name, ctypes.addressof(pairs) if metadata else None, _NULLABLE,
                 len(children), parts, None, _release_schema, number)
     _exported[number] = (form, name, pairs, children, parts)
@@ -150,7 +153,7 @@ def array_capsule(length: int, nulls: int, first: int, addresses: Sequence[Optio
 
 def _array(length: int, nulls: int, first: int, addresses: Sequence[Optional[int]], owner: Any,
            children: Sequence[Any]) -> Any:
-    number, buffers = next(_numbers), (c_void_p * len(addresses))(*addresses)
+    number, buffers = _new_number(), (c_void_p * len(addresses))(*addresses)
     parts = _parts(children)
     it = Array(length, nulls, first, len(addresses), len(children), buffers, parts, None,
                _release_array, number)
@@ -168,7 +171,7 @@ class HasCapsules(Protocol):
 def stream_capsule(source: HasCapsules) -> Any:
     """A capsule of a stream that has one array, which is that of a source."""
     _, given = source.__arrow_c_array__()
-    number = next(_numbers)
+    number = _new_number()
     _exported[number] = (source, [given])
     it = Stream(_get_schema, _get_next, _get_last_error, _release_stream, number)
     return _capsule(it, _STREAM_NAME)
@@ -219,6 +222,7 @@ _get_last_error = _kept(_GetError(lambda stream: None))
 
 def _capsule(it: Any, name: bytes) -> Any:
     release_some()
-    capsule = _new_capsule(ctypes.addressof(it), name, None)
-    _handed_out.append((capsule, it))
+    address = ctypes.addressof(it)
+    capsule = _new_capsule(address, name, None)
+    _handed_out[address] = capsule, it
     return capsule

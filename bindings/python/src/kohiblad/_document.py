@@ -70,12 +70,9 @@ class Document:
         one more than its deepest child, and at least 1. InvalidDocumentError: the bytes are no
         document of that depth.
         """
-        if IS_NATIVE:
-            return native.check(data, depth)
-        data = _bytes_of_stored(data)
-        if not library.check(data, len(data), _checked_depth(depth)):
-            raise _no_document(depth)
-        return _of_checked(data)
+        if library.is_long(data):
+            return cast(Document, library.attended(0, _checked, data, depth))
+        return _checked(data, depth)
 
     @classmethod
     def parse(cls, text: Union[str, bytes], depth: int = DEPTH, *,
@@ -88,9 +85,10 @@ class Document:
         UTF-8, or has a number that is refused or has too many digits, and its `offset` says where;
         TooDeepError; InvalidDocumentError: it is past a limit of the format.
         """
-        if IS_NATIVE:
-            return native.parse(text, depth, exponents)
-        return _of_checked(parse(text, _checked_depth(depth), bool(exponents)))
+        if library.is_long(text):
+            return cast(Document, library.attended(library.guess_of(text), _parsed, text, depth,
+                                                   exponents))
+        return _parsed(text, depth, exponents)
 
     @classmethod
     def of(cls, value: Any) -> "Document":
@@ -135,12 +133,8 @@ class Document:
     def key(self) -> bytes:
         """The comparable key: keys compare by their bytes as documents do, and hash alike."""
         if self._key is None:
-            if IS_NATIVE:
-                self._key = native.key(self._data)
-            else:
-                # A document of n bytes is less than n deep, so this depth excludes none.
-                size = len(self._data)
-                self._key = library.result_of(library.key, 2 * size + 64, self._data, size, size)
+            call = native.key if IS_NATIVE else library.key_of
+            self._key = library.made_of(self._data, call, self._data)
         return self._key
 
     def member_key(self, *names: str) -> bytes:
@@ -155,10 +149,7 @@ class Document:
         """
         _expect_names(names)
         listed = changes.document_of_path(tuple(map(str.__str__, names)))
-        size = len(self._data)
-        # A document of n bytes is less than n deep, and the names have depth 1.
-        return library.result_of(library.member_key, 2 * size + 64, self._data, size, listed,
-                                 len(listed), size)
+        return self._written(library.member_key, library.guess_of(self._data), listed, len(listed))
 
     def canonical(self) -> "Document":
         """The same document with each value in the one form that is written today.
@@ -166,8 +157,8 @@ class Document:
         InvalidDocumentError: that form is past a limit of the format.
         """
         if IS_NATIVE:
-            return _of_checked(native.to_canonical(self._data))
-        return _of_checked(self._written(library.to_canonical, 2 * len(self._data) + 64))
+            return _of_checked(library.made_of(self._data, native.to_canonical, self._data))
+        return _of_checked(self._written(library.to_canonical, library.guess_of(self._data)))
 
     def contains(self, other: Any, steps: Optional[int] = None) -> bool:
         """Whether this document contains another, or a Python value.
@@ -476,7 +467,7 @@ class Document:
         of each key finds all that contain a given one; two scalars may have one hash, so ask
         ``contains`` of what is found. A document without scalars has no key, as ``{"a": []}``.
         """
-        return library.keys_of(library.index_keys, self._data)
+        return library.made_of(self._data, library.keys_of, library.index_keys, self._data)
 
     def top_keys(self) -> List[int]:
         """A hash of each key of an object, of each text among an array's items, or of a text.
@@ -488,25 +479,25 @@ class Document:
         If ``has_key(name)`` is true, the document has the one top key of ``Document.of(name)``.
         They are apart from those of ``index_keys``, so one index can hold both.
         """
-        return library.keys_of(library.top_keys, self._data)
+        return library.made_of(self._data, library.keys_of, library.top_keys, self._data)
 
     def pretty(self) -> str:
         """The JSON text on lines, indented by two spaces."""
         if IS_NATIVE:
-            return native.to_pretty(self._data)
+            return library.made_of(self._data, native.to_pretty, self._data)
         # It may be hundreds of times as long as the document, so its length is counted first.
         return self._written(library.to_pretty, 0).decode()
 
     def __str__(self) -> str:
         """The JSON text without white space; members are sorted by their keys."""
         if IS_NATIVE:
-            return native.to_string(self._data)
-        return self._written(library.to_string, 2 * len(self._data) + 64).decode()
+            return library.made_of(self._data, native.to_string, self._data)
+        return self._written(library.to_string, library.guess_of(self._data)).decode()
 
-    def _written(self, call: Any, guess: int) -> bytes:
-        # A document of n bytes is less than n deep, so this depth excludes none.
-        size = len(self._data)
-        return library.result_of(call, guess, self._data, size, size)
+    def _written(self, call: Any, guess: int, *arguments: Any) -> bytes:
+        data = self._data
+        return library.made_of(data, library.result_of, call, guess, data, len(data), *arguments,
+                               DEPTH)
 
     def __bytes__(self) -> bytes:
         return self._data
@@ -775,6 +766,23 @@ def _budget_of(steps: Optional[int]) -> int:
     return min(steps, library.NO_LIMIT)
 
 
+def _checked(data: Any, depth: int) -> Document:
+    """The document of stored bytes. InvalidDocumentError: they are none."""
+    if IS_NATIVE:
+        return native.check(data, depth)
+    data, depth = _bytes_of_stored(data), _checked_depth(depth)
+    if not library.check(data, len(data), depth):
+        raise _no_document(depth)
+    return _of_checked(data)
+
+
+def _parsed(text: Any, depth: int, exponents: bool) -> Document:
+    """The document of a JSON text."""
+    if IS_NATIVE:
+        return native.parse(text, depth, exponents)
+    return _of_checked(parse(text, _checked_depth(depth), bool(exponents)))
+
+
 def _checked_depth(depth: int) -> int:
     depth = library.int_of(depth)
     if not 0 <= depth <= DEPTH:
@@ -825,7 +833,7 @@ def loads(text: Union[str, bytes]) -> Value:
 
     Members are sorted by their keys. Raises as ``Document.parse``.
     """
-    if IS_NATIVE:
+    if IS_NATIVE and not library.is_long(text):
         return native.loads(text)
     return Document.parse(text).value()
 

@@ -26,8 +26,7 @@ Encoder = Generator[Any, Encoded, Encoded]
 # The JSON text of a str. Not all type checkers know its name.
 text_of_str: Callable[[str], str] = getattr(json.encoder, "encode_basestring")
 
-# The greatest depth of any document and text.
-DEPTH = 1000
+DEPTH = library.DEPTH
 
 
 def parse(text: Union[str, bytes], depth: int = DEPTH, exponents: bool = True) -> bytes:
@@ -36,7 +35,7 @@ def parse(text: Union[str, bytes], depth: int = DEPTH, exponents: bool = True) -
         return bytes(native.parse(text, depth, exponents))
     data = bytes_of_text(text)
     try:
-        return library.result_of(library.parse, 2 * len(data) + 64, data, len(data), depth,
+        return library.result_of(library.parse, library.guess_of(data), data, len(data), depth,
                                  exponents)
     except (InvalidTextError, TooDeepError):
         raise fault_of(data, depth, exponents) from None

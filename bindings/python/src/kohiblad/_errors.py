@@ -1,5 +1,17 @@
 """What is raised for input that cannot be read or stored."""
+import json
+import re
 from typing import Optional
+
+# Control characters, separators of lines, what changes the direction or the look of the text around
+# it, and bytes of a name that are no UTF-8. The program `kohiblad` has the same.
+_ESCAPED = re.compile(r"[\0-\x1f\x7f-\x9f\xad\u061c\u180e\u200b-\u200f\u2028-\u202e"
+                      r"\u2060-\u206f\ud800-\udfff\ufeff\U000e0000-\U000e0fff]")
+
+
+def printable(text: str) -> str:
+    """The text with escapes, as JSON has them, for what a terminal might take for a command."""
+    return _ESCAPED.sub(lambda it: json.dumps(it[0])[1:-1], text)
 
 
 class KohibladError(ValueError):
@@ -8,7 +20,8 @@ class KohibladError(ValueError):
     ``status`` is the number of the header's ``enum kohiblad_status``, and ``name`` the library's
     name for it, as ``InvalidJson``. For a document or a line of a file ``place`` names it, as
     ``rows.ndjson: line 3``, and ``line`` is the number of the line. For a row of a column ``row``
-    is its number from 0.
+    is its number from 0. In its words no character is one that a terminal might take for a command:
+    such are escaped, as JSON has them.
     """
     place = ""
     line: Optional[int] = None
@@ -17,13 +30,14 @@ class KohibladError(ValueError):
     offset: Optional[int] = None
 
     def __init__(self, status: int, name: str, message: str = "") -> None:
+        message = printable(message)
         super().__init__(status, name, message)
         self.status = status
         self.name = name
         self.message = message
 
     def __str__(self) -> str:
-        return ": ".join(it for it in (self.place, self.name, self.message) if it)
+        return ": ".join(it for it in (printable(self.place), self.name, self.message) if it)
 
 
 class InvalidDocumentError(KohibladError):

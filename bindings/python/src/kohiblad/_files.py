@@ -5,17 +5,15 @@ such files joined are a file of both.
 """
 import contextlib
 import os
-import shutil
 import stat
 import time
-from typing import IO, Any, Callable, Iterable, Iterator, Optional, Tuple, Union
+from typing import IO, Any, Callable, Iterable, Iterator, Optional, Tuple
 
 from . import _library as library
 from ._document import Document
 from ._errors import KohibladError
+from ._target import File, target_of
 
-Path = Union[str, bytes, "os.PathLike[Any]"]
-File = Union[Path, IO[bytes]]
 # Takes how many documents were read or written, of how many bytes, and how many bytes there are.
 Report = Callable[[int, int, Optional[int]], Any]
 # Takes why a line is left out.
@@ -57,8 +55,8 @@ def write(file: File, documents: Iterable[Any], *, progress: Optional[Report] = 
     """Writes a file of documents, and returns how many there are.
 
     ``documents`` are documents or Python values, as for ``Document.of``. At a path the file is
-    there once all of it was written: an error leaves what was there before. ``progress`` is as of
-    ``read``, without the number of all bytes.
+    there once all of it is on the device: an error leaves what was there before. ``progress`` is as
+    of ``read``, without the number of all bytes.
     """
     with target_of(file) as target:
         counter = _Counter(progress, None)
@@ -207,27 +205,3 @@ def rest_of(source: IO[bytes]) -> Optional[int]:
         return status.st_size - source.tell() if stat.S_ISREG(status.st_mode) else None
     except (AttributeError, OSError):
         return None
-
-
-@contextlib.contextmanager
-def target_of(file: File) -> Iterator[IO[bytes]]:
-    """The file that is written to; at a path a new one, which takes its place at the end."""
-    if not isinstance(file, (str, bytes, os.PathLike)):
-        yield file
-        return
-    path = os.path.realpath(os.fsdecode(file))
-    if os.path.exists(path) and not os.path.isfile(path):
-        with open(path, "wb") as target:
-            yield target
-        return
-    part = f"{path}.{os.getpid()}.part"
-    try:
-        with open(part, "xb") as target:
-            yield target
-        if os.path.exists(path):
-            shutil.copymode(path, part)
-        os.replace(part, path)
-    except BaseException:
-        with contextlib.suppress(FileNotFoundError):
-            os.remove(part)
-        raise

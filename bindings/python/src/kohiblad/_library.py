@@ -10,6 +10,7 @@ import ctypes
 import operator
 import os
 import struct
+import threading
 from ctypes import c_bool, c_char_p, c_int32, c_int64, c_size_t, c_uint32, c_uint64, c_void_p
 from functools import lru_cache
 from typing import (Any, Callable, Dict, Generator, Iterator, List, Optional, Sequence, Tuple, Type,
@@ -66,6 +67,9 @@ ROW_NO_DOCUMENT = 4
 
 # Of steps.
 NO_LIMIT = 2**64 - 1
+
+# The greatest depth of any document and text.
+DEPTH = 1000
 
 # The tags of headers.
 HEADER_TAG_MASK = 0xE0
@@ -313,6 +317,8 @@ zones_int64 = _export("zones_int64", c_uint32, *_ZONES)
 zones_uint64 = _export("zones_uint64", c_uint32, *_ZONES)
 zones_decimal = _export("zones_decimal", c_uint32, *_ZONES)
 zones_date = _export("zones_date", c_uint32, *_ZONES)
+sort = _export("sort", c_uint32, c_void_p, c_size_t, c_void_p, c_size_t, c_size_t, c_void_p,
+               c_size_t)
 build_typed_file = _export("build_typed_file", c_uint32, *_ROWS, *_BYTES, *_BYTES, c_size_t, *_OUT)
 # Of a file by its address.
 _FILE = (c_void_p, c_size_t)
@@ -329,6 +335,36 @@ _part_at = _export("find_index", Place, *_INNER, c_size_t)
 _begin_at = _export("begin", c_uint32, *_INNER, c_void_p)
 _next_at = _export("next", c_uint32, *_INNER, c_void_p, c_void_p, c_void_p)
 _status_name = _export("status_name", c_uint32, c_uint32, *_OUT)
+
+
+class Fixed:
+    """What has fields by which the library is called: nobody can assign them."""
+    __slots__ = ()
+
+    def __setattr__(self, name: str, value: Any) -> None:
+        if any(name in getattr(it, "__slots__", ()) for it in type(self).__mro__):
+            raise AttributeError(f"{name} of a {type(self).__name__} cannot be assigned")
+        object.__setattr__(self, name, value)
+
+    def __delattr__(self, name: str) -> None:
+        self.__setattr__(name, None)
+        object.__delattr__(self, name)
+
+
+_Made = TypeVar("_Made", bound=Fixed)
+_Result = TypeVar("_Result")
+
+
+def set_fields(it: Fixed, **fields: Any) -> None:
+    for name, value in fields.items():
+        object.__setattr__(it, name, value)
+
+
+def with_fields(cls: Type[_Made], **fields: Any) -> _Made:
+    """A new object with these fields."""
+    it = cls.__new__(cls)
+    set_fields(it, **fields)
+    return it
 
 
 def int_of(number: Any) -> int:
@@ -381,6 +417,16 @@ def _room_of(size: int) -> _Room:
         return _Room(_Room.USUAL_SIZE)
 
 
+def _length_of(data: Union[str, bytes]) -> int:
+    """The length of a text or bytes: that of a subclass is what its base type says."""
+    return str.__len__(data) if isinstance(data, str) else bytes.__len__(data)
+
+
+def guess_of(data: Union[str, bytes]) -> int:
+    """How many bytes the result of a call over a text or bytes may be."""
+    return 2 * _length_of(data) + 64
+
+
 def result_of(call: Callable[..., int], guess: int, *arguments: Any) -> bytes:
     """The bytes that a call writes; `guess` is how many they may be.
 
@@ -397,6 +443,79 @@ def result_of(call: Callable[..., int], guess: int, *arguments: Any) -> bytes:
     if room.size == _Room.USUAL_SIZE:
         _spare_rooms.append(room)
     return result
+
+
+def key_of(data: bytes) -> bytes:
+    """The comparable key of bytes, which need be no document: then the call is refused."""
+    return result_of(key, guess_of(data), data, len(data), DEPTH)
+
+
+# A call over so many bytes may take a tenth of a second.
+_LONG_BYTES = 1 << 21
+# Enough of stack for each call, whatever its documents.
+_AMPLE_STACK = 4 << 20
+
+
+def is_long(data: Any) -> bool:
+    """Whether a call over a text or bytes may take so long that signals are to be handled."""
+    return isinstance(data, (str, bytes)) and _length_of(data) >= _LONG_BYTES
+
+
+def attended(guess: int, call: Callable[..., Any], *arguments: Any) -> Any:
+    """What a long call returns, during which signals are handled; `guess` is as in `result_of`.
+
+    Python handles them in the main thread alone, so that this one waits there while another makes
+    the call. If a handler raises an exception, what the call makes is dropped when it ends. If
+    there is no memory for another thread beside the result, this one makes the call.
+    """
+    has_stack = not 0 < threading.stack_size() < _AMPLE_STACK
+    if threading.current_thread() is not threading.main_thread() or not has_stack:
+        return call(*arguments)
+    results: List[Tuple[Any, Optional[BaseException]]] = []
+    is_done = threading.Event()
+
+    def make() -> None:
+        try:
+            results.append((call(*arguments), None))
+        except BaseException as error:
+            results.append((None, error))
+        finally:
+            is_done.set()
+
+    if not _has_started(make, guess):
+        return call(*arguments)
+    is_done.wait()
+    result, error = results.pop()
+    try:
+        if error is not None:
+            raise error
+        return result
+    finally:
+        del error
+
+
+def made_of(data: Any, call: Callable[..., _Result], *arguments: Any) -> _Result:
+    """What a call over a text or bytes returns; if it is long, signals are handled meanwhile."""
+    if not is_long(data):
+        return call(*arguments)
+    result: _Result = attended(guess_of(data), call, *arguments)
+    return result
+
+
+def _has_started(make: Callable[[], None], size: int) -> bool:
+    """Starts a thread, unless its stack would leave less memory than so many bytes."""
+    kept: List[bytes] = []
+
+    def run() -> None:
+        kept.clear()
+        make()
+
+    try:
+        kept.append(bytes(size))
+        threading.Thread(target=run, daemon=True).start()
+    except (MemoryError, RuntimeError):
+        return False
+    return True
 
 
 def keys_of(call: Callable[..., int], document: bytes) -> List[int]:
@@ -418,7 +537,7 @@ def path_of_text(document: bytes, text: bytes) -> bytes:
 
     PathError: the text is not a path.
     """
-    return result_of(path_in, 2 * len(text) + 64, document, len(document), text, len(text),
+    return result_of(path_in, guess_of(text), document, len(document), text, len(text),
                      len(document))
 
 
@@ -475,9 +594,6 @@ def children(document: bytes) -> Iterator[Tuple[bytes, int, bytes]]:
             yield document[key_at:key_at + key_size], type_, document[at:at + length]
     if status != NONE:
         raise error_of(status)
-
-
-_Result = TypeVar("_Result")
 
 
 def run_nested(open_one: Callable[[Any], Generator[Any, Any, _Result]], outermost: Any) -> _Result:

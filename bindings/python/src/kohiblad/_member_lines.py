@@ -68,7 +68,8 @@ def _path(text: str) -> Tuple[str, List[Step]]:
     """A path as a text, and its steps."""
     try:
         data = bytes_of_text(text)
-        path = library.result_of(library.path_of_given_text, 2 * len(data) + 64, data, len(data))
+        path = library.result_of(library.path_of_given_text, library.guess_of(data), data,
+                                 len(data))
     except PathError:
         raise argparse.ArgumentTypeError(quoted_path(text)) from None
     except KohibladError as error:

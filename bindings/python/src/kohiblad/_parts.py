@@ -4,11 +4,10 @@ The library says what there is: kinds, counts, the places of keys and children, 
 scalars. Of the layout this file knows the words alone: a header is one, and after it each part has
 one, the items of an array, or the keys of an object and then its values.
 """
-import json
-import re
 from typing import Iterator, NamedTuple, Optional
 
 from . import _library as library
+from ._errors import printable
 
 WORD = 4
 KINDS = {library.TYPE_NULL: "null", library.TYPE_FALSE: "boolean", library.TYPE_TRUE: "boolean",
@@ -17,10 +16,6 @@ KINDS = {library.TYPE_NULL: "null", library.TYPE_FALSE: "boolean", library.TYPE_
 EXTENSIONS = {0x00: "binary", 0x10: "date", 0x20: "timestamp", 0x30: "timestamp with time zone",
               0x40: "interval"}
 _MOST_SHOWN = 60
-# Control characters, separators of lines, and what changes the direction or the look of the text
-# around it. The program `kohiblad` has the same.
-_ESCAPED = re.compile(r"[\0-\x1f\x7f-\x9f\xad\u061c\u180e\u200b-\u200f\u2028-\u202e"
-                      r"\u2060-\u206f\ufeff\U000e0000-\U000e0fff]")
 
 
 class Part(NamedTuple):
@@ -51,9 +46,9 @@ def counted(count: int, unit: str) -> str:
     return f"{count:,} {unit}" if count == 1 else f"{count:,} {unit}s"
 
 
-def _printable(text: str) -> str:
-    """The text with escapes, as JSON has them, for what a terminal might take for a command."""
-    text = _ESCAPED.sub(lambda it: json.dumps(it[0])[1:-1], text)
+def _shown(text: str) -> str:
+    """The text as it is printed, cut where it is long."""
+    text = printable(text)
     if len(text) <= _MOST_SHOWN:
         return text
     return text[:_MOST_SHOWN - 1] + "…"
@@ -61,8 +56,8 @@ def _printable(text: str) -> str:
 
 def _text_of(scalar: bytes) -> str:
     """The JSON text of a scalar's document, to be shown."""
-    text = library.result_of(library.to_string, 2 * len(scalar) + 64, scalar, len(scalar), 0)
-    return _printable(text.decode())
+    text = library.result_of(library.to_string, library.guess_of(scalar), scalar, len(scalar), 0)
+    return _shown(text.decode())
 
 
 def _meaning_of(type_: int, payload: bytes) -> str:

@@ -3,6 +3,8 @@ import os
 import sys
 from typing import List, Optional
 
+from ._errors import printable
+
 NAME = "kohiblad"
 _MAGIC = b"\x7fELF"
 
@@ -34,6 +36,6 @@ def hand_over(words: List[str], what: str) -> int:
             os.execv(path, [NAME, *words])
         except OSError as error:
             raise OSError(error.errno, error.strerror, path) from None
-    print(f"{NAME}: {what} is for the program {NAME}, which is not on PATH: install Debian's "
-          f"package {NAME}, or put bin/{NAME} of a release there", file=sys.stderr)
+    print(f"{NAME}: {printable(what)} is for the program {NAME}, which is not on PATH: install "
+          f"Debian's package {NAME}, or put bin/{NAME} of a release there", file=sys.stderr)
     return 2

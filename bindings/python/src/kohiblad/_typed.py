@@ -68,13 +68,14 @@ class Batch(NamedTuple):
 
 
 class Rows(Protocol):
-    """What a column of documents has for the calls here."""
+    """What a column of documents has for the calls here, in memory that does not change."""
+    @property
+    def length(self) -> int: ...
     # Whether each row that has bytes is known to be a document.
-    _are_documents: bool
-
-    def __len__(self) -> int: ...
-    def _batches(self) -> Iterator[Batch]: ...
-    def _bytes_at(self, row: int) -> bytes: ...
+    @property
+    def are_documents(self) -> bool: ...
+    def batches(self) -> Iterator[Batch]: ...
+    def bytes_at(self, row: int) -> bytes: ...
 
 
 class Survey(NamedTuple):
@@ -146,7 +147,7 @@ def possible_types(survey: Survey) -> List[str]:
     return [next((name for name, count in counts.items() if count == members), "mixed")]
 
 
-class Typed(Sequence[Any]):
+class Typed(library.Fixed, Sequence[Any]):
     """The member of each row as a value of one type, and None where a row has none.
 
     It is a sequence of Python values: int, Decimal, bool, str, date, datetime, Interval and bytes,
@@ -218,7 +219,7 @@ class Typed(Sequence[Any]):
     def to_list(self) -> List[Any]:
         """The values of all rows, as Python values."""
         if self.type in _NO_VALUES:
-            return [None] * len(self)
+            return [None] * len(self.states)
         values: Iterable[Any] = self.values
         if self.type == "text":
             values = (str(self.texts[start:end], "utf-8")
@@ -245,8 +246,8 @@ class Typed(Sequence[Any]):
         rows, path = self._rows, document_of_path(self.path)
         if rows is None:
             return []
-        return [(row, _member_of(rows._bytes_at(row), path) if state == library.ROW_UNFIT
-                 else rows._bytes_at(row))
+        return [(row, _member_of(rows.bytes_at(row), path) if state == library.ROW_UNFIT
+                 else rows.bytes_at(row))
                 for row, state in enumerate(self.states) if state >= library.ROW_UNFIT]
 
     @property
@@ -261,8 +262,10 @@ class Typed(Sequence[Any]):
         copy with None where a row has none. ImportError: there is no numpy.
         """
         np = import_module("numpy")
+        if self.type in _NO_VALUES:
+            return np.zeros(len(self.states), dtype="uint8")
         if self.type in _OF_BYTES:
-            objects = np.empty(len(self), dtype=object)
+            objects = np.empty(len(self.states), dtype=object)
             objects[:] = self.to_list()
             return objects
         if self.type == "boolean":
@@ -315,7 +318,8 @@ class Typed(Sequence[Any]):
         at, as the interface allows. ValueError: a decimal has more than the 38 digits that Arrow's
         have, or an interval more nanoseconds than 64 bits hold.
         """
-        nulls = len(self) - bytes(self.states).count(library.ROW_VALUE)
+        length = len(self.states)
+        nulls = length - bytes(self.states).count(library.ROW_VALUE)
         buffers: List[Any] = [_bits_of(self.states) if nulls else None]
         children: List[Any] = []
         if self.type in _NO_VALUES:
@@ -335,7 +339,7 @@ class Typed(Sequence[Any]):
             buffers.append(self.values.obj)
         addresses, below = list(map(_address_of, buffers)), list(map(_address_of, children))
         return self.__arrow_c_schema__(), capsules.array_capsule(
-            len(self), nulls, 0, addresses, (self, buffers, children), below)
+            length, nulls, 0, addresses, (self, buffers, children), below)
 
     def __arrow_c_stream__(self, requested_schema: Any = None) -> Any:
         """A capsule of a stream that has the array of ``__arrow_c_array__`` alone."""
@@ -546,7 +550,7 @@ class _Filled:
         does not fit is refused, and some row does not.
         """
         self._call = self._calls[is_known]
-        for batch in rows._batches():
+        for batch in rows.batches():
             taken = self._take(batch)
             if taken.status != library.OK:
                 raise library.error_of(taken.status)
@@ -576,7 +580,7 @@ class _Filled:
 
     def _refusal(self, rows: Rows, row: int) -> KohibladError:
         """Why a row does not fit."""
-        data = rows._bytes_at(row)
+        data = rows.bytes_at(row)
         if self.states[row] == library.ROW_NO_DOCUMENT:
             error = library.error_of(library.INVALID_JSONB, "the row is no document")
         else:
@@ -594,7 +598,6 @@ class _Filled:
         return _NO_DOCUMENT not in self.states.tobytes()
 
     def typed(self, rows: Rows, unfit: str) -> Typed:
-        it = Typed.__new__(Typed)
         states = self.states
         if self.name == "timestamp_tz" and states:
             # The padding after an offset may hold any bytes.
@@ -602,26 +605,27 @@ class _Filled:
             unused[:] = memoryview(array.array("i", [0]) * len(unused))
         if unfit == "null" and self.unfit:
             states = array.array("B", states.tobytes().translate(_UNFIT_AS_NULL))
-        it.type, it.scale, it.path, it.unfit = self.name, self.scale, self.steps, self.unfit
-        it.states, it.values = memoryview(states).toreadonly(), memoryview(self.values).toreadonly()
-        it.offsets, it.texts = (memoryview(self.offsets).toreadonly(),
-                                memoryview(self.texts).toreadonly())
+        values: Any = self.values
+        texts: Any = self.texts
         if self.name == "binary":
-            it.values, it.texts = it.texts, it.values
-        it._rows = rows if unfit == "rest" and self.unfit else None
-        return it
+            values, texts = texts, values
+        buffers = {"states": states, "values": values, "offsets": self.offsets, "texts": texts}
+        return library.with_fields(
+            Typed, type=self.name, scale=self.scale, path=self.steps, unfit=self.unfit,
+            _rows=rows if unfit == "rest" and self.unfit else None,
+            **{name: memoryview(it).toreadonly() for name, it in buffers.items()})
 
 
 def least_type(rows: Rows, steps: Tuple[Step, ...], exact: bool) -> str:
     """The first type that holds all members."""
-    found, _ = _of_least_type(rows, steps, exact, rows._are_documents)
+    found, _ = _of_least_type(rows, steps, exact, rows.are_documents)
     return found if isinstance(found, str) else found.name
 
 
 def extract(rows: Rows, members: Iterable[Tuple[Tuple[Step, ...], Optional[str]]], unfit: str,
             exact: bool) -> List[Typed]:
     """For each path the column of a type, or of the least one if none is named."""
-    wanted, is_known = list(members), rows._are_documents
+    wanted, is_known = list(members), rows.are_documents
     located = _located(rows, wanted, exact, is_known)
     columns = []
     for number, (steps, name) in enumerate(wanted):
@@ -646,10 +650,10 @@ def _located(rows: Rows, members: List[Tuple[Tuple[Step, ...], Optional[str]]], 
     names = sorted({str(steps[0]) for steps, _ in named.values()})
     if len(names) < 2:
         return {}
-    columns = {number: _Filled(name, steps, exact, len(rows))
+    columns = {number: _Filled(name, steps, exact, rows.length)
                for number, (steps, name) in named.items()}
     places = _Places(names)
-    for batch in rows._batches():
+    for batch in rows.batches():
         places.locate(batch, is_known)
         for column in columns.values():
             column.fill_at(batch, places)
@@ -663,7 +667,7 @@ def _filled(rows: Rows, steps: Tuple[Step, ...], name: Optional[str], refuses: b
     if found is None:
         found, is_known = _of_least_type(rows, steps, exact, is_known)
     if isinstance(found, str):
-        column = _Filled(found, steps, exact, len(rows))
+        column = _Filled(found, steps, exact, rows.length)
         column.fill(rows, is_known=is_known, is_trial=False, refuses=refuses)
         return column
     if refuses and found.unfit:
@@ -676,16 +680,16 @@ def _of_least_type(rows: Rows, steps: Tuple[Step, ...], exact: bool,
     """The column of the least type, or its name if no column of it was tried; and whether the rows
     are known to be documents by then."""
     # If the first rows have some values of such a type, and it holds all members, it is the least.
-    guess = possible_types(survey_of(islice(rows._batches(), 1), steps))[0]
+    guess = possible_types(survey_of(islice(rows.batches(), 1), steps))[0]
     if guess in ("boolean", "int64", "text", "date", "timestamp", *_STRUCTS, "binary"):
-        column = _Filled(guess, steps, exact, len(rows))
+        column = _Filled(guess, steps, exact, rows.length)
         if column.fill(rows, is_known=is_known, is_trial=True):
             return column, is_known
-    survey = survey_of(rows._batches(), steps)
+    survey = survey_of(rows.batches(), steps)
     is_known = is_known or not survey.not_documents
     *tried, last = possible_types(survey)
     for name in tried:
-        column = _Filled(name, steps, exact, len(rows))
+        column = _Filled(name, steps, exact, rows.length)
         if name != guess and column.fill(rows, is_known=is_known, is_trial=True):
             return column, is_known
     return last, is_known

@@ -19,13 +19,14 @@ dates, timestamps or intervals.
 """
 import array
 import ctypes
+import heapq
 import itertools
 import operator
 import sys
 import weakref
-from ctypes import byref, c_int32, c_int64, c_size_t, c_void_p
-from typing import (Any, Iterable, Iterator, List, Optional, Protocol, Sequence, Tuple, Union,
-                    overload)
+from ctypes import byref, c_int32, c_int64, c_size_t
+from typing import (Any, Iterable, Iterator, List, NamedTuple, Optional, Protocol, Sequence, Tuple,
+                    Union, overload)
 
 from . import _capsules as capsules
 from . import _library as library
@@ -33,6 +34,7 @@ from . import _typed as typed
 from ._changes import DocumentPath, steps_of
 from ._document import Document
 from ._encode import DEPTH
+from ._errors import KohibladError, OutOfMemoryError
 from ._typed import Survey, Typed
 from ._zones import Zones
 
@@ -42,17 +44,14 @@ EXTENSION_NAME = b"kohiblad"
 _LARGE_BINARY, _BINARY = b"Z", b"z"
 # The offsets of so many rows, and one more, have addresses.
 _MOST_ROWS = sys.maxsize // 16
+# So many rows are sorted, and so many offsets tested, between two looks for a signal.
+_SORTED_AT_ONCE, _TESTED_AT_ONCE = 8192, 1 << 20
 
 
 class HasArrow(Protocol):
     """What a library that knows Arrow's C data interface has for an array."""
 
     def __arrow_c_array__(self, requested_schema: Any = None) -> Tuple[Any, Any]: ...
-
-
-# The order of the rows, by addresses.
-_sort = library._export("sort", ctypes.c_uint32, c_void_p, c_size_t, c_void_p, c_size_t,
-                        c_size_t, c_void_p, c_size_t)
 
 
 def _metadata() -> bytes:
@@ -62,21 +61,93 @@ def _metadata() -> bytes:
     return bytes(c_int32(len(pairs))) + b"".join(bytes(c_int32(len(it))) + it for it in texts)
 
 
-class Column(Sequence[Optional[Document]]):
+class _Rows(NamedTuple):
+    """The rows of a column where they are in memory. No subclass of a column answers for it."""
+    length: int
+    # One more than there are rows, from the row `first` on.
+    offsets: Any
+    data: int
+    validity: Optional[int]
+    first: int
+    kept: Tuple[Any, ...]
+    # Whether each row that has bytes is known to be a document: those of Arrow are not.
+    are_documents: bool
+
+    def is_missing(self, row: int) -> bool:
+        if self.validity is None:
+            return False
+        byte, bit = divmod(self.first + row, 8)
+        return not ctypes.c_uint8.from_address(self.validity + byte).value >> bit & 1
+
+    def bytes_at(self, row: int) -> bytes:
+        start, end = self.offsets[self.first + row:self.first + row + 2]
+        return ctypes.string_at(self.data + start, end - start)
+
+    def offsets_at(self, row: int) -> int:
+        """The address of the offset of a row."""
+        return ctypes.addressof(self.offsets) + 8 * (self.first + row)
+
+    def sorted_run(self, first: int, count: int) -> List[int]:
+        """The numbers of some rows, in their order."""
+        order = (c_size_t * count)()
+        status = library.sort(self.data, self.offsets[self.first + first + count],
+                              self.offsets_at(first), count + 1, DEPTH, order, count)
+        if status != library.OK:
+            raise library.error_of(status)
+        numbers = [first + row for row in order]
+        return numbers if self.validity is None else sorted(numbers, key=self.is_missing)
+
+    def rank(self, row: int) -> Tuple[int, bytes]:
+        """What sorts as the row does: a document by its key, before what is none, and that before
+        what is missing."""
+        if self.is_missing(row):
+            return 2, b""
+        data = self.bytes_at(row)
+        try:
+            return 0, library.key_of(data)
+        except OutOfMemoryError:
+            raise
+        except KohibladError:
+            return 1, b""
+
+    def batches(self) -> Iterator[typed.Batch]:
+        for first in range(0, self.length, typed.BATCH):
+            yield self._batch(first, min(typed.BATCH, self.length - first))
+
+    def _batch(self, first: int, count: int) -> typed.Batch:
+        """Some rows where they are, or a copy where a missing row has bytes."""
+        at = self.first + first
+        if any(self.offsets[at + row] < self.offsets[at + row + 1]
+               for row in self._missing(first, count)):
+            missing = set(self._missing(first, count))
+            rows = [b"" if row in missing else self.bytes_at(first + row) for row in range(count)]
+            data = ctypes.create_string_buffer(b"".join(rows))
+            ends = array.array("q", [0, *itertools.accumulate(map(len, rows))])
+            return typed.Batch(first, count, ctypes.addressof(data), 0, ends[-1],
+                               ends.buffer_info()[0], (data, ends))
+        return typed.Batch(first, count, self.data, self.offsets[at], self.offsets[at + count],
+                           self.offsets_at(first), self)
+
+    def _missing(self, first: int, count: int) -> Iterator[int]:
+        """The numbers of the missing rows among some, counted from the first of these."""
+        if self.validity is None:
+            return
+        byte, bit = divmod(self.first + first, 8)
+        flags = ctypes.string_at(self.validity + byte, (bit + count + 7) // 8)
+        missing = ~(int.from_bytes(flags, "little") >> bit) & (1 << count) - 1
+        while missing:
+            row = missing.bit_length() - 1
+            yield row
+            missing ^= 1 << row
+
+
+class Column(library.Fixed, Sequence[Optional[Document]]):
     """Documents in a row, some of which may be missing, in memory that Arrow understands.
 
     A document is copied, and checked, when it is read: InvalidDocumentError, if it is not one.
     """
-    __slots__ = ("_length", "_offsets", "_data", "_validity", "_first", "_kept", "_are_documents",
-                 "__weakref__")
-    _length: int
-    _offsets: Any
-    _data: int
-    _validity: Optional[int]
-    _first: int
-    _kept: Tuple[Any, ...]
-    # Whether each row that has bytes is known to be a document: those of Arrow are not.
-    _are_documents: bool
+    __slots__ = ("_rows", "__weakref__")
+    _rows: _Rows
 
     def __init__(self) -> None:
         raise TypeError("a column is made by Column.of or Column.from_arrow")
@@ -108,15 +179,9 @@ class Column(Sequence[Optional[Document]]):
     @classmethod
     def _new(cls, length: int, offsets: int, data: int, validity: Optional[int], first: int,
              kept: Tuple[Any, ...], are_documents: bool) -> "Column":
-        column = cls.__new__(cls)
-        column._length = length
-        column._offsets = (c_int64 * (first + length + 1)).from_address(offsets)
-        column._data = data
-        column._validity = validity
-        column._first = first
-        column._kept = kept
-        column._are_documents = are_documents
-        return column
+        words = (c_int64 * (first + length + 1)).from_address(offsets)
+        return library.with_fields(cls, _rows=_Rows(length, words, data, validity, first, kept,
+                                                    are_documents))
 
     @classmethod
     def from_arrow(cls, source: HasArrow) -> "Column":
@@ -141,18 +206,19 @@ class Column(Sequence[Optional[Document]]):
         _check_parts(schema, given)
         offsets, kept = _offsets_of(given, schema.format == _BINARY)
         validity, _, data = given.buffers[:3]
-        taken = capsules.Array()
+        taken, owner = capsules.Array(), _Owner()
         # An empty array needs no memory, and without data no row has a byte.
         column = cls._new(given.length, offsets, data or offsets,
                           validity if given.null_count else None,
-                          given.offset if given.length else 0, (taken, kept), False)
+                          given.offset if given.length else 0, (owner, kept), False)
         ctypes.memmove(byref(taken), byref(given), ctypes.sizeof(capsules.Array))
         given.release = capsules.Release(0)
-        weakref.finalize(column, _end, taken)
+        # At the end of the program others may still read the column.
+        weakref.finalize(owner, _end, taken).atexit = False
         return column
 
     def __len__(self) -> int:
-        return self._length
+        return self._rows.length
 
     @overload
     def __getitem__(self, index: int) -> Optional[Document]: ...
@@ -161,44 +227,32 @@ class Column(Sequence[Optional[Document]]):
 
     def __getitem__(self, index: Union[int, slice]) -> Union[Optional[Document], "Column"]:
         """The document of a row, None if it is missing; or the column of a slice."""
-        rows = range(self._length)[index]
+        it = self._rows
+        rows = range(it.length)[index]
         if isinstance(rows, int):
             return self._row(rows)
         if rows.step == 1:
-            return self._new(len(rows), ctypes.addressof(self._offsets), self._data,
-                             self._validity, self._first + rows.start, (self,),
-                             self._are_documents)
+            return self._new(len(rows), ctypes.addressof(it.offsets), it.data, it.validity,
+                             it.first + rows.start, (self,), it.are_documents)
         return Column.of(map(self._row, rows))
 
     def _row(self, row: int) -> Optional[Document]:
-        if self._is_missing(row):
-            return None
-        return Document(self._bytes_at(row))
-
-    def _is_missing(self, row: int) -> bool:
-        if self._validity is None:
-            return False
-        byte, bit = divmod(self._first + row, 8)
-        return not ctypes.c_uint8.from_address(self._validity + byte).value >> bit & 1
+        return None if self._rows.is_missing(row) else Document(self._rows.bytes_at(row))
 
     def __iter__(self) -> Iterator[Optional[Document]]:
-        return map(self._row, range(self._length))
+        return map(self._row, range(self._rows.length))
 
     def sorted_order(self) -> List[int]:
         """The numbers of the rows, in the order of the documents; missing ones are last.
 
-        Rows that are not documents of at most ``DEPTH`` levels come after all that are.
+        Rows that are not documents of at most ``DEPTH`` levels come after all that are. Signals are
+        handled meanwhile.
         """
-        order = (c_size_t * max(self._length, 1))()
-        last = self._offsets[self._first + self._length]
-        status = _sort(self._data, last, ctypes.addressof(self._offsets) + 8 * self._first,
-                       self._length + 1, DEPTH, order, self._length)
-        if status != library.OK:
-            raise library.error_of(status)
-        rows = list(order[:self._length])
-        if self._validity is None:
-            return rows
-        return sorted(rows, key=self._is_missing)
+        rows = self._rows
+        runs = [rows.sorted_run(first, min(_SORTED_AT_ONCE, rows.length - first))
+                for first in range(0, rows.length, _SORTED_AT_ONCE)]
+        # Of equal documents the first comes first, since the runs do.
+        return list(heapq.merge(*runs, key=rows.rank)) if len(runs) > 1 else sum(runs, [])
 
     def survey(self, path: DocumentPath) -> Survey:
         """Counts what the members of the rows at the end of a path are.
@@ -212,7 +266,7 @@ class Column(Sequence[Optional[Document]]):
         The path is one as for ``Document.set``. Rows need not be documents: those that are none
         have a count of their own.
         """
-        return typed.survey_of(self._batches(), steps_of(path))
+        return typed.survey_of(self._rows.batches(), steps_of(path))
 
     def least_type(self, path: DocumentPath, *, exact: bool = False) -> str:
         """The first type that holds the members of all rows at the end of a path.
@@ -224,7 +278,7 @@ class Column(Sequence[Optional[Document]]):
         date, timestamp, timestamp_tz, interval, binary or mixed, which are tried in this order.
         Null is held by each, and rows that are no documents do not count.
         """
-        return typed.least_type(self, steps_of(path), exact)
+        return typed.least_type(self._rows, steps_of(path), exact)
 
     def extract(self, paths: Iterable[DocumentPath],
                 types: Optional[Iterable[Optional[str]]] = None, *, unfit: str = "rest",
@@ -261,41 +315,7 @@ class Column(Sequence[Optional[Document]]):
         names = typed.names_of([None] * len(steps) if types is None else types)
         if len(names) != len(steps):
             raise ValueError(f"there are {len(steps)} paths and {len(names)} types")
-        return typed.extract(self, zip(steps, names), unfit, exact)
-
-    def _batches(self) -> Iterator[typed.Batch]:
-        for first in range(0, self._length, typed.BATCH):
-            yield self._batch(first, min(typed.BATCH, self._length - first))
-
-    def _batch(self, first: int, count: int) -> typed.Batch:
-        """Some rows where they are, or a copy where a missing row has bytes."""
-        at = self._first + first
-        if any(self._offsets[at + row] < self._offsets[at + row + 1]
-               for row in self._missing(first, count)):
-            missing = set(self._missing(first, count))
-            rows = [b"" if row in missing else self._bytes_at(first + row) for row in range(count)]
-            data = ctypes.create_string_buffer(b"".join(rows))
-            ends = array.array("q", [0, *itertools.accumulate(map(len, rows))])
-            return typed.Batch(first, count, ctypes.addressof(data), 0, ends[-1],
-                               ends.buffer_info()[0], (data, ends))
-        return typed.Batch(first, count, self._data, self._offsets[at], self._offsets[at + count],
-                           ctypes.addressof(self._offsets) + 8 * at, self)
-
-    def _missing(self, first: int, count: int) -> Iterator[int]:
-        """The numbers of the missing rows among some, counted from the first of these."""
-        if self._validity is None:
-            return
-        byte, bit = divmod(self._first + first, 8)
-        flags = ctypes.string_at(self._validity + byte, (bit + count + 7) // 8)
-        missing = ~(int.from_bytes(flags, "little") >> bit) & (1 << count) - 1
-        while missing:
-            row = missing.bit_length() - 1
-            yield row
-            missing ^= 1 << row
-
-    def _bytes_at(self, row: int) -> bytes:
-        start, end = self._offsets[self._first + row:self._first + row + 2]
-        return ctypes.string_at(self._data + start, end - start)
+        return typed.extract(self._rows, zip(steps, names), unfit, exact)
 
     def __arrow_c_schema__(self) -> Any:
         """A capsule of the type: LargeBinary, of the extension type ``kohiblad``."""
@@ -306,10 +326,11 @@ class Column(Sequence[Optional[Document]]):
 
         A schema that is requested is not looked at, as the interface allows.
         """
-        nulls = sum(map(self._is_missing, range(self._length))) if self._validity else 0
-        addresses = self._validity, ctypes.addressof(self._offsets), self._data
-        return self.__arrow_c_schema__(), capsules.array_capsule(self._length, nulls, self._first,
-                                                                 addresses, self)
+        rows = self._rows
+        nulls = sum(map(rows.is_missing, range(rows.length))) if rows.validity else 0
+        addresses = rows.validity, ctypes.addressof(rows.offsets), rows.data
+        return self.__arrow_c_schema__(), capsules.array_capsule(rows.length, nulls, rows.first,
+                                                                 addresses, rows)
 
 
 def _check_parts(schema: Any, given: Any) -> None:
@@ -340,7 +361,7 @@ def _offsets_of(given: Any, is_narrow: bool) -> Tuple[int, Any]:
     words: Any = memoryview((word * count).from_address(address))
     offsets = words.cast("B").cast("i" if is_narrow else "q")
     used = offsets[given.offset:]
-    if used[0] < 0 or not all(map(operator.le, used, used[1:])):
+    if used[0] < 0 or not _ascend(used):
         raise ValueError("the offsets of the array do not ascend")
     if used[0] < used[-1] and not given.buffers[2]:
         raise ValueError("the array has rows and no data")
@@ -348,6 +369,16 @@ def _offsets_of(given: Any, is_narrow: bool) -> Tuple[int, Any]:
         return address, None
     wide = array.array("q", offsets)
     return wide.buffer_info()[0], wide
+
+
+def _ascend(offsets: memoryview) -> bool:
+    return all(all(map(operator.le, offsets[at:at + _TESTED_AT_ONCE], offsets[at + 1:]))
+               for at in range(0, len(offsets), _TESTED_AT_ONCE))
+
+
+class _Owner:
+    """What has the memory of an array that was taken, until nothing refers to it."""
+    __slots__ = ("__weakref__",)
 
 
 def _end(taken: Any) -> None:

@@ -10,14 +10,14 @@
 docs/TYPED.md has the format, and says which members are kept in a column.
 """
 import ctypes
-from typing import (Any, Callable, Dict, Iterable, Iterator, List, Mapping, Sequence, Union,
+from typing import (Any, Callable, Dict, Iterable, Iterator, List, Mapping, Sequence, Union, cast,
                     overload)
 
 from . import _library as library
 from ._document import Document
 from ._encode import DEPTH
-from ._files import File, target_of
 from ._scalars import Interval, date_of, decimal_of, timestamp_of, timestamp_tz_of
+from ._target import File, target_of
 
 _TYPES = ("boolean", "int64", "uint64", "decimal", "text", "date", "timestamp", "timestamp_tz",
           "interval", "binary")
@@ -69,6 +69,11 @@ def _bytes_of_type(name: str) -> bytes:
     return bytes([_TYPES.index(word), int(scale)])
 
 
+def _built(_kept: Any, *words: Any) -> bytes:
+    """What a call makes, for which something is kept at an address until it ends."""
+    return library.result_of(*words)
+
+
 class _PyBuffer(ctypes.Structure):
     """What Python tells of the memory of an object."""
     _fields_ = [("buf", ctypes.c_void_p), ("obj", ctypes.c_void_p), ("len", ctypes.c_ssize_t),
@@ -87,7 +92,7 @@ def _address_of(view: memoryview) -> int:
     return address
 
 
-class StoredColumn(Sequence[Any]):
+class StoredColumn(library.Fixed, Sequence[Any]):
     """A column of a file: its values, and its buffers where they lie in the file.
 
     A value is a bool, an int, a Decimal or a str, of the types date, timestamp, timestamp_tz,
@@ -98,16 +103,25 @@ class StoredColumn(Sequence[Any]):
     """
     __slots__ = ("name", "type", "flags", "numbers", "texts", "_length", "_word", "_scale")
 
+    name: str
+    type: str
+    flags: memoryview
+    numbers: memoryview
+    texts: memoryview
+    _length: int
+    _word: str
+    _scale: int
+
     def __init__(self, told: library.TypedColumn, file: memoryview, length: int) -> None:
         def cut(at: int, size: int) -> memoryview:
             return file[at:at + size]
-        self.name = str(cut(told.name, told.name_length), "utf-8")
-        self._word, self._scale = _TYPES[told.type], told.scale
-        self.type = f"decimal {told.scale}" if self._word == "decimal" else self._word
-        self.flags = cut(told.flags, told.flags_length)
-        self.numbers = cut(told.numbers, told.numbers_length)
-        self.texts = cut(told.texts, told.texts_length)
-        self._length = length
+        word = _TYPES[told.type]
+        library.set_fields(
+            self, name=str(cut(told.name, told.name_length), "utf-8"), _word=word,
+            _scale=told.scale, type=f"decimal {told.scale}" if word == "decimal" else word,
+            flags=cut(told.flags, told.flags_length),
+            numbers=cut(told.numbers, told.numbers_length),
+            texts=cut(told.texts, told.texts_length), _length=length)
 
     def __len__(self) -> int:
         return self._length
@@ -171,7 +185,7 @@ class StoredColumn(Sequence[Any]):
         return f"<StoredColumn {self.name!r} of {self._length:,} rows, {self.type}>"
 
 
-class TypedFile(Sequence[Document]):
+class TypedFile(library.Fixed, Sequence[Document]):
     """The rows of a file of typed columns, which are read where they lie.
 
     ``data`` is any object with bytes, as ``bytes`` or an ``mmap.mmap``; it is used as long as the
@@ -182,19 +196,25 @@ class TypedFile(Sequence[Document]):
     """
     __slots__ = ("_view", "_at", "_size", "_length", "_columns")
 
+    _view: memoryview
+    _at: int
+    _size: int
+    _length: int
+    _columns: Dict[str, StoredColumn]
+
     def __init__(self, data: Any, *, check: bool = True) -> None:
-        self._view = memoryview(data).cast("B")
-        self._at, self._size = _address_of(self._view), len(self._view)
+        view = memoryview(data).cast("B")
+        library.set_fields(self, _view=view, _at=_address_of(view), _size=len(view))
         told = self._told()
         if check or not told:
             checked = library.check_typed_file(self._at, self._size, DEPTH)
             if checked.status != library.OK:
                 raise library.error_of(checked.status)
-            self._length = checked.rows
+            length = checked.rows
         else:
-            self._length = told[0].rows
-        columns = (StoredColumn(it, self._view, self._length) for it in told)
-        self._columns: Dict[str, StoredColumn] = {it.name: it for it in columns}
+            length = told[0].rows
+        columns = (StoredColumn(it, view, length) for it in told)
+        library.set_fields(self, _length=length, _columns={it.name: it for it in columns})
 
     def _told(self) -> Any:
         """The columns as the library tells them."""
@@ -231,9 +251,12 @@ class TypedFile(Sequence[Document]):
             offsets[index] = end
         # Each column has at most 16 bytes and a bit for a row.
         guess = 2 * end + len(rows) * (17 * len(names) + 8) + 64 * len(names) + 64
-        return library.result_of(library.build_typed_file, guess, b"".join(rows), end,
-                                 ctypes.addressof(offsets), len(offsets), listed, len(listed),
-                                 kinds, len(kinds), DEPTH)
+        data = b"".join(rows)
+        words = (library.build_typed_file, guess, data, end, ctypes.addressof(offsets),
+                 len(offsets), listed, len(listed), kinds, len(kinds), DEPTH)
+        if library.is_long(data):
+            return cast(bytes, library.attended(guess, _built, offsets, *words))
+        return library.result_of(*words)
 
     @classmethod
     def write(cls, file: File, documents: Iterable[Any], types: Mapping[str, str]) -> int:

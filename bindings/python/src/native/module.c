@@ -320,6 +320,16 @@ PyObject *native_loads(PyObject *module, PyObject *given)
     return value;
 }
 
+/* Raises what the package raises for bytes that are no document of a depth. */
+static PyObject *refuse_document(struct state *state, size_t depth)
+{
+    PyObject *number = PyLong_FromSize_t(depth);
+    if (!number) return NULL;
+    PyObject *exception = PyObject_CallFunctionObjArgs(state->no_document, number, NULL);
+    Py_DECREF(number);
+    return raise_made(exception);
+}
+
 PyObject *native_check(PyObject *module, PyObject *const *arguments, Py_ssize_t count)
 {
     struct state *state = state_of(module);
@@ -339,10 +349,7 @@ PyObject *native_check(PyObject *module, PyObject *const *arguments, Py_ssize_t 
             is_document = state->library.check(input.at, input.size, depth);
             Py_END_ALLOW_THREADS
         }
-        if (is_document)
-            document = document_of(state, data);
-        else
-            raise_made(PyObject_CallFunctionObjArgs(state->no_document, arguments[1], NULL));
+        document = is_document ? document_of(state, data) : refuse_document(state, depth);
     }
     Py_XDECREF(data);
     return document;
@@ -386,12 +393,14 @@ PyObject *native_to_string(PyObject *module, PyObject *data)
 
 #define FAST(name) { #name, (PyCFunction)(void (*)(void))native_##name, METH_FASTCALL, NULL }
 #define ONE(name) { #name, native_##name, METH_O, NULL }
+#define NO(name) { #name, native_##name, METH_NOARGS, NULL }
 
 static PyMethodDef functions[] = {
     FAST(bind), FAST(check), FAST(concat), FAST(contains), ONE(count), ONE(dumps), FAST(edit),
-    FAST(item), ONE(key), ONE(kind), ONE(loads), FAST(member), FAST(merge_patch), ONE(names),
-    ONE(of), FAST(of_extension), ONE(pairs), FAST(parse), ONE(releases), FAST(select),
-    ONE(strip_nulls), ONE(to_canonical), ONE(to_pretty), ONE(to_string), ONE(value), ONE(values),
+    NO(end_uses), FAST(item), ONE(key), ONE(kind), ONE(loads), FAST(member), FAST(merge_patch),
+    ONE(names), NO(new_use), ONE(of), FAST(of_extension), ONE(pairs), FAST(parse), ONE(releases),
+    FAST(select), ONE(strip_nulls), ONE(to_canonical), ONE(to_pretty), ONE(to_string), ONE(value),
+    ONE(values),
     { NULL, NULL, 0, NULL },
 };
 
@@ -409,6 +418,7 @@ static int visit_state(PyObject *module, visitproc visit, void *arg)
     struct state *state = PyModule_GetState(module);
     if (!state) return 0;
     Py_VISIT(state->walk);
+    Py_VISIT(state->exported);
     for (size_t i = 0; i < COUNT_OF(objects); i++)
         Py_VISIT(*object_at(state, objects[i].offset));
     return 0;
@@ -420,6 +430,7 @@ static int clear_state(PyObject *module)
     if (!state) return 0;
     state->is_bound = false;
     Py_CLEAR(state->walk);
+    Py_CLEAR(state->exported);
     for (size_t i = 0; i < COUNT_OF(objects); i++)
         Py_CLEAR(*object_at(state, objects[i].offset));
     for (size_t i = 0; i < NAME_PLACES; i++)
@@ -429,10 +440,23 @@ static int clear_state(PyObject *module)
 
 static void free_state(void *module)
 {
+    struct state *state = PyModule_GetState(module);
     clear_state(module);
+    if (state) end_exporter(state);
 }
 
-static PyModuleDef_Slot slots[] = { { Py_mod_exec, (void *)prepare }, { 0, NULL } };
+static PyModuleDef_Slot slots[] = {
+    { Py_mod_exec, (void *)prepare },
+    /* All that it has is in its state, but for what guards the uses of Arrow's structs. */
+#if PY_VERSION_HEX >= 0x030C0000
+    { Py_mod_multiple_interpreters, Py_MOD_PER_INTERPRETER_GIL_SUPPORTED },
+#endif
+    /* What is in a list or a dict is read without a lock of its own. */
+#if PY_VERSION_HEX >= 0x030D0000
+    { Py_mod_gil, Py_MOD_GIL_USED },
+#endif
+    { 0, NULL },
+};
 
 static struct PyModuleDef definition = {
     PyModuleDef_HEAD_INIT, "kohiblad._native", NULL, sizeof (struct state), functions, slots,

@@ -76,6 +76,10 @@ struct state {
     PyObject *error_of, *fault_of, *no_document;
     PyObject *extension_of, *encode_other, *text_of_int, *text_of_decimal;
     PyObject *names[NAME_PLACES];
+    /* What others use of Arrow's structs, by the addresses of their uses, and what hands them out.
+     */
+    PyObject *exported;
+    struct exporter *exporter;
 };
 
 /* The state of the module. NULL with an exception: bind has not been called. */
@@ -145,6 +149,9 @@ bool depth_of(struct state *state, PyObject *given, size_t *depth);
 
 extern PyType_Spec walk_spec;
 
+/* Ends what hands out Arrow's structs, with the state. */
+void end_exporter(struct state *state);
+
 /* The functions of the module, as _native.pyi lists them. */
 PyObject *native_check(PyObject *module, PyObject *const *arguments, Py_ssize_t count);
 PyObject *native_concat(PyObject *module, PyObject *const *arguments, Py_ssize_t count);
@@ -163,6 +170,8 @@ PyObject *native_of(PyObject *module, PyObject *value);
 PyObject *native_of_extension(PyObject *module, PyObject *const *arguments, Py_ssize_t count);
 PyObject *native_pairs(PyObject *module, PyObject *data);
 PyObject *native_parse(PyObject *module, PyObject *const *arguments, Py_ssize_t count);
+PyObject *native_end_uses(PyObject *module, PyObject *unused);
+PyObject *native_new_use(PyObject *module, PyObject *unused);
 PyObject *native_releases(PyObject *module, PyObject *exported);
 PyObject *native_select(PyObject *module, PyObject *const *arguments, Py_ssize_t count);
 PyObject *native_strip_nulls(PyObject *module, PyObject *data);
