@@ -68,6 +68,15 @@ if cargo clippy --version > "$scratch/found" 2>&1; then
     run cargo clippy "${cargo[@]}" --all-targets -- --deny warnings
 fi
 run cargo build "${cargo[@]}" --no-default-features
+# The oldest compiler that Cargo.toml promises, which is that of Debian 12.
+oldest=$(sed -n 's/^rust-version = "\(.*\)"$/\1/p' Cargo.toml)
+old_cargo=${OLDEST_CARGO:-/usr/bin/cargo} old_rustc=${OLDEST_RUSTC:-/usr/bin/rustc}
+if "$old_rustc" --version 2> "$scratch/found" | grep -q "^rustc $oldest\."; then
+    run env RUSTC="$old_rustc" CARGO_TARGET_DIR="$scratch/oldest" "$old_cargo" build "${cargo[@]}" \
+        --all-targets
+else
+    note "without rustc $oldest, which is the Debian package rustc of bookworm"
+fi
 run env RUSTDOCFLAGS='--deny warnings' cargo doc "${cargo[@]}" --no-deps
 # As docs.rs does it, where no library is installed.
 run env -u KOHIBLAD_LIB_DIR DOCS_RS=1 PKG_CONFIG=false RUSTDOCFLAGS='--deny warnings' \
@@ -77,7 +86,7 @@ tests=$(sed -n 's/^test result: ok\. \([0-9]*\) passed.*/\1/p' "$scratch/tested"
     awk '{ sum += $1 } END { print sum + 0 }')
 [ "$tests" -gt 0 ] || fail 'no test was run'
 
-if command -v valgrind > "$scratch/found"; then
+if [ -z "${QUICK:-}" ] && command -v valgrind > "$scratch/found"; then
     # Rust's test harness keeps blocks to the end, which are no definite leaks.
     runner='valgrind --quiet --error-exitcode=1 --leak-check=full'
     runner+=' --show-leak-kinds=definite --errors-for-leak-kinds=definite'
@@ -85,6 +94,14 @@ if command -v valgrind > "$scratch/found"; then
         cargo test "${cargo[@]}" --test format --test depth --test lines --test memory \
         --test conversions
 fi
+
+note 'the types in README.md'
+sed -n 's/^| `\([a-z_0-9]*\)(.* | `\(.*\)` |$/\1 \2/p' README.md > "$scratch/types"
+[ "$(wc -l < "$scratch/types")" -gt 20 ] || fail 'README.md has no types'
+while read -r call type; do
+    sed -n "/^    pub fn $call[(<]/s/.* -> \(.*\) {$/\1/p" src/raw.rs | grep -qxF "$type" ||
+        fail "README.md has another type of $call"
+done < "$scratch/types"
 
 note 'the program of README.md'
 readme_block rust | diff - examples/readme.rs || fail 'README.md and examples/readme.rs differ'

@@ -153,7 +153,9 @@ under_valgrind() {
         || fail "valgrind: $(cat "$scratch/reported")"
     tests=$((tests + 1))
 }
-if command -v valgrind > "$scratch/found"; then
+if [ -n "${QUICK:-}" ]; then
+    echo 'without valgrind, as QUICK asks'
+elif command -v valgrind > "$scratch/found"; then
     for name in $scripts; do
         echo "tests/$name.sql under valgrind"
         under_valgrind sqlite3 -batch -cmd "PRAGMA encoding='UTF-16le'" \

@@ -1,5 +1,6 @@
 //! Calls on any bytes, of which nothing is known. None looks deeper than
-//! [`MAX_DEPTH`](crate::MAX_DEPTH): a document that nests deeper counts as bytes that are none.
+//! [`MAX_DEPTH`](crate::MAX_DEPTH), and than the stack of the thread carries
+//! ([`depth_left`](crate::depth_left)): a document that nests deeper counts as bytes that are none.
 
 use alloc::vec::Vec;
 use core::cmp::Ordering;
@@ -66,7 +67,7 @@ pub fn get(bytes: &[u8], name: &str) -> Result<Option<OwnedJsonb>, Error> {
 /// # Ok::<(), kohiblad::Error>(())
 /// ```
 pub fn compare(left: &[u8], right: &[u8]) -> Ordering {
-    ffi::compare(left, right)
+    ffi::compare(left, right, ffi::reading_depth())
 }
 
 /// The key of any bytes: keys are ordered as [`compare`] orders the bytes.
@@ -80,7 +81,7 @@ pub fn compare(left: &[u8], right: &[u8]) -> Ordering {
 ///
 /// - [`Error::OutOfMemory`]: an allocation failed.
 pub fn key(bytes: &[u8]) -> Result<ComparableKey, Error> {
-    ffi::key(bytes).map(ComparableKey)
+    ffi::key(bytes, ffi::reading_depth()).map(ComparableKey)
 }
 
 /// The numbers of the rows, from 0, in the order of [`compare`]; equal rows keep their order. Each

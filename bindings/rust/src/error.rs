@@ -43,7 +43,8 @@ pub enum Error {
     },
     /// An allocation failed.
     OutOfMemory,
-    /// More brackets of the text are open at once than the depth allows.
+    /// More brackets of the text are open at once than the depth allows, or the document nests
+    /// deeper than the stack of the thread carries.
     TooDeep,
     /// The value is of another kind.
     OtherKind,

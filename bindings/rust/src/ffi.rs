@@ -9,14 +9,15 @@
 //!   reference;
 //! - nobody writes the input during the call: it is borrowed;
 //! - the stack has room for the depth: each export that recurses takes one, which is at most
-//!   [`MAX_DEPTH`].
+//!   [`MAX_DEPTH`] and what [`depth_left`] says.
 //!
 //! "As above" in a comment names these four.
 
 use alloc::vec::Vec;
 use core::cmp::Ordering;
 
-use crate::{Error, MAX_DEPTH};
+use crate::stack::depth_left;
+use crate::{Error, EDIT_LEVEL_STACK, LEVEL_STACK, MAX_DEPTH, PATCH_LEVEL_STACK};
 
 const OK: u32 = 0;
 const NO_ROOM: u32 = 11;
@@ -60,6 +61,26 @@ pub(crate) struct Cursor {
     index: u64,
     key: u64,
     value: u64,
+}
+
+/// The attributes of a thread: 56 bytes on x86-64, and 64 on aarch64.
+#[cfg(feature = "std")]
+#[repr(C)]
+#[derive(Default)]
+struct ThreadAttributes {
+    words: [u64; 8],
+}
+
+#[cfg(feature = "std")]
+extern "C" {
+    fn pthread_self() -> usize;
+    fn pthread_getattr_np(thread: usize, attributes: *mut ThreadAttributes) -> i32;
+    fn pthread_attr_getstack(
+        attributes: *const ThreadAttributes,
+        start: *mut *mut u8,
+        size: *mut usize,
+    ) -> i32;
+    fn pthread_attr_destroy(attributes: *mut ThreadAttributes) -> i32;
 }
 
 /// Why a text is no JSON, and where.
@@ -607,22 +628,53 @@ fn all_written(
     Ok(out)
 }
 
-/// What an export makes of bytes within a depth, which is at most [`MAX_DEPTH`].
+/// How many bytes of a document a level takes at least, but for the last one.
+const LEVEL_SIZE: usize = 8;
+
+/// How deep calls look that read a document.
+pub(crate) fn reading_depth() -> usize {
+    depth_left(LEVEL_STACK)
+}
+
+/// The depth within which a call reads these documents that takes so much stack for each level.
+/// `TooDeep` if one nests deeper.
+pub(crate) fn fitting(level_stack: usize, documents: &[&[u8]]) -> Result<usize, Error> {
+    let depth = depth_left(level_stack);
+    let fits = |bytes: &&[u8]| {
+        depth == MAX_DEPTH || bytes.len() / LEVEL_SIZE < depth || check(bytes, depth)
+    };
+    match documents.iter().all(fits) {
+        true => Ok(depth),
+        false => Err(Error::TooDeep),
+    }
+}
+
+/// What an export makes of a document.
+fn of_document(export: Bounded, bytes: &[u8], first_room: usize) -> Result<Vec<u8>, Error> {
+    bounded(export, bytes, fitting(LEVEL_STACK, &[bytes])?, first_room)
+}
+
+/// What an export makes of bytes within a depth.
 fn bounded(
     export: Bounded,
     bytes: &[u8],
     depth: usize,
     first_room: usize,
 ) -> Result<Vec<u8>, Error> {
-    let depth = depth.min(MAX_DEPTH);
     all_written(first_room, |out, room, length| {
         // SAFETY: as above; each `Bounded` export requires that alone, and writes `length` bytes.
         unsafe { export(bytes.as_ptr(), bytes.len(), depth, out, room, length) }
     })
 }
 
-/// What an export makes of two documents.
-fn of_two(export: OfTwo, left: &[u8], right: &[u8], first_room: usize) -> Result<Vec<u8>, Error> {
+/// What an export makes of two documents, which takes so much stack for each level.
+fn of_two(
+    export: OfTwo,
+    level_stack: usize,
+    (left, right): (&[u8], &[u8]),
+    first_room: usize,
+) -> Result<Vec<u8>, Error> {
+    let depth = fitting(level_stack, &[left, right])?;
     all_written(first_room, |out, room, length| {
         // SAFETY: as above, of both; each `OfTwo` export requires that alone, and writes `length`
         // bytes.
@@ -632,7 +684,7 @@ fn of_two(export: OfTwo, left: &[u8], right: &[u8], first_room: usize) -> Result
                 left.len(),
                 right.as_ptr(),
                 right.len(),
-                MAX_DEPTH,
+                depth,
                 out,
                 room,
                 length,
@@ -646,6 +698,7 @@ fn built(export: Building, rows: &Rows) -> Result<Vec<u8>, Error> {
     let (bytes, offsets) = (&rows.bytes, &rows.offsets);
     // An entry for each row, and the header.
     let first_room = bytes.len() + 4 * rows.len() + 4;
+    let depth = reading_depth().min(MAX_DEPTH - 1);
     all_written(first_room, |out, room, length| {
         // SAFETY: as above; each `Building` export requires that alone, and writes `length` bytes.
         unsafe {
@@ -654,7 +707,7 @@ fn built(export: Building, rows: &Rows) -> Result<Vec<u8>, Error> {
                 bytes.len(),
                 offsets.as_ptr(),
                 offsets.len(),
-                MAX_DEPTH - 1,
+                depth,
                 out,
                 room,
                 length,
@@ -676,6 +729,27 @@ fn part_at<'a>(bytes: &'a [u8], place: &Place) -> Part<'a> {
     }
 }
 
+/// The addresses of the stack of the thread; none if they are not to be had.
+#[cfg(feature = "std")]
+pub(crate) fn stack_of_thread() -> core::ops::Range<usize> {
+    let mut attributes = ThreadAttributes::default();
+    let (mut start, mut size) = (core::ptr::null_mut(), 0);
+    // SAFETY: the attributes have at least the size and the alignment of the C library's, and are
+    // read and destroyed only if they were made.
+    unsafe {
+        if pthread_getattr_np(pthread_self(), &mut attributes) != 0 {
+            return 0..0;
+        }
+        let status = pthread_attr_getstack(&attributes, &mut start, &mut size);
+        pthread_attr_destroy(&mut attributes);
+        if status != 0 {
+            return 0..0;
+        }
+    }
+    let start = start as usize;
+    start..start + size
+}
+
 pub(crate) fn version() -> u32 {
     // SAFETY: the call takes nothing.
     unsafe { kohiblad_version() }
@@ -692,15 +766,17 @@ pub(crate) fn status_name(status: u32) -> alloc::string::String {
 
 pub(crate) fn check(bytes: &[u8], depth: usize) -> bool {
     // SAFETY: as above.
-    unsafe { kohiblad_check(bytes.as_ptr(), bytes.len(), depth.min(MAX_DEPTH)) }
+    unsafe { kohiblad_check(bytes.as_ptr(), bytes.len(), depth.min(reading_depth())) }
 }
 
-pub(crate) fn is_canonical(bytes: &[u8]) -> bool {
+pub(crate) fn is_canonical(bytes: &[u8]) -> Result<bool, Error> {
+    let depth = fitting(LEVEL_STACK, &[bytes])?;
     // SAFETY: as above.
-    unsafe { kohiblad_is_canonical(bytes.as_ptr(), bytes.len(), MAX_DEPTH) }
+    Ok(unsafe { kohiblad_is_canonical(bytes.as_ptr(), bytes.len(), depth) })
 }
 
-pub(crate) fn compare(left: &[u8], right: &[u8]) -> Ordering {
+/// The order of documents within a depth, and of bytes that are none.
+pub(crate) fn compare(left: &[u8], right: &[u8], depth: usize) -> Ordering {
     // SAFETY: as above, of both.
     let sign = unsafe {
         kohiblad_compare(
@@ -708,7 +784,7 @@ pub(crate) fn compare(left: &[u8], right: &[u8]) -> Ordering {
             left.len(),
             right.as_ptr(),
             right.len(),
-            MAX_DEPTH,
+            depth,
         )
     };
     sign.cmp(&0)
@@ -952,7 +1028,7 @@ pub(crate) fn of_extension(fields: &Fields<'_>) -> Result<Vec<u8>, Error> {
 }
 
 pub(crate) fn parse(text: &[u8], depth: usize, exponents: Exponents) -> Result<Vec<u8>, Error> {
-    let depth = depth.min(MAX_DEPTH);
+    let depth = depth.min(reading_depth());
     let (bytes, size) = (text.as_ptr(), text.len());
     // The header: the result is shorter than so many times the text plus 8 bytes.
     let most = match exponents {
@@ -973,7 +1049,7 @@ pub(crate) fn parse(text: &[u8], depth: usize, exponents: Exponents) -> Result<V
 /// Why a text is no JSON, and where; `None` if it is JSON.
 pub(crate) fn text_fault(text: &[u8], depth: usize, exponents: Exponents) -> Option<Error> {
     let (bytes, size) = (text.as_ptr(), text.len());
-    let depth = depth.min(MAX_DEPTH);
+    let depth = depth.min(reading_depth());
     // SAFETY: as above.
     let fault = unsafe { kohiblad_text_fault(bytes, size, depth, exponents as u32) };
     // The offset is in the text, so it fits a `usize`.
@@ -983,18 +1059,19 @@ pub(crate) fn text_fault(text: &[u8], depth: usize, exponents: Exponents) -> Opt
 /// The classes of what may come where a text is no JSON, 0 if an allocation fails.
 pub(crate) fn text_expected(text: &[u8], depth: usize, exponents: Exponents) -> u32 {
     let (bytes, size) = (text.as_ptr(), text.len());
-    let depth = depth.min(MAX_DEPTH);
+    let depth = depth.min(reading_depth());
     // SAFETY: as above.
     unsafe { kohiblad_text_expected(bytes, size, depth, exponents as u32) }.classes
 }
 
 pub(crate) fn to_string(bytes: &[u8]) -> Result<Vec<u8>, Error> {
-    bounded(kohiblad_print, bytes, MAX_DEPTH, bytes.len())
+    of_document(kohiblad_print, bytes, bytes.len())
 }
 
 /// The compact text of a part.
 pub(crate) fn text_of_part(part: Part<'_>) -> Result<Vec<u8>, Error> {
     let payload = part.payload;
+    let depth = reading_depth();
     all_written(payload.len() + FIRST_ROOM, |out, room, length| {
         // SAFETY: as above, of the payload; the call writes `length` bytes.
         unsafe {
@@ -1002,7 +1079,7 @@ pub(crate) fn text_of_part(part: Part<'_>) -> Result<Vec<u8>, Error> {
                 part.entry_type,
                 payload.as_ptr(),
                 payload.len(),
-                MAX_DEPTH,
+                depth,
                 out,
                 room,
                 length,
@@ -1012,36 +1089,43 @@ pub(crate) fn text_of_part(part: Part<'_>) -> Result<Vec<u8>, Error> {
 }
 
 pub(crate) fn to_pretty(bytes: &[u8]) -> Result<Vec<u8>, Error> {
-    bounded(kohiblad_pretty, bytes, MAX_DEPTH, 2 * bytes.len())
+    of_document(kohiblad_pretty, bytes, 2 * bytes.len())
 }
 
 pub(crate) fn to_canonical(bytes: &[u8]) -> Result<Vec<u8>, Error> {
-    bounded(kohiblad_canonical, bytes, MAX_DEPTH, bytes.len())
+    of_document(kohiblad_canonical, bytes, bytes.len())
 }
 
-pub(crate) fn key(bytes: &[u8]) -> Result<Vec<u8>, Error> {
-    bounded(kohiblad_key, bytes, MAX_DEPTH, bytes.len())
+/// The key of a document within a depth, and of bytes that are none.
+pub(crate) fn key(bytes: &[u8], depth: usize) -> Result<Vec<u8>, Error> {
+    bounded(kohiblad_key, bytes, depth, bytes.len())
 }
 
 /// Writes the beginning of the key; returns the length of the whole.
-pub(crate) fn key_cut(bytes: &[u8], out: &mut [u8]) -> usize {
+pub(crate) fn key_cut(bytes: &[u8], out: &mut [u8]) -> Result<usize, Error> {
+    let depth = fitting(LEVEL_STACK, &[bytes])?;
     let mut length = 0;
     // SAFETY: as above, of the bytes and the buffer. The status is always `OK`.
     unsafe {
         kohiblad_key_cut(
             bytes.as_ptr(),
             bytes.len(),
-            MAX_DEPTH,
+            depth,
             out.as_mut_ptr(),
             out.len(),
             &mut length,
         )
     };
-    length
+    Ok(length)
 }
 
 pub(crate) fn member_key(bytes: &[u8], names: &[u8]) -> Result<Vec<u8>, Error> {
-    of_two(kohiblad_member_key, bytes, names, bytes.len())
+    of_two(
+        kohiblad_member_key,
+        LEVEL_STACK,
+        (bytes, names),
+        bytes.len(),
+    )
 }
 
 pub(crate) fn build_array(rows: &Rows) -> Result<Vec<u8>, Error> {
@@ -1053,6 +1137,7 @@ pub(crate) fn build_object(rows: &Rows) -> Result<Vec<u8>, Error> {
 }
 
 pub(crate) fn contains(left: &[u8], right: &[u8], steps: usize) -> Result<bool, Error> {
+    let depth = fitting(LEVEL_STACK, &[left, right])?;
     // SAFETY: as above, of both.
     let truth = unsafe {
         kohiblad_contains(
@@ -1060,7 +1145,7 @@ pub(crate) fn contains(left: &[u8], right: &[u8], steps: usize) -> Result<bool, 
             left.len(),
             right.as_ptr(),
             right.len(),
-            MAX_DEPTH,
+            depth,
             steps,
         )
     };
@@ -1083,6 +1168,7 @@ pub(crate) fn exists_all(bytes: &[u8], names: &[u8]) -> Result<bool, Error> {
 }
 
 fn asked(export: Asking, left: &[u8], right: &[u8]) -> Result<bool, Error> {
+    let depth = fitting(LEVEL_STACK, &[left, right])?;
     // SAFETY: as above, of both.
     let truth = unsafe {
         export(
@@ -1090,7 +1176,7 @@ fn asked(export: Asking, left: &[u8], right: &[u8]) -> Result<bool, Error> {
             left.len(),
             right.as_ptr(),
             right.len(),
-            MAX_DEPTH,
+            depth,
         )
     };
     tested(truth.status)?;
@@ -1101,22 +1187,22 @@ fn asked(export: Asking, left: &[u8], right: &[u8]) -> Result<bool, Error> {
 pub(crate) fn concat(left: &[u8], right: &[u8]) -> Result<Vec<u8>, Error> {
     // A header, and entries of values that become items.
     let first_room = left.len() + right.len() + 12;
-    of_two(kohiblad_concat, left, right, first_room)
+    of_two(kohiblad_concat, EDIT_LEVEL_STACK, (left, right), first_room)
 }
 
 /// The result nests no deeper than the deeper of both.
 pub(crate) fn merge_patch(target: &[u8], patch: &[u8]) -> Result<Vec<u8>, Error> {
     of_two(
         kohiblad_merge_patch,
-        target,
-        patch,
+        PATCH_LEVEL_STACK,
+        (target, patch),
         target.len() + patch.len(),
     )
 }
 
 /// The result nests no deeper than the document.
 pub(crate) fn strip_nulls(bytes: &[u8]) -> Result<Vec<u8>, Error> {
-    bounded(kohiblad_strip_nulls, bytes, MAX_DEPTH, bytes.len())
+    of_document(kohiblad_strip_nulls, bytes, bytes.len())
 }
 
 /// Which members are kept.
@@ -1128,6 +1214,7 @@ pub(crate) enum Kept {
 
 /// The result nests no deeper than the document.
 pub(crate) fn pick(bytes: &[u8], names: &[u8], kept: Kept) -> Result<Vec<u8>, Error> {
+    let depth = fitting(LEVEL_STACK, &[bytes, names])?;
     all_written(bytes.len(), |out, room, length| {
         // SAFETY: as above, of the bytes and the names; the call writes `length` bytes.
         unsafe {
@@ -1137,7 +1224,7 @@ pub(crate) fn pick(bytes: &[u8], names: &[u8], kept: Kept) -> Result<Vec<u8>, Er
                 names.as_ptr(),
                 names.len(),
                 kept as u32,
-                MAX_DEPTH,
+                depth,
                 out,
                 room,
                 length,
@@ -1148,9 +1235,10 @@ pub(crate) fn pick(bytes: &[u8], names: &[u8], kept: Kept) -> Result<Vec<u8>, Er
 
 /// `None` if the document is no object.
 pub(crate) fn object_keys(bytes: &[u8]) -> Result<Option<Vec<u8>>, Error> {
+    let depth = fitting(LEVEL_STACK, &[bytes])?;
     let (status, keys) = written(bytes.len(), |out, room, length| {
         // SAFETY: as above; the call writes `length` bytes.
-        unsafe { kohiblad_object_keys(bytes.as_ptr(), bytes.len(), MAX_DEPTH, out, room, length) }
+        unsafe { kohiblad_object_keys(bytes.as_ptr(), bytes.len(), depth, out, room, length) }
     })?;
     optional(status, || keys)
 }
@@ -1158,15 +1246,25 @@ pub(crate) fn object_keys(bytes: &[u8]) -> Result<Option<Vec<u8>>, Error> {
 /// The result of these three may nest one level deeper than [`MAX_DEPTH`], if the first document is
 /// no array.
 pub(crate) fn array_distinct(bytes: &[u8]) -> Result<Vec<u8>, Error> {
-    bounded(kohiblad_array_distinct, bytes, MAX_DEPTH, bytes.len() + 4)
+    of_document(kohiblad_array_distinct, bytes, bytes.len() + 4)
 }
 
 pub(crate) fn array_intersection(left: &[u8], right: &[u8]) -> Result<Vec<u8>, Error> {
-    of_two(kohiblad_array_intersection, left, right, left.len() + 8)
+    of_two(
+        kohiblad_array_intersection,
+        LEVEL_STACK,
+        (left, right),
+        left.len() + 8,
+    )
 }
 
 pub(crate) fn array_except(left: &[u8], right: &[u8]) -> Result<Vec<u8>, Error> {
-    of_two(kohiblad_array_except, left, right, left.len() + 8)
+    of_two(
+        kohiblad_array_except,
+        LEVEL_STACK,
+        (left, right),
+        left.len() + 8,
+    )
 }
 
 pub(crate) fn array_overlap(left: &[u8], right: &[u8]) -> Result<bool, Error> {
@@ -1184,6 +1282,7 @@ pub(crate) enum Edit {
 /// The result may nest as deep as the path is long and the value nests together. No value is read
 /// to remove.
 pub(crate) fn edit(bytes: &[u8], path: &[u8], edit: Edit, value: &[u8]) -> Result<Vec<u8>, Error> {
+    let depth = fitting(EDIT_LEVEL_STACK, &[bytes, path, value])?;
     let first_room = bytes.len() + path.len() + value.len();
     all_written(first_room, |out, room, length| {
         // SAFETY: as above, of the bytes, the path and the value; the call writes `length` bytes.
@@ -1196,7 +1295,7 @@ pub(crate) fn edit(bytes: &[u8], path: &[u8], edit: Edit, value: &[u8]) -> Resul
                 edit as u32,
                 value.as_ptr(),
                 value.len(),
-                MAX_DEPTH,
+                depth,
                 out,
                 room,
                 length,
@@ -1207,6 +1306,7 @@ pub(crate) fn edit(bytes: &[u8], path: &[u8], edit: Edit, value: &[u8]) -> Resul
 
 /// The value at the end of a path, which is a document.
 pub(crate) fn get_path<'a>(bytes: &'a [u8], path: &[u8]) -> Result<Option<Part<'a>>, Error> {
+    let depth = fitting(LEVEL_STACK, &[bytes, path])?;
     // SAFETY: as above, of the bytes and the path.
     let place = unsafe {
         kohiblad_get_path(
@@ -1214,7 +1314,7 @@ pub(crate) fn get_path<'a>(bytes: &'a [u8], path: &[u8]) -> Result<Option<Part<'
             bytes.len(),
             path.as_ptr(),
             path.len(),
-            MAX_DEPTH,
+            depth,
         )
     };
     optional(place.status, || part_at(bytes, &place))
@@ -1226,6 +1326,7 @@ pub(crate) fn select<'a, T>(
     path: &str,
     made_of: impl Fn(Part<'a>) -> T,
 ) -> Result<Vec<T>, Error> {
+    let depth = fitting(LEVEL_STACK, &[bytes])?;
     select_by(bytes, made_of, |places, count| {
         // SAFETY: as above, of the bytes, the path and the buffer for the places.
         unsafe {
@@ -1234,7 +1335,7 @@ pub(crate) fn select<'a, T>(
                 bytes.len(),
                 path.as_ptr(),
                 path.len(),
-                MAX_DEPTH,
+                depth,
                 places.as_mut_ptr(),
                 places.capacity(),
                 count,
@@ -1250,6 +1351,7 @@ pub(crate) fn select_within<'a, T>(
     steps: usize,
     made_of: impl Fn(Part<'a>) -> T,
 ) -> Result<Vec<T>, Error> {
+    let depth = fitting(LEVEL_STACK, &[bytes])?;
     select_by(bytes, made_of, |places, count| {
         // SAFETY: as above, of the bytes, the path and the buffer for the places.
         unsafe {
@@ -1258,7 +1360,7 @@ pub(crate) fn select_within<'a, T>(
                 bytes.len(),
                 path.as_ptr(),
                 path.len(),
-                MAX_DEPTH,
+                depth,
                 steps,
                 places.as_mut_ptr(),
                 places.capacity(),
@@ -1296,6 +1398,7 @@ fn select_by<'a, T>(
 }
 
 pub(crate) fn index_keys(bytes: &[u8]) -> Result<Vec<u64>, Error> {
+    let depth = fitting(LEVEL_STACK, &[bytes])?;
     // There is at most one for each four bytes.
     let mut keys = with_room(bytes.len() / 4)?;
     let mut count = 0;
@@ -1304,7 +1407,7 @@ pub(crate) fn index_keys(bytes: &[u8]) -> Result<Vec<u64>, Error> {
         kohiblad_index_keys(
             bytes.as_ptr(),
             bytes.len(),
-            MAX_DEPTH,
+            depth,
             keys.as_mut_ptr(),
             keys.capacity(),
             &mut count,
@@ -1322,6 +1425,7 @@ pub(crate) fn index_keys(bytes: &[u8]) -> Result<Vec<u64>, Error> {
 }
 
 pub(crate) fn sort(rows: &Rows) -> Result<Vec<usize>, Error> {
+    let depth = reading_depth();
     let count = rows.len();
     let mut order = with_room(count)?;
     // SAFETY: as above, of the rows, their offsets and the buffer for the order.
@@ -1331,7 +1435,7 @@ pub(crate) fn sort(rows: &Rows) -> Result<Vec<usize>, Error> {
             rows.bytes.len(),
             rows.offsets.as_ptr(),
             rows.offsets.len(),
-            MAX_DEPTH,
+            depth,
             order.as_mut_ptr(),
             order.capacity(),
         )

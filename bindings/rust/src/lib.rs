@@ -14,10 +14,10 @@
 //! ```
 //!
 //! [`RawJsonb`] (borrowed) and [`OwnedJsonb`] (owned) are documents, known to be: they are made by
-//! one check, by a parse or by a builder, and nest at most [`MAX_DEPTH`] deep. So their calls
-//! return no error because of the bytes, and need no more stack than that depth takes. Bytes of
-//! which nothing is known are a `&[u8]`: check them by [`RawJsonb::new`], or use the calls of the
-//! module [`bytes`].
+//! one check, by a parse or by a builder, and nest at most [`MAX_DEPTH`] deep, and no deeper than
+//! the stack of the thread carries ([`depth_left`]). So their calls return no error because of the
+//! bytes. Bytes of which nothing is known are a `&[u8]`: check them by [`RawJsonb::new`], or use
+//! the calls of the module [`bytes`].
 //!
 //! Documents are changed without unpacking, by [`RawJsonb::set`], [`insert`](RawJsonb::insert),
 //! [`remove`](RawJsonb::remove), [`concat`](RawJsonb::concat),
@@ -58,6 +58,7 @@ mod node;
 mod owned;
 mod path;
 mod raw;
+mod stack;
 mod words;
 
 pub use children::{Items, Members};
@@ -67,6 +68,7 @@ pub use node::{ExtensionValue, Kind, Node, Number};
 pub use owned::OwnedJsonb;
 pub use path::Path;
 pub use raw::RawJsonb;
+pub use stack::depth_left;
 pub use words::{fault_words, fault_words_with_exponents};
 
 /// How deep a document or a text may nest. A scalar has depth 0, an array or object one more than
@@ -76,16 +78,16 @@ pub use words::{fault_words, fault_words_with_exponents};
 /// take at most 1,008 KB of its stack, and [`set`](RawJsonb::set), [`insert`](RawJsonb::insert),
 /// [`remove`](RawJsonb::remove) and [`concat`](RawJsonb::concat) 2,008 KB, which leaves 40 KB for
 /// the frames of the program. [`merge_patch`](RawJsonb::merge_patch) takes 2,383 KB: a thread of
-/// 2 MiB has enough for 800 levels. Where less is left, give [`RawJsonb::within`] and
-/// [`OwnedJsonb::parse`] the depth that fits: for each level calls take [`LEVEL_STACK`],
-/// [`EDIT_LEVEL_STACK`] or [`PATCH_LEVEL_STACK`], and beside them [`CALL_STACK`].
+/// 2 MiB has enough for 800 levels. Where less is left, calls look as deep as it carries, which
+/// [`depth_left`] says: for each level they take [`LEVEL_STACK`], [`EDIT_LEVEL_STACK`] or
+/// [`PATCH_LEVEL_STACK`], and beside them [`CALL_STACK`].
 ///
 /// ```
 /// use kohiblad::{CALL_STACK, EDIT_LEVEL_STACK, LEVEL_STACK, MAX_DEPTH};
 ///
 /// assert!(CALL_STACK + MAX_DEPTH * LEVEL_STACK < 1 << 20);
 /// assert!(CALL_STACK + MAX_DEPTH * EDIT_LEVEL_STACK < 2 << 20);
-/// let left = 512 << 10;
+/// let left: usize = 512 << 10;
 /// assert_eq!((left - CALL_STACK) / LEVEL_STACK, 504);
 /// assert_eq!((left - CALL_STACK) / EDIT_LEVEL_STACK, 252);
 /// ```

@@ -1,4 +1,5 @@
 use alloc::string::String;
+use core::fmt;
 
 use crate::raw::known;
 use crate::{ffi, Error, OwnedJsonb, RawJsonb};
@@ -56,6 +57,18 @@ impl Number {
         let (digits, scale) = ffi::number(bytes)?;
         let scale = u8::try_from(scale).expect("a scale has 8 bits");
         Ok(Number { digits, scale })
+    }
+}
+
+/// The digits, as JSON has them: `1.50` of 150 and the scale 2.
+impl fmt::Display for Number {
+    fn fmt(&self, f: &mut fmt::Formatter<'_>) -> fmt::Result {
+        let scale = usize::from(self.scale);
+        let digits = alloc::format!("{:0>1$}", self.digits.unsigned_abs(), scale + 1);
+        let (whole, fraction) = digits.split_at(digits.len() - scale);
+        let sign = if self.digits < 0 { "-" } else { "" };
+        let point = if scale > 0 { "." } else { "" };
+        write!(f, "{sign}{whole}{point}{fraction}")
     }
 }
 
@@ -285,6 +298,33 @@ impl<'a> Node<'a> {
                 Node::Extension(ExtensionValue::of(&fields, &payload[1..]))
             }
             other => unreachable!("no entry has the type {other:#x}"),
+        }
+    }
+}
+
+/// A text without quotes and escapes, and an extension value without quotes; of all others the JSON
+/// text, which `{:#}` indents.
+///
+/// ```
+/// let row = kohiblad::OwnedJsonb::parse(r#"{"town": "Bergen", "price": 1.50, "of": [1]}"#, 64)?;
+/// let shown: Vec<_> = row.as_raw().members().unwrap().map(|(_, value)| value.to_string()).collect();
+/// assert_eq!(shown, ["[1]", "1.50", "Bergen"]);
+/// # Ok::<(), kohiblad::Error>(())
+/// ```
+impl fmt::Display for Node<'_> {
+    fn fmt(&self, f: &mut fmt::Formatter<'_>) -> fmt::Result {
+        match self {
+            Node::Null => f.write_str("null"),
+            Node::Boolean(value) => write!(f, "{value}"),
+            Node::Number(number) => write!(f, "{number}"),
+            Node::String(text) => f.write_str(text),
+            Node::Extension(value) => {
+                let document = OwnedJsonb::of(*value).map_err(|_| fmt::Error)?;
+                let text = document.as_raw().compact_text().map_err(|_| fmt::Error)?;
+                // It is a JSON string without escapes.
+                f.write_str(&text[1..text.len() - 1])
+            }
+            Node::Container(document) => fmt::Display::fmt(document, f),
         }
     }
 }

@@ -5,14 +5,15 @@ use core::fmt;
 use core::hash::{Hash, Hasher};
 
 use crate::node::text_of;
+use crate::stack::depth_left;
 use crate::{
     ffi, ComparableKey, Error, ExtensionValue, Items, Kind, Members, Node, Number, OwnedJsonb,
-    Path, MAX_DEPTH,
+    Path, EDIT_LEVEL_STACK, LEVEL_STACK, MAX_DEPTH,
 };
 
 /// The result of a call that can only fail for bytes that are no document.
 pub(crate) fn known<T>(result: Result<T, Error>) -> T {
-    result.expect("the bytes were checked")
+    result.expect("the bytes were checked, and fit the stack")
 }
 
 /// A text that the library wrote, which is UTF-8.
@@ -385,7 +386,7 @@ impl<'a> RawJsonb<'a> {
 
     /// Whether each value is in the one form that is written today.
     pub fn is_canonical(&self) -> bool {
-        ffi::is_canonical(self.bytes)
+        known(ffi::is_canonical(self.bytes))
     }
 
     /// The canonical document of the same value, which is equal to this one.
@@ -798,7 +799,8 @@ impl<'a> RawJsonb<'a> {
         }
         // The result nests no deeper than the document, or than the path and the value. It is
         // bounded before the edit, which takes stack for each level of it.
-        if !ffi::check(value, MAX_DEPTH - steps) {
+        let depth = depth_left(EDIT_LEVEL_STACK);
+        if steps > depth || !ffi::check(value, depth - steps) {
             return Err(Error::InvalidJsonb);
         }
         let path = path.to_document()?;
@@ -834,7 +836,8 @@ impl<'a> RawJsonb<'a> {
     ///
     /// - [`Error::OutOfMemory`]: an allocation failed.
     pub fn key(&self) -> Result<ComparableKey, Error> {
-        ffi::key(self.bytes).map(ComparableKey)
+        let depth = ffi::fitting(LEVEL_STACK, &[self.bytes])?;
+        ffi::key(self.bytes, depth).map(ComparableKey)
     }
 
     /// Writes the first bytes of the [`key`](Self::key) to `out`, as many as there is room, and
@@ -849,7 +852,7 @@ impl<'a> RawJsonb<'a> {
     /// # Ok::<(), kohiblad::Error>(())
     /// ```
     pub fn key_cut(&self, out: &mut [u8]) -> usize {
-        ffi::key_cut(self.bytes, out)
+        known(ffi::key_cut(self.bytes, out))
     }
 
     /// The keys of some members in a row, which compare as the lists of the members' values. A
@@ -898,7 +901,8 @@ impl<'a> TryFrom<&'a [u8]> for RawJsonb<'a> {
 
 impl Ord for RawJsonb<'_> {
     fn cmp(&self, other: &Self) -> Ordering {
-        ffi::compare(self.bytes, other.bytes)
+        let depth = known(ffi::fitting(LEVEL_STACK, &[self.bytes, other.bytes]));
+        ffi::compare(self.bytes, other.bytes, depth)
     }
 }
 

@@ -96,16 +96,49 @@ fn words_found(text: &[u8]) -> String {
     match text {
         [] => return "the end".into(),
         [0xef, 0xbb, 0xbf, ..] => return "a byte order mark".into(),
-        [byte @ (..=0x1f | 0x7f), ..] => return format!("0x{byte:02x}"),
+        [byte @ (0x00..=0x1f | 0x7f), ..] => return format!("0x{byte:02x}"),
         _ => (),
     }
     let quote = if text[0] == b'\'' { '"' } else { '\'' };
     let size = text.iter().take_while(|byte| is_of_word(**byte)).count();
     let word = String::from_utf8_lossy(&text[..size.max(1)]);
     match word.char_indices().nth(MOST_QUOTED) {
-        Some((end, _)) => format!("{quote}{}..{quote}", &word[..end]),
-        None => format!("{quote}{word}{quote}"),
+        Some((end, _)) => format!("{quote}{}..{quote}", escaped(&word[..end])),
+        None => format!("{quote}{}{quote}", escaped(&word)),
     }
+}
+
+/// A text with escapes, as JSON has them, for the characters that a terminal may obey.
+fn escaped(text: &str) -> String {
+    let mut shown = String::with_capacity(text.len());
+    for character in text.chars() {
+        if is_escaped(character) {
+            for unit in character.encode_utf16(&mut [0; 2]) {
+                shown += &format!("\\u{unit:04x}");
+            }
+        } else {
+            shown.push(character);
+        }
+    }
+    shown
+}
+
+/// Whether a character has an escape: a control character, a separator of lines, and one that
+/// changes the direction or the look of the text around it.
+fn is_escaped(character: char) -> bool {
+    matches!(
+        character,
+        '\0'..='\x1f'
+            | '\x7f'..='\u{9f}'
+            | '\u{ad}'
+            | '\u{61c}'
+            | '\u{180e}'
+            | '\u{200b}'..='\u{200f}'
+            | '\u{2028}'..='\u{202e}'
+            | '\u{2060}'..='\u{206f}'
+            | '\u{feff}'
+            | '\u{e0000}'..='\u{e0fff}'
+    )
 }
 
 fn is_of_word(byte: u8) -> bool {

@@ -113,3 +113,30 @@ fn objects_are_made_of_keys_and_values() {
     let refused = OwnedJsonb::object_of([("a", 1), ("b", 2), ("a", 3)]);
     assert_eq!(refused, Err(Error::ObjectDuplicateKey));
 }
+
+#[test]
+fn nodes_are_shown_as_their_documents() {
+    for digits in [0, 7, -7, 150, -150, i128::MIN, i128::MAX] {
+        for scale in [0, 1, 2, 3, 38, 39, 255] {
+            let number = Number { digits, scale };
+            let text = OwnedJsonb::of(number).unwrap().to_string();
+            assert_eq!(number.to_string(), text);
+            assert_eq!(Node::Number(number).to_string(), text);
+        }
+    }
+    let array = OwnedJsonb::parse(r#"["a",1.50]"#, 1).unwrap();
+    for (node, text) in [
+        (Node::Null, "null"),
+        (true.into(), "true"),
+        ("say \"x\"\n".into(), "say \"x\"\n"),
+        ((&array).into(), r#"["a",1.50]"#),
+        (ExtensionValue::Date(-3).into(), "-3"),
+        (ExtensionValue::Binary(&[1, 0xab]).into(), "01ab"),
+    ] {
+        assert_eq!(node.to_string(), text);
+    }
+    assert_eq!(
+        format!("{:#}", Node::from(&array)),
+        "[\n  \"a\",\n  1.50\n]"
+    );
+}

@@ -1,7 +1,7 @@
 //! Deep nesting, in threads with the stack that `std::thread` gives, which is where tests run.
 
 use kohiblad::{bytes, Error, OwnedJsonb, Path, RawJsonb, CALL_STACK, MAX_DEPTH};
-use kohiblad::{EDIT_LEVEL_STACK, LEVEL_STACK, PATCH_LEVEL_STACK};
+use kohiblad::{depth_left, EDIT_LEVEL_STACK, LEVEL_STACK, PATCH_LEVEL_STACK};
 use std::thread;
 
 /// The text of arrays, or of objects, inside one another.
@@ -125,6 +125,69 @@ fn less_stack_holds_the_depths_of_the_page() {
         in_thread(left + OWN_FRAMES, depth, read);
         in_thread(left + OWN_FRAMES, depth_of_changes, change);
         in_thread(left + OWN_FRAMES, depth_of_patches, merge);
+    }
+}
+
+/// Documents of the greatest depth, on a stack that does not carry them: as they come in, and as
+/// other threads have made them.
+fn refuse_all(_: usize) {
+    for (open, close) in [("[", "]"), ("{\"a\":", "}")] {
+        let text = text(MAX_DEPTH, open, close);
+        assert_eq!(OwnedJsonb::parse(&text, MAX_DEPTH), Err(Error::TooDeep));
+        assert_eq!(text.parse::<OwnedJsonb>(), Err(Error::TooDeep));
+        let made = thread::Builder::new().stack_size(4 << 20);
+        let made = made.spawn(move || text.parse::<OwnedJsonb>().unwrap());
+        let made = made.unwrap().join().unwrap();
+        let refused = Some(Error::InvalidJsonb);
+        assert_eq!(RawJsonb::new(made.as_bytes()).err(), refused);
+        assert_eq!(OwnedJsonb::new(made.as_bytes().to_vec()).err(), refused);
+        assert!(!bytes::is_document(made.as_bytes()));
+        let (raw, refused) = (made.as_raw(), Some(Error::TooDeep));
+        let path = Path::new().index(0);
+        assert_eq!(raw.compact_text().err(), refused);
+        assert_eq!(raw.pretty_text().err(), refused);
+        assert_eq!(raw.key().err(), refused);
+        assert_eq!(raw.to_canonical().err(), refused);
+        assert_eq!(raw.contains(raw).err(), refused);
+        assert_eq!(raw.index_keys().err(), refused);
+        assert_eq!(raw.strip_nulls().err(), refused);
+        assert_eq!(raw.merge_patch(raw).err(), refused);
+        assert_eq!(raw.concat(raw).err(), refused);
+        assert_eq!(raw.set(&path, 1).err(), refused);
+        assert_eq!(raw.remove(&path).err(), refused);
+        assert_eq!(raw.get_path(&path).err(), refused);
+        assert_eq!(raw.select("$").err(), refused);
+        assert!(std::panic::catch_unwind(|| raw.cmp(&raw)).is_err());
+        assert!(std::panic::catch_unwind(|| raw.to_string()).is_err());
+        assert!(std::panic::catch_unwind(|| raw.is_canonical()).is_err());
+        assert_eq!(bytes::sorted_order([raw, raw]), Ok(vec![0, 1]));
+        assert!(bytes::compare(raw.as_bytes(), raw.as_bytes()).is_eq());
+    }
+}
+
+/// Runs in a thread that has no more stack than this. The C library gives a thread the stack of one
+/// that has ended, which may be larger: such a thread is held until another one has run.
+fn in_small_thread(stack: usize, run: fn(usize)) {
+    let thread = thread::Builder::new().stack_size(stack);
+    let run = move || match depth_left(1024) * 1024 < stack {
+        true => run(0),
+        false => in_small_thread(stack, run),
+    };
+    thread.spawn(run).unwrap().join().unwrap();
+}
+
+#[test]
+fn no_document_ends_a_thread() {
+    for stack in [96 << 10, 128 << 10, 256 << 10, 512 << 10] {
+        in_small_thread(stack, refuse_all);
+        in_small_thread(stack, |_| {
+            let depth = depth_left(LEVEL_STACK);
+            assert!(depth >= 16);
+            let deeper = text(depth + 1, "[", "]");
+            assert_eq!(deeper.parse::<OwnedJsonb>(), Err(Error::TooDeep));
+            // The frames of the test take some levels.
+            read(depth - 16);
+        });
     }
 }
 

@@ -38,6 +38,22 @@ fn words_of_faults() {
             ),
         ),
         (
+            "[\u{9b}2J\u{202e}c\u{2066}]",
+            "expected a value or ']' at byte 1, found '\\u009b2J\\u202ec\\u2066'",
+        ),
+        (
+            "[\u{e0041}\u{ad}\u{2028}\u{feff}\u{200f}\u{61c}\u{180e}]",
+            "expected a value or ']' at byte 1, found \
+             '\\udb40\\udc41\\u00ad\\u2028\\ufeff\\u200f\\u061c\\u180e'",
+        ),
+        (
+            &format!("[{}", "\u{85}".repeat(21)),
+            &format!(
+                "expected a value or ']' at byte 1, found '{}..'",
+                "\\u0085".repeat(20)
+            ),
+        ),
+        (
             "[12.]",
             "at byte 4 of a number that is unfinished or too long, in '12.'",
         ),

@@ -11,6 +11,8 @@ SELECT jb('[1]]');
 --! jb: InvalidJson: expected the end at byte 3, found ']'
 SELECT jb('NaN');
 --! jb: InvalidJson: expected a value at byte 0, found 'NaN'
+SELECT jb('[' || char(0x202e) || 'x' || char(0x9b) || ']');
+--! jb: InvalidJson: expected a value or ']' at byte 1, found '\u202ex\u009b'
 SELECT jb('01');
 --! jb: InvalidJson: expected '.', an exponent or the end at byte 1, found '1'
 SELECT jb('"' || char(0) || '"');
