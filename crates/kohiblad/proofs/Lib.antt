@@ -5,6 +5,7 @@ pub mod ExponentRules
 pub mod ReadLaws
 pub mod FoundPlaces
 pub mod KeyTestLaws
+pub mod KeyWriting
 pub mod LongTexts
 pub mod Lookups
 pub mod MadeDocuments

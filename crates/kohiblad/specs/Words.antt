@@ -31,6 +31,7 @@ pub use Rattle.jsonb.specs.Texts.{display_text, lined_text, other_text, plain_te
 pub use Rattle.jsonb.specs.Texts.{pretty_display_text}
 pub use Rattle.jsonb.specs.Within.{meaning_within}
 pub use Rattle.jsonb.specs.declared.entries.Entry.{Entry}
+pub use Rattle.jsonb_comparable.specs.KeyLaws.{IsKeyOf}
 pub use Rattle.jsonb_comparable.specs.TreeKey.{meaning_key}
 pub use Rattle.jsonb_functions.specs.IndexHash.{tree_hashes}
 pub use Rattle.jsonb_functions.specs.Joined.{joined}

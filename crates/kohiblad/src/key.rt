@@ -1,7 +1,7 @@
 //! Comparable keys: byte strings that sort as the documents do.
 
-ghost use Rattle.std.specs.Prelude.{◌≡◌};
-ghost use Rattle.kohiblad.specs.Words.{meaning_key, meaning_within, IsWrittenOut};
+ghost use Rattle.std.specs.Prelude.{◌≡◌, take};
+ghost use Rattle.kohiblad.specs.Words.{IsKeyOf, IsWrittenOut, meaning_key, meaning_within};
 
 use crate::answer::{code, hand_over, refuse};
 use jsonb::SortKey;
@@ -30,8 +30,11 @@ pub extern "C" fn kohiblad_key(
     out: &mut [u8],
     length: &mut usize,
 ) -> u32
+    // The key that is written compares with the keys of all bytes, and followed by them, as the
+    // bytes do.
     ensures { IsWrittenOut (meaning_key (meaning_within depth bytes.now)) out.old out.new length.new
-        result }
+        result
+        × (result ≡ 0 → IsKeyOf (meaning_within depth bytes.now) (take length.new out.new)) }
 {
     match ComparableKey::new(alloc, SortKey::within(bytes, depth)) {
         Ok(key) => hand_over(key.as_bytes(), out, length),
