@@ -35,8 +35,8 @@ pub fn extract<T: ColumnType>(
 }
 
 /// Appends the member of one more row; `None` if the row has no such member. After an error, which
-/// is `OutOfMemory`, the column is as before. It is so refused also if no document holds the
-/// member, which is never so of a member of a document.
+/// is `OutOfMemory`, the column is as before. It is so refused also if the member is to be kept,
+/// and the document that is made of it does not fit the format or is not read again as the member.
 #[tactic(auto, using(crate::proofs::DocumentLaws::some_bytes))]
 pub fn push_member<T: ColumnType>(
     alloc: Global,

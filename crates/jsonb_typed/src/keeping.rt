@@ -18,8 +18,8 @@ pub fn opened(member: Node<'_>) -> Node<'_>
     }
 }
 
-/// A document of the member, which is read again before it is returned. A member that no document
-/// holds is refused as `OutOfMemory`, the only error; a member of a document is never so.
+/// A document of the member, which is read again before it is returned. `OutOfMemory`, the only
+/// error, also if that document does not fit the format or is not read again as the member.
 pub fn document_of(alloc: Global, member: Node<'_>) -> Result<OwnedJsonb, Error>
     ensures means { IfOk result (λ owned. Doc (owned_bytes owned) (node_tree member.entry)) }
     ensures memory { IfErr result (λ e. e ≡ Error.OutOfMemory) }
