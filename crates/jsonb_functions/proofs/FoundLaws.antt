@@ -4,11 +4,14 @@ use Rattle.std.proofs.Common.{◌<◌, arith}
 use Rattle.std.specs.Prelude.{Option, Some, None, Bool, slice_get}
 use Rattle.jsonb_value.specs.Tree.{Tree, array, Trees, count}
 use Rattle.jsonb_value.specs.Value.{trees_of}
+use Rattle.jsonb.specs.ItemView.{ItemView}
 use Rattle.jsonb.specs.Node.{array_of, tree_list, item_at_index}
+use Rattle.jsonb.specs.StoredEntries.{IsItemFoundIn}
 use Rattle.jsonb_functions.specs.declared.path.Step.{Step}
 use Rattle.jsonb_functions.specs.declared.path.Step.TheVariants.{Key, Index, FromEnd, End}
 use Rattle.jsonb_functions.specs.Path.{item_place}
 use Rattle.jsonb_functions.specs.Found.{child_at, item_there, found_at}
+use Rattle.jsonb_functions.specs.FoundEntries.{IsChildIn, IsChildOf, IsFoundFrom, IsItemThere}
 
 count_listed : (ts : List Tree) → count (trees_of ts) ≡ length ts
 count_listed [] = refl
@@ -55,3 +58,45 @@ step_lost path rest s t e is = rw (e, ← is) refl
 pub found_here : (path : List Step) (t : Tree) → length path < 1 → found_at path t ≡ Some t
 found_here [] t h = refl
 found_here (s ∷ path) t h = absurd (omega (arith, h))
+
+-- The item of the entry of that child.
+child_in_array : (s : Step) (b : List ℕ) (ts : Trees) (found : Option ItemView)
+    → IsItemThere (item_place s (count ts)) b (array ts) found → IsChildIn s b (array ts) found
+child_in_array (Key k) b ts found h = h
+child_in_array (Index i) b ts found h = h
+child_in_array (FromEnd i) b ts found h = h
+child_in_array End b ts found h = h
+
+module _ (s : Step) (b : List ℕ) (t : Tree) (ts : List Tree) (is : t ≡ array_of ts) where
+  counted : (o : Option (ℕ × Bool)) → o ≡ item_place s (length ts)
+      → o ≡ item_place s (count (trees_of ts))
+  counted o e = rw (count_listed ts) e
+
+  pub item_entry : (m : ℕ) (there : Bool) (found : Option ItemView)
+      → Some (m, there) ≡ item_place s (length ts) → there ≡ true → IsItemFoundIn m b t found
+      → IsChildIn s b t found
+  item_entry m there found e held h =
+      let place = counted (Some (m, there)) e in
+      let at = rw is at h in
+      rw is (child_in_array s b (trees_of ts) found (rw (← place, held) at))
+
+  pub no_item_entry : (m : ℕ) (there : Bool)
+      → Some (m, there) ≡ item_place s (length ts) → there ≡ false → IsChildIn s b t None
+  no_item_entry m there e gone =
+      let place = counted (Some (m, there)) e in
+      rw is (child_in_array s b (trees_of ts) None (rw (← place, gone) refl))
+
+-- The item at the end of a path, whose first step leads to an item or nowhere.
+pub found_on : (path rest : List Step) (s : Step) (x y : ItemView) (found : Option ItemView)
+    → path ≡ s ∷ rest → IsChildOf s x (Some y) → IsFoundFrom rest y found
+    → IsFoundFrom path x found
+found_on path rest s x y found e is later = rw e (Some y, (is, later))
+
+pub found_nowhere : (path rest : List Step) (s : Step) (x : ItemView) → path ≡ s ∷ rest
+    → IsChildOf s x None → IsFoundFrom path x None
+found_nowhere path rest s x e is = rw e (None, (is, refl))
+
+pub found_item : (path : List Step) (x : ItemView) → length path < 1
+    → IsFoundFrom path x (Some x)
+found_item [] x h = refl
+found_item (s ∷ path) x h = absurd (omega (arith, h))

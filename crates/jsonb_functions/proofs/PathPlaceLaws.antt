@@ -3,7 +3,7 @@ use Rattle.std.proofs.Common.{◌≡◌, ℕ, zero, suc, ◌+◌, ◌-◌, ◌*�
 use Rattle.std.proofs.Common.{if◌then◌else◌, min, Bool, true, false, List, [], ◌∷◌, ◌++◌}
 use Rattle.std.proofs.Common.{length, map, flat_map, take, drop, slice_get, Option, None, Some}
 use Rattle.std.proofs.Common.{Result, Ok, Err, refl, sym, ap, ap₂, subst, ◌∙◌, inl, inr}
-use Rattle.std.proofs.Common.{arith, length-drop, get_or, zero-add}
+use Rattle.std.proofs.Common.{arith, length-drop, get_or, ne_eqb, zero-add}
 use Rattle.std.specs.Borrow.{Bor}
 use Rattle.std.specs.List.{sum_by}
 use Rattle.std.specs.Prelude.{option_map, option_to_list, nat_eq, slice_index_or, ⊤}
@@ -29,18 +29,22 @@ use Rattle.jsonb_codec.specs.Parts.{IsPayloadOf}
 use Rattle.jsonb_codec.specs.WordBytes.{header_at, word}
 use Rattle.jsonb.specs.Building.{key_codes}
 use Rattle.jsonb.specs.Children.{Pairwise}
-use Rattle.jsonb.specs.Entry.{entry_read, entry_there, placed_by, Code}
+use Rattle.jsonb.specs.Entry.{entry_at, entry_read, entry_there, placed_at, placed_by, Code}
 use Rattle.jsonb.specs.Entries.{Run, item_run, key_run}
 use Rattle.jsonb.specs.Entries.{placed_from, until_error, value_run}
+use Rattle.jsonb.specs.Item.{item_in, item_under, scalar_item}
+use Rattle.jsonb.specs.ItemView.{ItemView, raw}
 use Rattle.jsonb.specs.Node.{items_of, pair_list, tree_list, value_of_key}
 use Rattle.jsonb.specs.Lookup.{find_pair}
 use Rattle.jsonb.specs.Parts.{length_in}
 use Rattle.jsonb.specs.Steps.{◌>>=◌}
-use Rattle.jsonb.specs.StoredEntries.{AreCodesOf, AreMemberEntriesOf}
+use Rattle.jsonb.specs.StoredEntries.{AreCodesOf, AreMemberEntriesOf, entry_item}
 use Rattle.jsonb.specs.declared.entries.Entry.{Entry}
 use Rattle.jsonb.proofs.EntryTreeLaws.{entry_tree-is}
 use Rattle.jsonb.proofs.KindLaws.{At-entry, IsTag-type_of, container_cases, header_at-Scalar}
-use Rattle.jsonb.proofs.KindLaws.{header_at-array, header_at-object}
+use Rattle.jsonb.proofs.ItemLaws.{entry_at-Scalar}
+use Rattle.jsonb.proofs.KindLaws.{header_at-Doc, header_at-array, header_at-object, header_of_tree}
+use Rattle.jsonb.proofs.NodeLaws.{container_item}
 use Rattle.jsonb.proofs.Places.{At-after_word, At-left, jentry_at-At, take-At, within-At}
 use Rattle.jsonb.proofs.StoredEntryLaws.{array_holds, object_holds}
 use Rattle.jsonb_functions.specs.Contains.{items_or_none}
@@ -812,6 +816,41 @@ pub whole_tree : (bytes : List ℕ) (t : Tree) (place : Entry) → Doc bytes t
 whole_tree bytes t place doc found =
     entry_tree-is place.type_code (entry_there bytes place).payload t
     (whole_there bytes t place doc found).1
+
+-- The item of the entry at that place is the one that the bytes hold.
+pub whole_item : (b : List ℕ) (t : Tree) (place : Entry) (x : ItemView) → Doc b t
+    → Ok place ≡ whole_place b → entry_item (entry_there b place) ≡ Ok x → item_in b ≡ Ok x
+unfolding item_in scalar_item entry_at
+whole_item b t place x (inl (other, h)) found is =
+    let at : placed_at b 4 8 ≡ Ok place =
+    sym (ap (whole_under b) (header_at-Scalar b t h)) ∙ sym found in
+    let read : entry_at b 4 8 ≡ Ok (entry_there b place) = ap (entry_read b) at in
+    let stored : Code = record { type = type_of t; payload = h.payload } in
+    let both : ◌≡◌ {A = Result Code Error} (Ok (entry_there b place)) (Ok stored) =
+    sym read ∙ entry_at-Scalar b t h in
+    let same : entry_there b place ≡ stored = cc in
+    let type : place.type_code ≡ type_of t = ap (λ (c : Code). c.type) same in
+    rw (
+      header_at-Scalar b t h,
+      read,
+      ne_eqb place.type_code CONTAINER_TAG (λ e. other (sym type ∙ e)),
+    ) is
+whole_item b t place x (inr (container, h)) found is =
+    let doc : Doc b t = inr (container, h) in
+    let whole : Entry = record { type_code = CONTAINER_TAG; start = 0; length = length b } in
+    let header = header_at-Doc b t doc in
+    let under : whole_under b (Ok (header_of_tree t)) ≡ Ok whole =
+    container_cases (λ u. whole_under b (Ok (header_of_tree u)) ≡ Ok whole) t container
+    (λ ts. refl) (λ ps. refl) in
+    let there : ◌≡◌ {A = Result Entry Error} (Ok place) (Ok whole) =
+    found ∙ ap (whole_under b) header ∙ under in
+    let same : place ≡ whole = cc in
+    let held : entry_item (entry_there b whole) ≡ Ok (raw b) =
+    container_item CONTAINER_TAG (take (length b) b) b refl (sym (take-length b)) in
+    let in_header = container_cases (λ u. item_under (header_of_tree u) b ≡ Ok (raw b)) t container
+    (λ ts. refl) (λ ps. refl) in
+    let bytes : item_in b ≡ Ok (raw b) = rw header in_header in
+    bytes ∙ sym (sym is ∙ ap (λ p. entry_item (entry_there b p)) same ∙ held)
 
 -- What was appended to nothing.
 pub appended_alone : (path : List Selector) (b bytes : List ℕ) (place : Entry)

@@ -8,6 +8,7 @@ pub mod Edited
 pub mod EditSource
 pub mod Filter
 pub mod Found
+pub mod FoundEntries
 pub mod HashSink
 pub mod IndexHash
 pub mod IndexKeys

@@ -105,8 +105,8 @@ fn nodes_at<'a>(alloc: Global, bytes: &'a [u8], places: &[Entry]) -> Result<Vec<
     Ok(nodes)
 }
 
-// The position of a document's value.
-fn whole_of(document: Document<'_>) -> Entry
+/// The position of a document's value.
+pub fn whole_of(document: Document<'_>) -> Entry
     ensures is { whole_place (document_bytes document.entry) ≡ Ok result }
     ensures part { IsPart (document_bytes document.entry) result }
     ensures tree { tree_there (document_bytes document.entry) result
