@@ -1,6 +1,7 @@
 -- Faults of lines, and the lines that report them.
 use Rattle.std.specs.Prelude.{ℕ, suc, Bool, true, false, List, [], ◌∷◌, ◌++◌, codes, length}
 use Rattle.std.specs.Fmt.{decimal}
+use Rattle.kohiblad_shell.specs.Escapes.{escaped_text}
 use Rattle.kohiblad_shell.specs.Expected.{expected_text}
 use Rattle.kohiblad_shell.specs.declared.outcome.LineFault.{LineFault}
 use Rattle.kohiblad_shell.specs.declared.outcome.Reason.{Reason}
@@ -42,8 +43,9 @@ cut_after part = plain_fault (length part) Cut
 unfoldable pub reason_text : LineFault → List ℕ
 reason_text fault = reason_name fault.reason ++ expected_text fault.expected
 
--- The line that reports a fault, with its line feed: the name of the input, the number of the line
--- and of the byte, both counted from 1, the reason, and what could have come, if that is said.
+-- The line that reports a fault, with its line feed: the name of the input with escapes, the number
+-- of the line and of the byte, both counted from 1, the reason, and what could have come, if that
+-- is said.
 abbrev pub fault_line : List ℕ → ℕ → LineFault → List ℕ
-fault_line name number fault = name ++ codes ":" ++ decimal number ++ codes ":"
+fault_line name number fault = escaped_text name ++ codes ":" ++ decimal number ++ codes ":"
     ++ decimal (suc fault.offset) ++ codes ": " ++ reason_text fault ++ 10 ∷ []

@@ -1,9 +1,8 @@
 -- What stands for the values of a document where its bytes are shown.
-use Rattle.std.specs.Prelude.{◌==◌, ◌||◌, ◌&&◌, ◌+◌, ◌-◌, ◌/◌, ◌%◌, ℕ, Bool, false, not, nat_le}
-use Rattle.std.specs.Prelude.{nat_lt, List, [], ◌∷◌}
-use Rattle.std.specs.Prelude.{◌++◌, length, take, drop, codes, chars, decimal, flat_map, cond}
+use Rattle.std.specs.Prelude.{◌==◌, ◌&&◌, ◌+◌, ◌%◌, ℕ, Bool, false, not, nat_le}
+use Rattle.std.specs.Prelude.{List, [], ◌∷◌}
+use Rattle.std.specs.Prelude.{◌++◌, length, take, codes, chars, decimal, flat_map, cond}
 use Rattle.std.specs.Prelude.{if◌then◌else◌, Result, Ok, Err, encode_utf8_all}
-use Rattle.std.specs.Int.{w32, to_be_bytes}
 use Rattle.hex.specs.Hex.{encode_lower}
 use Rattle.jsonb_value.specs.declared.error.Error.{Error}
 use Rattle.jsonb_value.specs.NumCode.{number_payload}
@@ -15,6 +14,7 @@ use Rattle.jsonb_codec.specs.declared.constants.TheConstants.{STRING_TAG}
 use Rattle.jsonb_codec.specs.WordBytes.{header_at, word}
 use Rattle.jsonb.specs.Document.{tree_in}
 use Rattle.jsonb.specs.Texts.{display_text}
+use Rattle.kohiblad_shell.specs.Escapes.{shown_char}
 
 -- A comma before so many digits, if they are threes.
 abbrev pub comma_before : ℕ → List ℕ
@@ -28,30 +28,6 @@ grouped_digits (d ∷ ds) = d ∷ (comma_before (length ds) ++ grouped_digits ds
 -- A number in decimal digits with such commas.
 abbrev pub grouped_number : ℕ → List ℕ
 grouped_number n = grouped_digits (decimal n)
-
--- Whether a number is one of these, from the first to the last.
-abbrev pub is_between : ℕ → ℕ → ℕ → Bool
-is_between first last n = nat_le first n && nat_le n last
-
--- Whether a character has an escape: a control character, a separator of lines, and one that
--- changes the direction or the look of the text around it.
-abbrev pub is_escaped : ℕ → Bool
-is_escaped c = nat_le c 31 || is_between 127 159 c || c == 173 || c == 1564 || c == 6158
-    || is_between 8203 8207 c || is_between 8232 8238 c || is_between 8288 8303 c || c == 65279
-    || is_between 917504 921599 c
-
--- The escape of a unit of UTF-16, as JSON has it: four hexadecimal digits after `\u`.
-abbrev pub escaped_unit : ℕ → List ℕ
-escaped_unit unit = 92 ∷ (117 ∷ encode_lower (drop 2 (to_be_bytes w32 unit)))
-
--- The escape of a character: one unit, or two.
-abbrev pub escape : ℕ → List ℕ
-escape c = if nat_lt c 65536 then escaped_unit c
-    else escaped_unit (55296 + (c - 65536) / 1024) ++ escaped_unit (56320 + c % 1024)
-
--- A character, or its escape.
-abbrev pub shown_char : ℕ → List ℕ
-shown_char c = cond (is_escaped c) (escape c) (c ∷ [])
 
 -- These characters; of more than 60 the first 59 and an ellipsis.
 abbrev pub shortened : List ℕ → List ℕ

@@ -27,6 +27,8 @@ pub use Rattle.kohiblad_shell.specs.Arguments.{IsFlag, are_documents, is_pretty,
 pub use Rattle.kohiblad_shell.specs.Arguments.{IsMemory, IsScaled, IsSize, colors_of, digits_value}
 pub use Rattle.kohiblad_shell.specs.Arguments.{exponents_of, form_of, shows_of, stops_of, text_or}
 pub use Rattle.kohiblad_shell.specs.Arguments.{value_of, values_of}
+pub use Rattle.kohiblad_shell.specs.Escapes.{escape, escaped_text, escaped_unit, is_escaped}
+pub use Rattle.kohiblad_shell.specs.Escapes.{shown_char}
 pub use Rattle.kohiblad_shell.specs.Expected.{expected_text, listed_classes, mark_before}
 pub use Rattle.kohiblad_shell.specs.Faults.{bad_document, fault_line, is_cut, plain_fault}
 pub use Rattle.kohiblad_shell.specs.Faults.{reason_name, reason_text}
@@ -53,12 +55,12 @@ pub use Rattle.kohiblad_shell.specs.Surveys.{scale_lines, survey_lines, time_cou
 pub use Rattle.kohiblad_shell.specs.Surveys.{with_document}
 pub use Rattle.kohiblad_shell.specs.declared.input.Form.TheVariants.{Documents}
 pub use Rattle.kohiblad_shell.specs.declared.outcome.Unanswered.TheVariants.{OutOfMemory, Wrong}
-pub use Rattle.kohiblad_shell.specs.Titles.{container_name, escape, escaped_unit}
+pub use Rattle.kohiblad_shell.specs.Titles.{container_name}
 pub use Rattle.kohiblad_shell.specs.Titles.{extension_kind, extension_name, grouped_digits}
 pub use Rattle.kohiblad_shell.specs.Titles.{grouped_number}
-pub use Rattle.kohiblad_shell.specs.Titles.{header_title, is_escaped, is_old_form, opaque_name}
+pub use Rattle.kohiblad_shell.specs.Titles.{header_title, is_old_form, opaque_name}
 pub use Rattle.kohiblad_shell.specs.Titles.{kind_before, old_mark, quoted_key, scalar_document}
-pub use Rattle.kohiblad_shell.specs.Titles.{scalar_text, scalar_title, shortened, shown_char}
+pub use Rattle.kohiblad_shell.specs.Titles.{scalar_text, scalar_title, shortened}
 pub use Rattle.kohiblad_shell.specs.Titles.{shown_text, value_title}
 pub use Rattle.kohiblad_shell.specs.PartLines.{blanks, color_code, cut_line, cut_text, ended}
 pub use Rattle.kohiblad_shell.specs.PartLines.{entry_column, first_line, grouped_bytes, head_line}

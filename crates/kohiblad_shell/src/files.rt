@@ -5,7 +5,7 @@ use crate::extract::column_words;
 use crate::halt::Halt;
 use crate::input::Form;
 use crate::kind::{InputKind, input_kind};
-use crate::messages::name_kind;
+use crate::messages::{name_kind, tell};
 use crate::operation::{Job, Operation};
 use crate::output::Output;
 use crate::progress::{Metered, Progress};
@@ -65,7 +65,7 @@ pub fn open_file(rt: &HostRuntime, name: &str) -> Result<File, Halt> {
     match File::open(rt, name) {
         Ok(file) => Ok(file),
         Err(_) => {
-            let _ = eprintln!(rt; "kohiblad: cannot open {name}");
+            tell(rt, format!(in rt.alloc(); "cannot open {name}"));
             Err(Halt::Read)
         }
     }

@@ -3,6 +3,7 @@
 
 mod arguments;
 mod command;
+mod escape;
 mod expected;
 mod extract;
 mod files;

@@ -1,19 +1,35 @@
-//! What people are told on standard error.
+//! What people are told on standard error, with escapes for what a terminal might obey.
 
 ghost use Rattle.std.specs.Prelude.{◌≡◌};
 ghost use Rattle.kohiblad_shell.specs.Words.{halt_status, run_status};
 
+use crate::escape::escaped_text;
 use crate::halt::Halt;
 use crate::kind::InputKind;
 use crate::progress::{Progress, Reports};
 use crate::run::Summary;
 use crate::status::{Aim, MISUSE, halt_status, run_status};
 use crate::watch::Watch;
+use std::alloc::AllocError;
 use std::io::Stderr;
 
+/// Writes these words, with escapes, or that there is no memory for them.
+pub fn tell(rt: &HostRuntime, words: Result<String, AllocError>) {
+    let shown = match words {
+        Ok(words) => escaped_text(rt.alloc(), words.as_str()),
+        Err(error) => Err(error),
+    };
+    let _ = match shown {
+        Ok(shown) => eprintln!(rt; "kohiblad: {shown}"),
+        Err(_) => eprintln!(rt; "kohiblad: {}", Halt::Memory.reason()),
+    };
+}
+
 /// Reports wrong use.
-pub fn misuse(rt: &HostRuntime, what: &str) -> u8 {
-    let _ = eprintln!(rt; "kohiblad: {what}");
+pub fn misuse(rt: &HostRuntime, what: &str) -> u8
+    ensures { result ≡ MISUSE }
+{
+    tell(rt, String::from_str(rt.alloc(), what));
     MISUSE
 }
 
@@ -39,7 +55,7 @@ pub fn ended(rt: &HostRuntime, aim: Aim, outcome: Result<Summary, Halt>) -> u8
 
 /// Says that no row has a value at a path.
 pub fn notice(rt: &HostRuntime, path: &str) {
-    let _ = eprintln!(rt; "kohiblad: no row has a value at {path}");
+    tell(rt, format!(in rt.alloc(); "no row has a value at {path}"));
 }
 
 /// Says of which of these paths no row has a value, if there are rows and the run saw all of them.
@@ -57,7 +73,7 @@ pub fn notice_missed(rt: &HostRuntime, watch: &Watch<'_>, texts: &[&str]) {
 /// Says what an input is that has no rows.
 pub fn name_kind(rt: &HostRuntime, name: &str, kind: Option<InputKind>) {
     if let Some(kind) = kind {
-        let _ = eprintln!(rt; "kohiblad: {name}: {}", kind.words());
+        tell(rt, format!(in rt.alloc(); "{name}: {}", kind.words()));
     }
 }
 

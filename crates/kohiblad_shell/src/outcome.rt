@@ -4,6 +4,7 @@ ghost use Rattle.std.specs.Prelude.{◌≡◌, IfOk, IfErr, string_bytes};
 ghost use Rattle.kohiblad_shell.specs.Words.{IsAnswer, LineRule, OutOfMemory, plain_fault};
 ghost use Rattle.kohiblad_shell.specs.Words.{fault_line, is_cut, reason_name, reason_text};
 
+use crate::escape::escaped_text;
 use crate::expected::expected_text;
 use crate::halt::Halt;
 use std::alloc::{AllocError, Global};
@@ -108,15 +109,16 @@ pub trait LineWorker {
         ensures { IsAnswer (rule self.now) line.now result };
 }
 
-/// The line that reports a fault: the name of the input, the number of the line, that of the byte,
-/// both counted from 1, the reason, and what could have come there, if that is said.
+/// The line that reports a fault: the name of the input with escapes, the number of the line, that
+/// of the byte, both counted from 1, the reason, and what could have come there, if that is said.
 pub fn fault_text(alloc: Global, name: &str, number: u64, fault: LineFault) -> Result<String, Halt>
     ensures ok { IfOk result (λ text. string_bytes text ≡ fault_line name.now number fault) }
     ensures memory { IfErr result (λ e. e ≡ Halt.Memory) }
 {
     let byte = fault.offset as u128 + 1;
+    let shown = escaped_text(alloc, name)?;
     let reason = reason_text(alloc, fault)?;
-    Ok(format!(in alloc; "{name}:{number}:{byte}: {reason}\n")?)
+    Ok(format!(in alloc; "{shown}:{number}:{byte}: {reason}\n")?)
 }
 
 // Why a row is wrong, and what could have come there, if that is said.

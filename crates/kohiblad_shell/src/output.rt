@@ -1,6 +1,7 @@
 //! Where the rows of a command go: standard output, or a file that is there when it is whole.
 
 use crate::halt::{Halt, halt_of_write};
+use crate::messages::tell;
 use crate::status::{FAILURE, MISUSE};
 use crate::temporary::new_file;
 use std::fs::{self, File, OpenOptions};
@@ -51,14 +52,15 @@ impl<'a> Output<'a> {
         }
         for input in inputs {
             if is_one_file(rt, name, *input) {
-                let _ = eprintln!(rt; "kohiblad: {name} is the input: write to another file");
+                let what = "is the input: write to another file";
+                tell(rt, format!(in rt.alloc(); "{name} {what}"));
                 return Err(MISUSE);
             }
         }
         match open_target(rt, name) {
             Ok(output) => Ok(output),
             Err(_) => {
-                let _ = eprintln!(rt; "kohiblad: cannot write {name}");
+                tell(rt, format!(in rt.alloc(); "cannot write {name}"));
                 Err(FAILURE)
             }
         }
@@ -75,7 +77,8 @@ impl<'a> Output<'a> {
             match fs::rename(rt, part.name.as_str(), part.target.as_str()) {
                 Ok(()) => return Ok(()),
                 Err(_) => {
-                    let _ = eprintln!(rt; "kohiblad: cannot write {}", part.target);
+                    let target = part.target.as_str();
+                    tell(rt, format!(in rt.alloc(); "cannot write {target}"));
                 }
             }
         }

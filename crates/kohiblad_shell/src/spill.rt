@@ -2,6 +2,7 @@
 //! files.
 
 use crate::halt::Halt;
+use crate::messages::tell;
 use crate::sort::{self, Arrangement, sort_rows};
 use crate::sorted_run::{RowParts, merge_runs, write_run};
 use crate::temporary::unnamed_file;
@@ -117,10 +118,9 @@ impl<'a> Spill<'a> {
         match unnamed_file(self.rt, self.folder) {
             Ok(file) => Ok(file),
             Err(halt) => {
-                let _ = eprintln!(self.rt;
-                    "kohiblad: cannot make a temporary file in {}",
-                    self.folder
-                );
+                let folder = self.folder;
+                let what = "cannot make a temporary file in";
+                tell(self.rt, format!(in self.rt.alloc(); "{what} {folder}"));
                 Err(halt)
             }
         }

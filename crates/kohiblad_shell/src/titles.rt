@@ -1,16 +1,16 @@
 //! What stands for the values of a document where its bytes are shown.
 
-ghost use Rattle.std.specs.Prelude.{◌≡◌, ◌≢◌, ◌+◌, ◌++◌, ◌<◌, ◌^◌, IfErr, IfOk, OnOk, chars};
-ghost use Rattle.std.specs.Prelude.{encode_utf8_all, flat_map, length, string_bytes};
-ghost use Rattle.kohiblad_shell.specs.Words.{HoldsNoScalar, container_name, escape, escaped_unit};
+ghost use Rattle.std.specs.Prelude.{◌≡◌, ◌≢◌, ◌+◌, ◌++◌, ◌<◌, ◌^◌, IfErr, IfOk, OnOk};
+ghost use Rattle.std.specs.Prelude.{encode_utf8_all, length, string_bytes};
+ghost use Rattle.kohiblad_shell.specs.Words.{HoldsNoScalar, container_name};
 ghost use Rattle.kohiblad_shell.specs.Words.{extension_kind, extension_name, grouped_digits};
-ghost use Rattle.kohiblad_shell.specs.Words.{grouped_number, header_at, header_title, is_escaped};
+ghost use Rattle.kohiblad_shell.specs.Words.{grouped_number, header_at, header_title};
 ghost use Rattle.kohiblad_shell.specs.Words.{kind_before, old_mark};
 ghost use Rattle.kohiblad_shell.specs.Words.{is_old_form, node_tree, opaque_name, quoted_key};
 ghost use Rattle.kohiblad_shell.specs.Words.{scalar_document, scalar_text, scalar_title, shortened};
-ghost use Rattle.kohiblad_shell.specs.Words.{shown_char};
 ghost use Rattle.kohiblad_shell.specs.Words.{shown_text, tree_in, value_title};
 
+use crate::escape::{shown_chars, text_of_chars};
 use jsonb::{Document, Error, Node, RawJsonb, read_header};
 use jsonb_codec::constants::{
     ARRAY_CONTAINER_TAG, CONTAINER_TAG, EXTENSION_BINARY, EXTENSION_DATE, EXTENSION_INTERVAL,
@@ -260,85 +260,9 @@ fn shortened(alloc: Global, characters: &[char]) -> Result<String, Error>
     ensures memory { IfErr result (λ e. e ≡ Error.OutOfMemory) }
 {
     if characters.len() <= MAX_SHOWN {
-        return text_of_chars(alloc, characters);
+        return Ok(text_of_chars(alloc, characters)?);
     }
     let mut text = text_of_chars(alloc, &characters[..MAX_SHOWN - 1])?;
     text.push('…')?;
     Ok(text)
-}
-
-// The characters of a text, with escapes.
-fn shown_chars(alloc: Global, text: &str) -> Result<Vec<char>, Error>
-    ensures ok { IfOk result (λ shown. shown.items ≡ flat_map shown_char (chars text.now)) }
-    ensures memory { IfErr result (λ e. e ≡ Error.OutOfMemory) }
-{
-    let mut shown = Vec::new(alloc);
-    for character in text.chars() {
-        if is_escaped(character) {
-            push_escape(alloc, &mut shown, character)?;
-        } else {
-            shown.push(character)?;
-        }
-    }
-    Ok(shown)
-}
-
-// The text of these characters.
-fn text_of_chars(alloc: Global, characters: &[char]) -> Result<String, Error>
-    ensures ok { IfOk result (λ text. string_bytes text ≡ encode_utf8_all characters.now) }
-    ensures memory { IfErr result (λ e. e ≡ Error.OutOfMemory) }
-{
-    let mut text = String::new(alloc);
-    for character in characters {
-        text.push(*character)?;
-    }
-    Ok(text)
-}
-
-// Whether a character has an escape: a control character, a separator of lines, and one that
-// changes the direction or the look of the text around it.
-fn is_escaped(character: char) -> bool
-    ensures { result ≡ is_escaped character }
-{
-    matches!(
-        character as u32,
-        0..=31
-            | 127..=159
-            | 0xAD
-            | 0x61C
-            | 0x180E
-            | 0x200B..=0x200F
-            | 0x2028..=0x202E
-            | 0x2060..=0x206F
-            | 0xFEFF
-            | 0xE0000..=0xE0FFF
-    )
-}
-
-// Appends the escape of a character, as JSON has it: one unit of UTF-16, or two.
-fn push_escape(alloc: Global, shown: &mut Vec<char>, character: char) -> Result<(), Error>
-    ensures ok { OnOk result (shown.new.items ≡ shown.old.items ++ escape character) }
-    ensures memory { IfErr result (λ e. e ≡ Error.OutOfMemory) }
-{
-    let code = character as u32;
-    if code < 0x10000 {
-        return push_unit(alloc, shown, code);
-    }
-    push_unit(alloc, shown, 0xD800 + (code - 0x10000) / 1024)?;
-    push_unit(alloc, shown, 0xDC00 + code % 1024)
-}
-
-// Appends the escape of a unit of UTF-16: `\u` and four hexadecimal digits.
-fn push_unit(alloc: Global, shown: &mut Vec<char>, unit: u32) -> Result<(), Error>
-    ensures ok { OnOk result (shown.new.items ≡ shown.old.items ++ escaped_unit unit) }
-    ensures memory { IfErr result (λ e. e ≡ Error.OutOfMemory) }
-{
-    let bytes = unit.to_be_bytes();
-    let digits = hex::encode(alloc, &bytes[2..])?;
-    shown.push('\\')?;
-    shown.push('u')?;
-    for digit in digits.as_bytes() {
-        shown.push(char::from(*digit))?;
-    }
-    Ok(())
 }

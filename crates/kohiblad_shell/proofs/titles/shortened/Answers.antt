@@ -14,6 +14,6 @@ unfolding lib.Utf8.encode
 returns-clause-ok c =
     let cs = c.args.characters.now in
     c.in_ok-push.ensures.bytes
-    ∙ ap (λ b. b ++ encode_utf8 8230) c.in_ok-text.ensures.ok
+    ∙ ap (λ b. b ++ encode_utf8 8230) c.in_ok-text.ensures
     ∙ sym (texts_joined (take 59 cs) (8230 ∷ []))
     ∙ sym (ap encode_utf8_all (shortened_long cs c.if-characters-le-MAX_SHOWN.false))

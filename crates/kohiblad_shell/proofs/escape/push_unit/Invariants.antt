@@ -1,6 +1,6 @@
 -- The digits so far are appended.
 use Rattle.std.proofs.Common.{◌≡◌, ◌++◌, ◌∷◌, take}
-use Rattle.kohiblad_shell.proofs.titles.push_unit.Given as goal
+use Rattle.kohiblad_shell.proofs.escape.push_unit.Given as goal
 
 abbrev pub invariant-loop-digit : goal.invariant-loop-digit
 invariant-loop-digit l =

@@ -3,11 +3,11 @@ use Rattle.std.specs.Prelude.{flat_map}
 use Rattle.std.proofs.lemmas.Iterator.{YieldsList-from_chars}
 use Rattle.std.proofs.lemmas.List.{map-id}
 use Rattle.std.proofs.lemmas.Iterator.Consumers.{YieldsList-end}
-use Rattle.kohiblad_shell.specs.Titles.{shown_char}
-use Rattle.kohiblad_shell.proofs.titles.shown_chars.Goals as goal
+use Rattle.kohiblad_shell.specs.Escapes.{shown_char}
+use Rattle.kohiblad_shell.proofs.escape.shown_chars.Goals as goal
 
-pub returns-clause-ok : goal.returns-clause-ok
-returns-clause-ok c =
+pub returns : goal.returns
+returns c =
     let t = YieldsList-end (YieldsList-from_chars c.args.text.now c.utf8.text cc)
     c.loop-character.yielded _ c.loop-character.yielded_by _ _ c.in-None.is c.next.ensures.steps in
     c.loop-character.invariant

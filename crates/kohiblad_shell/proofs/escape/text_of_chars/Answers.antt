@@ -1,6 +1,6 @@
 use Rattle.std.proofs.Common.{◌<◌, ◌++◌, ◌∙◌, length, sym, ap, arith, encode_utf8}
 use Rattle.kohiblad_shell.proofs.ShowLaws.{text_more}
-use Rattle.kohiblad_shell.proofs.titles.text_of_chars.Goals as goal
+use Rattle.kohiblad_shell.proofs.escape.text_of_chars.Goals as goal
 
 pub loop-character-preserved : goal.loop-character-preserved
 loop-character-preserved c =
