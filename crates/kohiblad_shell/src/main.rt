@@ -26,6 +26,7 @@ mod removal;
 mod row;
 mod row_commands;
 mod run;
+mod same_file;
 mod show;
 mod size;
 mod sort;

@@ -2,11 +2,11 @@
 
 use crate::halt::{Halt, halt_of_write};
 use crate::messages::tell;
-use crate::status::{FAILURE, MISUSE};
+use crate::same_file::expect_other_file;
+use crate::status::FAILURE;
 use crate::temporary::new_file;
 use std::fs::{self, File, OpenOptions};
 use std::io::{self, Write};
-use std::os::unix::fs::MetadataExt;
 
 /// Where the rows of a command go.
 #[derive(Drop)]
@@ -47,15 +47,9 @@ impl<'a> Output<'a> {
     /// these inputs. One that cannot be written, or is one of the inputs, is reported, and the
     /// status is returned.
     pub fn open(rt: &'a HostRuntime, name: &str, inputs: &[&str]) -> Result<Output<'a>, u8> {
+        expect_other_file(rt, name, inputs)?;
         if name == "-" {
             return Ok(Output::Standard(rt));
-        }
-        for input in inputs {
-            if is_one_file(rt, name, *input) {
-                let what = "is the input: write to another file";
-                tell(rt, format!(in rt.alloc(); "{name} {what}"));
-                return Err(MISUSE);
-            }
         }
         match open_target(rt, name) {
             Ok(output) => Ok(output),
@@ -84,16 +78,6 @@ impl<'a> Output<'a> {
         }
         let _ = fs::remove_file(rt, part.name.as_str());
         if is_whole { Err(Halt::Write) } else { Ok(()) }
-    }
-}
-
-// Whether both names are there and are those of one file.
-fn is_one_file(rt: &HostRuntime, name: &str, other: &str) -> bool {
-    match (fs::metadata(rt, name), fs::metadata(rt, other)) {
-        (Ok(first), Ok(second)) => {
-            first.is_file() && first.dev() == second.dev() && first.ino() == second.ino()
-        }
-        _ => false,
     }
 }
 
