@@ -15,6 +15,7 @@ mod kind;
 mod merge;
 mod merge_command;
 mod messages;
+mod mode;
 mod operands;
 mod operation;
 mod outcome;

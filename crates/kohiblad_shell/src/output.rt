@@ -1,12 +1,25 @@
 //! Where the rows of a command go: standard output, or a file that is there when it is whole.
 
+ghost use Rattle.std.specs.Prelude.{◌≤◌, IfOk, string_len};
+
 use crate::halt::{Halt, halt_of_write};
 use crate::messages::tell;
+use crate::mode::mode_for;
 use crate::same_file::expect_other_file;
 use crate::status::FAILURE;
 use crate::temporary::new_file;
+use std::alloc::{AllocError, Global};
 use std::fs::{self, File, OpenOptions};
-use std::io::{self, Write};
+use std::io::{self, ErrorKind, Write};
+
+// How many links are followed before a file is given up, as Linux does.
+const MAX_LINKS: usize = 40;
+
+// How long the name of a new file may be in any folder.
+const USUAL_LEN: usize = 64;
+
+// How many bytes a new file's name has beside those of the name whose place it takes.
+const PART_LEN: usize = 23;
 
 /// Where the rows of a command go.
 #[derive(Drop)]
@@ -66,25 +79,48 @@ impl<'a> Output<'a> {
         let Output::Part(part) = self else {
             return Ok(());
         };
-        let rt = part.rt;
-        if is_whole {
-            match fs::rename(rt, part.name.as_str(), part.target.as_str()) {
-                Ok(()) => return Ok(()),
-                Err(_) => {
-                    let target = part.target.as_str();
-                    tell(rt, format!(in rt.alloc(); "cannot write {target}"));
-                }
-            }
+        let is_placed = is_whole && part.take_place().is_ok();
+        if !is_placed {
+            let _ = fs::remove_file(part.rt, part.name.as_str());
         }
-        let _ = fs::remove_file(rt, part.name.as_str());
-        if is_whole { Err(Halt::Write) } else { Ok(()) }
+        if !is_whole || is_placed && part.sync_folder().is_ok() {
+            return Ok(());
+        }
+        let target = part.target.as_str();
+        tell(
+            part.rt,
+            format!(in part.rt.alloc(); "cannot write {target}"),
+        );
+        Err(Halt::Write)
     }
 }
 
-// The file of this name: a new one beside it, with its permissions, or itself if it is no file.
+impl Part<'_> {
+    // Gives the file the mode of the one that it replaces, has all of it on the device, and then
+    // puts it into the other's place.
+    fn take_place(&self) -> io::Result<()> {
+        let target = self.target.as_str();
+        self.file.set_permissions(mode_for(self.rt, target)?)?;
+        self.file.sync_all()?;
+        fs::rename(self.rt, self.name.as_str(), target)
+    }
+
+    // Has the names of the folder on the device, unless the folder may not be read.
+    fn sync_folder(&self) -> io::Result<()> {
+        let (folder, _) = split_name(self.target.as_str());
+        let folder = if folder.is_empty() { "." } else { folder };
+        match File::open(self.rt, folder) {
+            Ok(folder) => folder.sync_all(),
+            Err(error) if error.kind() == ErrorKind::PermissionDenied => Ok(()),
+            Err(error) => Err(error),
+        }
+    }
+}
+
+// The file of this name: a new one beside it, or itself if it is no file.
 fn open_target<'a>(rt: &'a HostRuntime, name: &str) -> Result<Output<'a>, Halt> {
     let Ok(metadata) = fs::metadata(rt, name) else {
-        return open_part(rt, String::from_str(rt.alloc(), name)?);
+        return open_part(rt, followed(rt, name)?);
     };
     if !metadata.is_file() {
         return match OpenOptions::new().write(true).open(rt, name) {
@@ -95,11 +131,36 @@ fn open_target<'a>(rt: &'a HostRuntime, name: &str) -> Result<Output<'a>, Halt> 
     let Ok(target) = fs::canonicalize(rt, name) else {
         return Err(Halt::Write);
     };
-    let output = open_part(rt, String::from_str(rt.alloc(), target.as_str())?)?;
-    if let Output::Part(part) = &output {
-        let _ = part.file.set_permissions(metadata.permissions());
+    open_part(rt, String::from_str(rt.alloc(), target.as_str())?)
+}
+
+// The name to which a link leads at which there is no file yet, or the name itself if it is no
+// link.
+fn followed(rt: &HostRuntime, name: &str) -> Result<String, Halt> {
+    let alloc = rt.alloc();
+    let mut path = String::from_str(alloc, name)?;
+    for _ in 0..MAX_LINKS {
+        match fs::read_link(rt, path.as_str()) {
+            Ok(link) => path = linked(alloc, path.as_str(), link.as_str())?,
+            Err(error) if is_no_link(error.kind()) => return Ok(path),
+            Err(_) => return Err(Halt::Write),
+        }
     }
-    Ok(output)
+    Err(Halt::Write)
+}
+
+// Whether a link could not be read because there is none.
+fn is_no_link(kind: ErrorKind) -> bool {
+    kind == ErrorKind::NotFound || kind == ErrorKind::InvalidInput
+}
+
+// What the text of a link names.
+fn linked(alloc: Global, name: &str, link: &str) -> Result<String, AllocError> {
+    let (folder, _) = split_name(name);
+    if folder.is_empty() || link.starts_with('/') {
+        return String::from_str(alloc, link);
+    }
+    format!(in alloc; "{folder}/{link}")
 }
 
 // A new file in the folder of another, whose place it takes.
@@ -113,10 +174,27 @@ fn open_part<'a>(rt: &'a HostRuntime, target: String) -> Result<Output<'a>, Halt
     }))
 }
 
-// A new file in the folder of another, and its name.
+// A new file in the folder of another, and its name, which is no longer than the other's or the
+// usual.
 fn new_file_beside(rt: &HostRuntime, target: &str) -> Result<(File, String), Halt> {
     let (folder, last) = split_name(target);
-    new_file(rt, folder, last, 0o666)
+    let most = last.len().max(USUAL_LEN).saturating_sub(PART_LEN);
+    let words = beginning(rt.alloc(), last, most)?;
+    new_file(rt, folder, words.as_str())
+}
+
+// The characters with which a name begins, so many that they have at most so many bytes.
+fn beginning(alloc: Global, name: &str, most: usize) -> Result<String, AllocError>
+    ensures { IfOk result (λ words. string_len words ≤ most) }
+{
+    let mut words = String::new(alloc);
+    for character in name.chars() {
+        if character.len_utf8() > most - words.len() {
+            return Ok(words);
+        }
+        words.push(character)?;
+    }
+    Ok(words)
 }
 
 // The folder of a file, which is empty if none is named, and the file's name in it.
