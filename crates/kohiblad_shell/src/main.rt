@@ -54,7 +54,7 @@ use halt::{Halt, halt_of_write};
 use input::Form;
 use jsonb::Document;
 use merge_command::write_merged;
-use messages::{failure, misuse, notice_missed};
+use messages::{failure, misuse, notice_missed, refused_line};
 use operands::{
     deciding_path, deciding_path_in, document_of, path_in, push_column, push_steps, steps_in,
 };
@@ -63,7 +63,7 @@ use range::ValueRange;
 use removal::path_count;
 use row_commands::{check, count, write_faults, write_rows};
 use sort_command::write_in_order;
-use status::{FOUND, MISUSE, halt_status};
+use status::{FOUND, halt_status};
 use std::alloc::AllocError;
 use std::env;
 use std::process::ExitCode;
@@ -88,14 +88,11 @@ fn shell(rt: &HostRuntime) -> u8 {
             Some((name, matches)) => run_command(rt, name, matches),
             None => misuse(rt, "no command"),
         },
-        Err(error) => {
-            let is_mistake = error.use_stderr();
-            match error.print(rt) {
-                Ok(()) if is_mistake => MISUSE,
-                Ok(()) => FOUND,
-                Err(error) => halt_status(halt_of_write(&error)),
-            }
-        }
+        Err(error) if error.use_stderr() => refused_line(rt, &error),
+        Err(error) => match error.print(rt) {
+            Ok(()) => FOUND,
+            Err(error) => halt_status(halt_of_write(&error)),
+        },
     }
 }
 

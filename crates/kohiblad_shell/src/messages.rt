@@ -33,6 +33,21 @@ pub fn misuse(rt: &HostRuntime, what: &str) -> u8
     MISUSE
 }
 
+/// Reports a command line that is wrong, in the words of its parser.
+pub fn refused_line(rt: &HostRuntime, error: &clap::Error) -> u8 {
+    let alloc = rt.alloc();
+    let Ok(text) = format!(in alloc; "{error}") else {
+        return failure(rt, Halt::Memory);
+    };
+    for line in text.lines() {
+        let Ok(shown) = escaped_text(alloc, line) else {
+            return failure(rt, Halt::Memory);
+        };
+        let _ = eprintln!(rt; "{shown}");
+    }
+    MISUSE
+}
+
 /// Reports why a run ended early, unless nobody reads its output.
 pub fn failure(rt: &HostRuntime, halt: Halt) -> u8
     ensures { result ≡ halt_status halt }
