@@ -2,13 +2,45 @@
  * reads them, into a document of their steps. */
 #include "extension.h"
 
+#include <string.h>
+
 SQLITE_EXTENSION_INIT3
+
+/* Whether a text is of names, points and indexes alone, as `a.b[0]`. */
+static bool is_of_names(struct bytes text)
+{
+    for (size_t i = 0; i < text.size; i++) {
+        uint8_t byte = text.at[i], small = byte | 0x20;
+        bool is_of_name = byte >= 0x80 || (small >= 'a' && small <= 'z')
+            || (byte >= '0' && byte <= '9');
+        if (!is_of_name && (byte == 0 || !strchr("_-.[]#", byte))) return false;
+    }
+    return true;
+}
+
+/* Writes the path that is meant by a text without its beginning, as `$.a` by `a`; else no bytes. */
+static void write_meant(struct bytes text, char *meant, int room)
+{
+    uint8_t path[1024];
+    size_t length;
+    bool has_step = text.size > 0 && (text.at[0] == '.' || text.at[0] == '[');
+    *meant = 0;
+    if (text.size > 100 || !is_of_names(text)) return;
+    sqlite3_snprintf(room, meant, "%s%.*s", has_step ? "$" : "$.", (int)text.size,
+                     (const char *)text.at);
+    if (kohiblad_path_of_text((const uint8_t *)meant, strlen(meant), path, sizeof path, &length)
+        != KOHIBLAD_OK)
+        *meant = 0;
+}
 
 /* The error of a text that is no path. Null if memory was refused. */
 static char *path_message(const char *name, struct bytes text)
 {
-    return sqlite3_mprintf("%s: the text is not a path: '%.*s'", name, (int)text.size,
-                           (const char *)text.at);
+    char meant[128];
+    write_meant(text, meant, sizeof meant);
+    return sqlite3_mprintf("%s: the text is not a path: '%.*s'%s%s%s", name, (int)text.size,
+                           (const char *)text.at, *meant ? ": did you mean '" : "", meant,
+                           *meant ? "'?" : "");
 }
 
 uint32_t open_path(const char *name, struct bytes text, struct buffer *path, char **message)

@@ -125,7 +125,7 @@ SELECT jb_type('[]');
 SELECT jb_type(x'00');
 --! jb_type: InvalidEOF
 SELECT jb_array_length(doc, 'a') FROM t;
---! jb_array_length: the text is not a path: 'a'
+--! jb_array_length: the text is not a path: 'a': did you mean '$.a'?
 CREATE TABLE deepest AS SELECT replace(hex(zeroblob(500)), '0', '[') AS opened,
     replace(hex(zeroblob(500)), '0', ']') AS closed,
     replace(hex(zeroblob(500)), '0', '{"a":') AS named,

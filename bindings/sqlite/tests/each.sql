@@ -75,7 +75,7 @@ SELECT * FROM jb_each(x'00');
 SELECT * FROM jb_each('[]');
 --! jb_each: InvalidJsonb: a document is a BLOB
 SELECT * FROM jb_each(jb('[]'), 'a');
---! jb_each: the text is not a path: 'a'
+--! jb_each: the text is not a path: 'a': did you mean '$.a'?
 SELECT * FROM jb_each(jb('[]'), 5);
 --! jb_each: OtherKind: names and paths are TEXT
 -- The second item runs past the end.

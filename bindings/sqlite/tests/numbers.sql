@@ -24,7 +24,7 @@ FROM jb_each(jb('[null,true,"5","",[5],{"a":5},[],{}]'));
 SELECT jb_number(x'20000000600000051000004E20', '$'), jb_number(x'200000006000000300ABCD', '$');
 --> NULL|NULL
 SELECT jb_number(jb('1'), 'a');
---! jb_number: the text is not a path: 'a'
+--! jb_number: the text is not a path: 'a': did you mean '$.a'?
 SELECT jb_number('1', '$');
 --! jb_number: InvalidJsonb: a document is a BLOB
 -- A stored double is no document.

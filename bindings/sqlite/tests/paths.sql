@@ -39,7 +39,22 @@ WHERE jb_value(doc, path) IS (jb_text(doc) ->> path);
 SELECT jb_at(doc, '') FROM t;
 --! jb_at: the text is not a path: ''
 SELECT jb_at(doc, 'a.b') FROM t;
---! jb_at: the text is not a path: 'a.b'
+--! jb_at: the text is not a path: 'a.b': did you mean '$.a.b'?
+SELECT jb_value(doc, 'é') FROM t;
+--! jb_value: the text is not a path: 'é': did you mean '$.é'?
+SELECT jb_value(doc, '[0].x') FROM t;
+--! jb_value: the text is not a path: '[0].x': did you mean '$[0].x'?
+SELECT jb_value(doc, '.a') FROM t;
+--! jb_value: the text is not a path: '.a': did you mean '$.a'?
+-- Nothing is meant where a path would not be one either, or the text is another language's.
+SELECT jb_value(doc, 'a..b') FROM t;
+--! jb_value: the text is not a path: 'a..b'
+SELECT jb_value(doc, 'a[x]') FROM t;
+--! jb_value: the text is not a path: 'a[x]'
+SELECT jb_value(doc, '/a/b') FROM t;
+--! jb_value: the text is not a path: '/a/b'
+SELECT jb_value(doc, 'lax $.a') FROM t;
+--! jb_value: the text is not a path: 'lax $.a'
 SELECT jb_value(doc, '$a') FROM t;
 --! jb_value: the text is not a path: '$a'
 SELECT jb_at(doc, '$.') FROM t;

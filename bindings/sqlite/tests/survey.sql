@@ -80,4 +80,4 @@ SELECT jb_survey(jb('{}'), 1);
 SELECT jb_survey(doc, '$.*') FROM offer;
 --! jb_survey: the text is not a path: '$.*'
 SELECT jb_survey(doc, 'price') FROM offer;
---! jb_survey: the text is not a path: 'price'
+--! jb_survey: the text is not a path: 'price': did you mean '$.price'?

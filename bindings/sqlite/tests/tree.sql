@@ -111,7 +111,7 @@ SELECT * FROM jb_tree(x'00');
 SELECT * FROM jb_tree('[]');
 --! jb_tree: InvalidJsonb: a document is a BLOB
 SELECT * FROM jb_tree(jb('[]'), 'a');
---! jb_tree: the text is not a path: 'a'
+--! jb_tree: the text is not a path: 'a': did you mean '$.a'?
 SELECT * FROM jb_tree(jb('[]'), 5);
 --! jb_tree: OtherKind: names and paths are TEXT
 -- It checks the whole document.
