@@ -96,11 +96,27 @@ if [ -z "${QUICK:-}" ] && command -v valgrind > "$scratch/found"; then
 fi
 
 note 'the types in README.md'
-sed -n 's/^| `\([a-z_0-9]*\)(.* | `\(.*\)` |$/\1 \2/p' README.md > "$scratch/types"
-[ "$(wc -l < "$scratch/types")" -gt 20 ] || fail 'README.md has no types'
+# Each call of a table, as `TYPE::name(..)`, and the type beside it.
+# shellcheck disable=SC2016
+sed -n 's/^| \(.*(.*\) | `\(.*\)` |$/\1\t\2/p' README.md > "$scratch/rows"
+while IFS=$'\t' read -r calls type; do
+    while read -r call; do printf '%s %s\n' "$call" "$type"; done < <(
+        grep -oE '`[A-Za-z:.]*[a-z_0-9]+\(' <<< "$calls" | tr -d '`(')
+done < "$scratch/rows" > "$scratch/types"
+[ "$(wc -l < "$scratch/types")" -gt 50 ] || fail 'README.md has no types'
+# What functions of this name return, in the file of their own type.
+returned() {
+    local in=src self=
+    case $1 in
+        OwnedJsonb::*) in=src/owned.rs self=OwnedJsonb ;;
+        RawJsonb::*) in=src/raw.rs self="RawJsonb<'a>" ;;
+        bytes::*) in=src/bytes.rs ;;
+    esac
+    find "$in" -name '*.rs' -exec cat {} + | tr '\n' ' ' | grep -oE "pub fn ${1##*[:.]}[(<][^{]*" |
+        sed "s/.* -> //; s/ where .*//; s/ *\$//; s/Self/$self/"
+}
 while read -r call type; do
-    sed -n "/^    pub fn $call[(<]/s/.* -> \(.*\) {$/\1/p" src/raw.rs | grep -qxF "$type" ||
-        fail "README.md has another type of $call"
+    returned "$call" | grep -qxF "$type" || fail "README.md has another type of $call"
 done < "$scratch/types"
 
 note 'the program of README.md'

@@ -332,8 +332,9 @@ impl<'a> RawJsonb<'a> {
         ffi::to_string(self.bytes).map(string_of)
     }
 
-    /// The JSON text of the value of a key, without white space, with nothing copied; `None` if
-    /// there is no such key or the value is no object.
+    /// The JSON text of the value of a key, without white space, of which no document is made;
+    /// `None` if there is no such key or the value is no object. That of a string has quotes: a
+    /// [`Node`] prints it without.
     ///
     /// ```
     /// let row = kohiblad::OwnedJsonb::parse(r#"{"tags": ["a", 1.50]}"#, 64)?;
