@@ -145,7 +145,7 @@ enum kohiblad_status {
     KOHIBLAD_NONE = 12,                   /* no such item, member or key */
     KOHIBLAD_TOO_DEEP = 13,
     KOHIBLAD_OTHER_KIND = 14,             /* the value is of another kind */
-    KOHIBLAD_PAST_RANGE = 15,             /* the number is no whole one of 64 bits */
+    KOHIBLAD_PAST_RANGE = 15,             /* the number does not fit what was asked for */
     KOHIBLAD_OVERLAP = 16,                /* what a call writes overlaps something else */
     KOHIBLAD_BAD_NUMBER = 17,             /* the text has an unfinished or too large number */
     KOHIBLAD_TOO_MANY_STEPS = 18,         /* the call took more steps than it may */
@@ -479,7 +479,8 @@ static inline const char *kohiblad_status_reason(uint32_t status) {
     case KOHIBLAD_NONE: return "there is no such item, member, key or child";
     case KOHIBLAD_TOO_DEEP: return "the text nests deeper than the depth";
     case KOHIBLAD_OTHER_KIND: return "it is of another kind than the call takes";
-    case KOHIBLAD_PAST_RANGE: return "the number is no whole one of 64 bits";
+    case KOHIBLAD_PAST_RANGE:
+        return "the number is too large, or has too many digits after its point";
     case KOHIBLAD_OVERLAP: return "what a call writes overlaps something else";
     case KOHIBLAD_BAD_NUMBER: return "the text has an unfinished or too large number";
     case KOHIBLAD_TOO_MANY_STEPS: return "the call took more steps than it may";
@@ -645,6 +646,139 @@ static inline struct kohiblad_truth kohiblad_as_boolean(const uint8_t *bytes, si
  * value but are not a document; OTHER_KIND if they begin like a value of another kind. */
 static inline struct kohiblad_extension_value kohiblad_as_extension(const uint8_t *bytes,
     size_t size) KOHIBLAD_INLINE("kohiblad_as_extension");
+
+/* NUMBERS OF C: a decimal is a whole number of 128 bits and a scale, the count of its digits after
+ * the point. These functions make numbers of the compiler of it, with no call of the library. */
+
+/* The greatest scale of a number of the format. */
+#define KOHIBLAD_MOST_SCALE 255
+
+#ifdef __SIZEOF_INT128__
+/* Whole numbers of 128 bits, as the compiler has them. */
+__extension__ typedef __int128 kohiblad_int128_t;
+__extension__ typedef unsigned __int128 kohiblad_uint128_t;
+
+/* A decimal's whole number of 128 bits at some scale, and 0 beside every status but OK. */
+typedef struct {
+    uint32_t status;
+    kohiblad_int128_t value;
+} kohiblad_unscaled;
+
+/* The number of two halves, as the calls that take decimals write it to an array. */
+static inline kohiblad_int128_t kohiblad_int128_value(struct kohiblad_int128 halves) {
+    return (kohiblad_int128_t)((kohiblad_uint128_t)(uint64_t)halves.high << 64 | halves.low);
+}
+
+/* The two halves of a number, as kohiblad_of_decimal takes them. */
+static inline struct kohiblad_int128 kohiblad_int128_of(kohiblad_int128_t value) {
+    kohiblad_uint128_t bits = (kohiblad_uint128_t)value;
+    struct kohiblad_int128 halves = { (uint64_t)bits, (int64_t)(uint64_t)(bits >> 64) };
+    return halves;
+}
+
+/* The unscaled value of a decimal at a scale: the decimal times ten to the power of `scale`, so
+ * that 1.5 with scale 2 is 150. It is exact. PAST_RANGE if the decimal has digits past the scale
+ * that are not zeros, or the number is past 128 bits; INVALID_JSONB if the decimal's own scale is
+ * above 255, as that of no document is; and the status of the decimal if that is not OK. */
+static inline kohiblad_unscaled kohiblad_decimal_unscaled(struct kohiblad_decimal decimal,
+    uint32_t scale) {
+    const kohiblad_unscaled refusal = { KOHIBLAD_PAST_RANGE, 0 };
+    struct kohiblad_int128 halves = { decimal.low, decimal.high };
+    kohiblad_unscaled out = { decimal.status, 0 };
+    kohiblad_int128_t value = kohiblad_int128_value(halves);
+    uint32_t at = decimal.scale;
+    if (out.status == KOHIBLAD_OK && at > KOHIBLAD_MOST_SCALE) out.status = KOHIBLAD_INVALID_JSONB;
+    if (out.status != KOHIBLAD_OK) return out;
+    /* Of a number that is not 0 each loop ends within 39 steps, as 128 bits have 39 digits. */
+    for (; value != 0 && at < scale; at++)
+        if (__builtin_mul_overflow(value, 10, &value)) return refusal;
+    for (; value != 0 && at > scale; at--) {
+        if (value % 10 != 0) return refusal;
+        value /= 10;
+    }
+    out.value = value;
+    return out;
+}
+#endif
+
+/* The double nearest to a decimal, and the greatest error that it may have: 0 if it equals the
+ * decimal, and otherwise half of the distance between the doubles there. Beside every status but OK
+ * both are 0. */
+typedef struct {
+    uint32_t status;
+    double value;
+    double error;
+} kohiblad_double;
+
+/* Times two to the power of `exponent`, which is exact as long as the result is no subnormal. */
+static inline double kohiblad_times_power(double number, int exponent) {
+    const double much = 4294967296.0;
+    for (; exponent >= 32; exponent -= 32) number *= much;
+    for (; exponent > 0; exponent--) number *= 2;
+    for (; exponent <= -32; exponent += 32) number /= much;
+    for (; exponent < 0; exponent++) number /= 2;
+    return number;
+}
+
+/* Divides a whole number of limbs of 32 bits, the least first; whether a remainder is left. */
+static inline bool kohiblad_divide_limbs(uint32_t *limbs, size_t count, uint32_t divisor) {
+    uint64_t remainder = 0;
+    for (size_t i = count; i-- > 0;) {
+        uint64_t part = remainder << 32 | limbs[i];
+        limbs[i] = (uint32_t)(part / divisor);
+        remainder = part % divisor;
+    }
+    return remainder != 0;
+}
+
+/* The double nearest to a decimal, of two that are as near that with an even last bit, where the
+ * program rounds to nearest, as C begins. The error is at most 2^-53 of the number: 0.1 becomes
+ * 0.1000000000000000055511151231257827.., with the error 2^-57, and 1.50 is 1.5 with the error 0.
+ * INVALID_JSONB if the decimal's scale is above 255, as that of no document is; and the status of
+ * the decimal if that is not OK. */
+static inline kohiblad_double kohiblad_decimal_double(struct kohiblad_decimal decimal) {
+    /* The number without its sign, times two to the power of 32 * shift, so that what is left after
+     * the division by ten to the power of the scale has more than 64 bits. */
+    enum { SHIFT_MOST = 2 + (KOHIBLAD_MOST_SCALE + 7) / 8 };
+    uint32_t limbs[SHIFT_MOST + 4] = { 0 };
+    kohiblad_double out = { decimal.status, 0, 0 };
+    uint64_t low = decimal.low, high = (uint64_t)decimal.high, head;
+    bool has_rest = false;
+    if (out.status == KOHIBLAD_OK && decimal.scale > KOHIBLAD_MOST_SCALE)
+        out.status = KOHIBLAD_INVALID_JSONB;
+    if (out.status != KOHIBLAD_OK || (low == 0 && high == 0)) return out;
+    if (decimal.high < 0) {
+        low = ~low + 1;
+        high = ~high + (low == 0);
+    }
+    size_t shift = 2 + (decimal.scale + 7) / 8, top = shift + 3;
+    limbs[shift] = (uint32_t)low;
+    limbs[shift + 1] = (uint32_t)(low >> 32);
+    limbs[shift + 2] = (uint32_t)high;
+    limbs[shift + 3] = (uint32_t)(high >> 32);
+    for (uint32_t left = decimal.scale; left > 0;) {
+        uint32_t divisor = 1;
+        for (int digits = 0; digits < 9 && left > 0; digits++, left--) divisor *= 10;
+        if (kohiblad_divide_limbs(limbs, shift + 4, divisor)) has_rest = true;
+    }
+    while (limbs[top] == 0) top--;
+
+    /* Its first 64 bits, of which the last also stands for all bits after them. */
+    uint32_t next = limbs[top - 2];
+    int exponent = 32 * ((int)top - 1 - (int)shift);
+    head = (uint64_t)limbs[top] << 32 | limbs[top - 1];
+    for (; !(head >> 63); exponent--) {
+        head = head << 1 | next >> 31;
+        next <<= 1;
+    }
+    for (size_t i = 0; i < top - 2; i++)
+        if (limbs[i] != 0) has_rest = true;
+    if (has_rest || next != 0) head |= 1;
+    /* A double has 53 bits, so the last 11 are rounded. */
+    out.value = kohiblad_times_power(decimal.high < 0 ? -(double)head : (double)head, exponent);
+    if (head & 0x7ff) out.error = kohiblad_times_power(1024, exponent);
+    return out;
+}
 
 /* DOCUMENTS OF SCALARS. */
 

@@ -39,11 +39,24 @@ static long next_batch(void) {
     }
 }
 
+/* Prints a number with its digits after the point. */
+static uint32_t print_number(kohiblad_int128_t number) {
+    struct kohiblad_int128 halves = kohiblad_int128_of(number);
+    uint8_t document[32], text[64];
+    size_t size, length;
+    uint32_t status = kohiblad_of_decimal(halves.high, halves.low, SCALE, document, sizeof document,
+                                          &size);
+    if (status == KOHIBLAD_OK)
+        status = kohiblad_print(document, size, DEPTH, text, sizeof text, &length);
+    if (status == KOHIBLAD_OK) printf("%.*s", (int)length, (const char *)text);
+    return status;
+}
+
 int main(int count, char **words) {
     uint8_t path[4096];
     size_t path_size;
     uint64_t unfit = 0;
-    int64_t sum = 0;
+    kohiblad_int128_t sum = 0;
     long batch;
     if (count != 2
         || kohiblad_path_of_text((const uint8_t *)words[1], strlen(words[1]), path, sizeof path,
@@ -60,14 +73,14 @@ int main(int count, char **words) {
             return 1;
         }
         unfit += taken.unfit;
-        /* A row without a value has 0. These sums are small enough for 64 bits. */
-        for (long i = 0; i < batch; i++) sum += (int64_t)values[i].low;
+        /* A row without a value has 0. */
+        for (long i = 0; i < batch; i++) sum += kohiblad_int128_value(values[i]);
     }
     if (batch < 0) {
         fprintf(stderr, "the file is cut, or a document is too long\n");
         return 1;
     }
-    printf("%" PRId64 ".%02d, and %" PRIu64 " rows with something else\n", sum / 100,
-           (int)(sum % 100), unfit);
+    if (print_number(sum) != KOHIBLAD_OK) return 1;
+    printf(", and %" PRIu64 " rows with something else\n", unfit);
     return fflush(stdout) || ferror(stdout);
 }

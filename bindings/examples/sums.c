@@ -42,20 +42,33 @@ static long next_batch(void) {
 
 /* Adds up the members of a batch, which `kohiblad_locate` found: of row k and name j of `names` at
  * `places[k * names + j]`. */
-static void add_batch(size_t batch, size_t names, int64_t *sums, uint64_t *unfit) {
+static void add_batch(size_t batch, size_t names, kohiblad_int128_t *sums, uint64_t *unfit) {
     for (size_t j = 0; j < names; j++) {
         struct kohiblad_taken taken = kohiblad_take_decimal_at(rows, offsets[batch], places + j,
             batch * names - j, names, KOHIBLAD_BY_VALUE, SCALE, values, BATCH, states, BATCH);
         unfit[j] += taken.unfit;
-        /* A row without a value has 0. These sums are small enough for 64 bits. */
-        for (size_t i = 0; i < batch; i++) sums[j] += (int64_t)values[i].low;
+        /* A row without a value has 0. */
+        for (size_t i = 0; i < batch; i++) sums[j] += kohiblad_int128_value(values[i]);
     }
+}
+
+/* Prints a number with its digits after the point. */
+static uint32_t print_number(kohiblad_int128_t number) {
+    struct kohiblad_int128 halves = kohiblad_int128_of(number);
+    uint8_t document[32], text[64];
+    size_t size, length;
+    uint32_t status = kohiblad_of_decimal(halves.high, halves.low, SCALE, document, sizeof document,
+                                          &size);
+    if (status == KOHIBLAD_OK)
+        status = kohiblad_print(document, size, DEPTH, text, sizeof text, &length);
+    if (status == KOHIBLAD_OK) printf("%.*s", (int)length, (const char *)text);
+    return status;
 }
 
 int main(int count, char **words) {
     uint8_t names[4096];
     size_t size;
-    int64_t sums[MOST] = { 0 };
+    kohiblad_int128_t sums[MOST] = { 0 };
     uint64_t unfit[MOST] = { 0 };
     long batch;
     if (count != 2
@@ -81,9 +94,9 @@ int main(int count, char **words) {
     }
     for (size_t j = 0; j < wanted; j++) {
         struct kohiblad_place name = kohiblad_find_index(names, size, j);
-        printf("%.*s %" PRId64 ".%02d, and %" PRIu64 " rows with something else\n",
-               (int)name.length, (const char *)names + name.offset, sums[j] / 100,
-               (int)(sums[j] % 100), unfit[j]);
+        printf("%.*s ", (int)name.length, (const char *)names + name.offset);
+        if (print_number(sums[j]) != KOHIBLAD_OK) return 1;
+        printf(", and %" PRIu64 " rows with something else\n", unfit[j]);
     }
     return fflush(stdout) || ferror(stdout);
 }

@@ -156,7 +156,7 @@ impl Error {
             Error::OutOfMemory => "an allocation failed",
             Error::TooDeep => "the text nests deeper than the depth",
             Error::OtherKind => "it is of another kind than the call takes",
-            Error::PastRange => "the number is no whole one of 64 bits",
+            Error::PastRange => "the number is too large, or has too many digits after its point",
             Error::TooManySteps => "the call took more steps than it may",
             Error::BadMagic => "the bytes do not begin as a file of typed columns",
             Error::UnknownVersion => "the file has another version of the format",
