@@ -482,9 +482,9 @@ def _raised_signals() -> Iterator[None]:
 
     before: Dict[int, Any] = {}
     if threading.current_thread() is threading.main_thread():
-        for number in (signal.SIGINT, signal.SIGTERM, signal.SIGHUP):
-            if signal.getsignal(number) in (signal.SIG_DFL, signal.default_int_handler):
-                before[number] = signal.signal(number, end)
+        for it in (signal.SIGINT, signal.SIGTERM, signal.SIGHUP):
+            if signal.getsignal(it) in (signal.SIG_DFL, signal.default_int_handler):
+                before[it] = signal.signal(it, end)
     try:
         yield
     finally:

@@ -143,7 +143,7 @@ def _parts(children: Sequence[Any]) -> Any:
 
 
 def array_capsule(length: int, nulls: int, first: int, addresses: Sequence[Optional[int]],
-                  owner: Any, children: Sequence[int] = ()) -> Any:
+                  owner: Any, children: Sequence[Optional[int]] = ()) -> Any:
     """A capsule of an array, whose buffers the owner keeps; and of its children, each of which has
     values at an address."""
     return _capsule(_array(length, nulls, first, addresses, owner,

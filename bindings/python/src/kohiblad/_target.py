@@ -25,8 +25,8 @@ def target_of(file: File) -> Iterator[IO[bytes]]:
         return
     path = os.path.realpath(os.fsdecode(file))
     if os.path.exists(path) and not os.path.isfile(path):
-        with open(path, "wb") as target:
-            yield target
+        with open(path, "wb") as device:
+            yield device
         return
     folder, name = os.path.split(path)
     with _opened_folder(folder) as at:

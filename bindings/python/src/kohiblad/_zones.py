@@ -109,12 +109,14 @@ def zones_of(name: str, scale: int, values: memoryview, states: memoryview,
     if it.block_rows < 1:
         raise ValueError(f"a block has at least 1 row, not {it.block_rows}")
     numbers = _numbers_of(*_KINDS[kind], values, states, min(it.block_rows, it._rows))
-    maker = {"date": date_of, "timestamp": timestamp_of}.get(kind, _itself)
+    makers: Dict[str, Callable[[Any], Any]] = {"date": date_of, "timestamp": timestamp_of}
+    maker = makers.get(kind, _itself)
     it.least, it.greatest = [None] * len(numbers), [None] * len(numbers)
     for block, limits in enumerate(numbers):
         if limits is not None:
             it.least[block], it.greatest[block] = map(maker, decimals_of(limits, scale))
-    it._number_of = {"date": _days_of, "timestamp": _micros_of}.get(kind, _itself)
+    numbers_of: Dict[str, Callable[[Any], Any]] = {"date": _days_of, "timestamp": _micros_of}
+    it._number_of = numbers_of.get(kind, _itself)
     it._limits = numbers
     if it._number_of is _itself:
         it._limits = [limits and (it.least[block], it.greatest[block])
@@ -131,8 +133,9 @@ def _numbers_of(call: Callable[..., int], form: struct.Struct, values: memoryvie
     blocks = -(-rows // block_rows)
     room = ctypes.create_string_buffer(blocks * form.size)
     count = ctypes.c_size_t()
-    status = call(values.obj.buffer_info()[0], rows, states.obj.buffer_info()[0], rows, block_rows,
-                  room, blocks, ctypes.addressof(count))
+    buffers: List[Any] = [values.obj, states.obj]
+    at = [it.buffer_info()[0] for it in buffers]
+    status = call(at[0], rows, at[1], rows, block_rows, room, blocks, ctypes.addressof(count))
     if status:
         raise library.error_of(status)
     return [_limits_of(*numbers) if has_value else None
