@@ -31,6 +31,8 @@ SOURCE = os.path.join(TOP, "src")
 NATIVE = os.path.join(SOURCE, "native")
 LIBRARY = "libkohiblad.so.0.8"
 HEADER = "kohiblad.h"
+# Another that is beside it.
+STACK_HEADER = "kohiblad_stack.h"
 # The extension module for this Python.
 EXTENSION = f"_native{sysconfig.get_config_var('EXT_SUFFIX')}"
 # What a source distribution has beside the package and its metadata.
@@ -76,6 +78,7 @@ def build_sdist(sdist_directory, config_settings=None):
     header = find_header()
     if header:
         files[HEADER] = read(header)
+        files[STACK_HEADER] = read(os.path.join(os.path.dirname(header), STACK_HEADER))
     files["PKG-INFO"] = metadata()
     name = f"kohiblad-{version()}"
     with open(os.path.join(sdist_directory, f"{name}.tar.gz"), "wb") as file, \

@@ -204,7 +204,7 @@ class SourceTest(PackageTest):
         native = {f"src/native/{name}" for name in os.listdir(os.path.join(TOP, "src", "native"))}
         self.assertIn("src/native/module.c", native)
         self.assertEqual(found, package | native | {
-            "PKG-INFO", "LICENSE", "README.md", "pyproject.toml", "kohiblad.h",
+            "PKG-INFO", "LICENSE", "README.md", "pyproject.toml", "kohiblad.h", "kohiblad_stack.h",
             "build_backend/kohiblad_build.py"})
         self.run_python(os.path.join(top, "build_backend", "kohiblad_build.py"), self.folder)
         with open(self.wheel(), "rb") as file:

@@ -12,13 +12,13 @@ __version__ = "0.8.0"  # before the imports, since a module that is imported rea
 from ._changes import DocumentPath
 from ._document import (ArrayDocument, Document, ObjectDocument, ScalarDocument, Value, dumps,
                         loads)
-from ._encode import DEPTH
 from ._errors import (ExtensionError, FloatError, InvalidDocumentError, InvalidTextError,
                       KohibladError, NumberError, OutOfMemoryError, PathError, TooDeepError,
                       TooManyStepsError, UnfitError)
 from ._files import read, read_lines, write
 from ._library import IS_NATIVE
 from ._scalars import Date, Interval, Opaque, Scalar, Timestamp, TimestampTz
+from ._stack import DEPTH
 
 __all__ = ["ArrayDocument", "DEPTH", "Date", "Document", "DocumentPath", "ExtensionError",
            "FloatError", "IS_NATIVE", "Interval", "InvalidDocumentError", "InvalidTextError",

@@ -6,7 +6,9 @@ from collections.abc import Sequence as AnySequence
 from typing import Any, Callable, Dict, Sequence, Tuple, Union
 
 from . import _library as library
-from ._encode import DEPTH, parse, text_of_str
+from ._encode import parse, text_of_str
+from ._errors import KohibladError
+from ._stack import DEPTH
 
 if library.IS_NATIVE:
     from . import _native as native
@@ -57,15 +59,15 @@ def edited(data: bytes, steps: Tuple[Step, ...], edit: int, value: bytes = b"") 
 
     TooDeepError: it would nest too deep. InvalidDocumentError: it is past a limit of the format.
     """
-    path = document_of_path(steps)
+    path, depth = document_of_path(steps), library.fitting(library.EDIT_LEVEL_STACK, data)
     # Each level of the value takes four bytes, so that most documents need no look at them.
-    if len(steps) + len(value) // 4 > DEPTH \
-            and not library.check(value, len(value), max(DEPTH - len(steps), 0)):
-        return _unchanged(data, path, edit)
+    if len(steps) + len(value) // 4 > depth \
+            and not library.check(value, len(value), max(depth - len(steps), 0)):
+        return _unchanged(data, path, edit, depth)
     return _edited(data, path, edit, value)
 
 
-def _unchanged(data: bytes, path: bytes, edit: int) -> bytes:
+def _unchanged(data: bytes, path: bytes, edit: int, depth: int) -> bytes:
     """A document after an edit whose value is too deep for the end of the path.
 
     TooDeepError: the value would be put there, so that another value gives another document. The
@@ -74,9 +76,15 @@ def _unchanged(data: bytes, path: bytes, edit: int) -> bytes:
     document, other = (_edited(data, path, edit, library.scalar_document(type_, b""))
                        for type_ in (library.TYPE_NULL, library.TYPE_TRUE))
     if document != other:
-        raise library.error_of(library.TOO_DEEP,
-                               f"the document would nest more than {DEPTH} deep")
+        raise _too_deep("document", depth)
     return document
+
+
+def _too_deep(name: str, depth: int) -> KohibladError:
+    """The exception for a result that would nest deeper than it may, or than the stack carries."""
+    if depth < DEPTH:
+        return library.too_deep(depth)
+    return library.error_of(library.TOO_DEEP, f"the {name} would nest more than {DEPTH} deep")
 
 
 def _edited(data: bytes, path: bytes, edit: int, value: bytes) -> bytes:
@@ -98,8 +106,7 @@ def without(data: bytes, paths: Sequence[Any]) -> bytes:
 def picked(data: bytes, names: Tuple[str, ...], kept: int) -> bytes:
     """An object with the members that are named alone, or with all others."""
     listed = document_of_path(names)
-    return library.result_of(library.pick, len(data) + 64, data, len(data), listed, len(listed),
-                             kept, DEPTH)
+    return library.result_of_document(library.pick, len(data) + 64, data, listed, len(listed), kept)
 
 
 def _is_object(data: bytes) -> bool:
@@ -111,7 +118,7 @@ def concat(left: bytes, right: bytes) -> bytes:
     if library.IS_NATIVE:
         return native.concat(left, right)
     return library.result_of(library.concat, len(left) + len(right) + 64, left, len(left), right,
-                             len(right), DEPTH)
+                             len(right), library.fitting(library.EDIT_LEVEL_STACK, left, right))
 
 
 def merged(target: bytes, patch: bytes) -> bytes:
@@ -119,7 +126,8 @@ def merged(target: bytes, patch: bytes) -> bytes:
     if library.IS_NATIVE:
         return native.merge_patch(target, patch)
     return library.result_of(library.merge_patch, len(target) + len(patch) + 64, target,
-                             len(target), patch, len(patch), DEPTH)
+                             len(target), patch, len(patch),
+                             library.fitting(library.PATCH_LEVEL_STACK, target, patch))
 
 
 def of_items(call: Callable[..., int], data: bytes, *others: bytes) -> bytes:
@@ -128,10 +136,11 @@ def of_items(call: Callable[..., int], data: bytes, *others: bytes) -> bytes:
     TooDeepError: it would nest too deep, since the first document is no array.
     """
     crossed = [argument for it in (data, *others) for argument in (it, len(it))]
-    result = library.result_of(call, len(data) + 64, *crossed, DEPTH)
+    depth = library.fitting(library.LEVEL_STACK, data, *others)
+    result = library.result_of(call, len(data) + 64, *crossed, depth)
     is_array = data[0] & library.HEADER_TAG_MASK == library.ARRAY
-    if not is_array and not library.check(result, len(result), DEPTH):
-        raise library.error_of(library.TOO_DEEP, f"the array would nest more than {DEPTH} deep")
+    if not is_array and not library.check(result, len(result), depth):
+        raise _too_deep("array", depth)
     return result
 
 
@@ -139,4 +148,4 @@ def without_nulls(data: bytes) -> bytes:
     """A document without the members that are null, in each object in it."""
     if library.IS_NATIVE:
         return native.strip_nulls(data)
-    return library.result_of(library.strip_nulls, len(data) + 64, data, len(data), DEPTH)
+    return library.result_of_document(library.strip_nulls, len(data) + 64, data)

@@ -11,11 +11,12 @@ from . import _changes as changes
 from . import _library as library
 from . import _scalars as scalars
 from ._changes import DocumentPath, Step
-from ._encode import DEPTH, bytes_of_text, encode, encode_other, parse
-from ._errors import KohibladError, PathError
+from ._encode import bytes_of_text, encode, encode_other, parse
+from ._errors import KohibladError, PathError, TooDeepError
 from ._expected import fault_of, quoted_path
 from ._library import IS_NATIVE
 from ._scalars import Scalar, scalar_of
+from ._stack import DEPTH
 
 if IS_NATIVE:
     from . import _native as native
@@ -68,7 +69,8 @@ class Document:
 
         ``depth`` is how deep it may nest, from 0 to 1,000: a scalar has depth 0, an array or object
         one more than its deepest child, and at least 1. InvalidDocumentError: the bytes are no
-        document of that depth.
+        document of that depth. TooDeepError: they nest deeper than the thread's stack carries, as
+        each call says that walks a document.
         """
         if library.is_long(data):
             return cast(Document, library.attended(0, _checked, data, depth))
@@ -81,9 +83,10 @@ class Document:
 
         Of a key that comes twice the last value stays. A number with an exponent means exactly its
         value, ``1e5`` the whole number 100000; with ``exponents=False`` it is refused. ``depth`` is
-        how deep brackets may nest, from 0 to 1,000. InvalidTextError: the text is no JSON or not
-        UTF-8, or has a number that is refused or has too many digits, and its `offset` says where;
-        TooDeepError; InvalidDocumentError: it is past a limit of the format.
+        how deep brackets may nest, from 0 to 1,000, but no deeper than the thread's stack carries.
+        InvalidTextError: the text is no JSON or not UTF-8, or has a number that is refused or has
+        too many digits, and its `offset` says where; TooDeepError; InvalidDocumentError: it is past
+        a limit of the format.
         """
         if library.is_long(text):
             return cast(Document, library.attended(library.guess_of(text), _parsed, text, depth,
@@ -126,7 +129,7 @@ class Document:
         if not _may_have_extensions(self._data):
             try:
                 return _value_of_json(str(self))
-            except RecursionError:
+            except (RecursionError, TooDeepError):
                 pass
         return library.run_nested(_decoder, self._data)
 
@@ -180,10 +183,11 @@ class Document:
         """
         other_data = _data_of(other)
         size, other_size = len(self._data), len(other_data)
+        depth = library.fitting(library.LEVEL_STACK, self._data, other_data)
         budget = _budget_of(steps)
         allowed = min(_FIRST_STEPS, budget)
         while True:
-            truth = library.contains(self._data, size, other_data, other_size, DEPTH, allowed)
+            truth = library.contains(self._data, size, other_data, other_size, depth, allowed)
             if truth.status != library.TOO_MANY_STEPS or allowed == budget:
                 return library.is_true(truth)
             allowed = min(4 * allowed, budget)
@@ -199,7 +203,7 @@ class Document:
         data = _utf8_of_name(name)
         if data is None:
             return False
-        return library.is_true(library.exists(self._data, len(self._data), data, len(data), DEPTH))
+        return self._is_true(library.exists, data)
 
     def has_any_key(self, *names: str) -> bool:
         """Whether ``has_key`` is true of one of the names, in one walk; of no names it is not.
@@ -208,9 +212,7 @@ class Document:
         >>> row.has_any_key("id", "size"), row.has_any_key("size"), row.has_any_key()
         (True, False, False)
         """
-        listed = changes.document_of_path(_names_of_keys(names))
-        return library.is_true(library.exists_any(self._data, len(self._data), listed,
-                                                  len(listed), DEPTH))
+        return self._is_true(library.exists_any, changes.document_of_path(_names_of_keys(names)))
 
     def has_all_keys(self, *names: str) -> bool:
         """Whether ``has_key`` is true of all the names, in one walk; of no names it is.
@@ -222,9 +224,7 @@ class Document:
         found = _names_of_keys(names)
         if len(found) < len(names):
             return False
-        listed = changes.document_of_path(found)
-        return library.is_true(library.exists_all(self._data, len(self._data), listed,
-                                                  len(listed), DEPTH))
+        return self._is_true(library.exists_all, changes.document_of_path(found))
 
     def get_path(self, *steps: Step, default: Any = None) -> Any:
         """The value at the end of a path, or the default if the path leads nowhere.
@@ -428,8 +428,9 @@ class Document:
         (True, False)
         """
         other_data = _data_of(other)
+        depth = library.fitting(library.LEVEL_STACK, self._data, other_data)
         return library.is_true(library.array_overlap(self._data, len(self._data), other_data,
-                                                     len(other_data), DEPTH))
+                                                     len(other_data), depth))
 
     def merge(self, patch: Any) -> "Document":
         """A new document, changed by a merge patch: a Python value or a document, as in RFC 7396.
@@ -496,8 +497,12 @@ class Document:
 
     def _written(self, call: Any, guess: int, *arguments: Any) -> bytes:
         data = self._data
-        return library.made_of(data, library.result_of, call, guess, data, len(data), *arguments,
-                               DEPTH)
+        return library.made_of(data, library.result_of_document, call, guess, data, *arguments)
+
+    def _is_true(self, call: Any, other: bytes) -> bool:
+        """What a call says of the document and a name, or the document of names."""
+        depth = library.fitting(library.LEVEL_STACK, self._data)
+        return library.is_true(call(self._data, len(self._data), other, len(other), depth))
 
     def __bytes__(self) -> bytes:
         return self._data
@@ -771,8 +776,9 @@ def _checked(data: Any, depth: int) -> Document:
     if IS_NATIVE:
         return native.check(data, depth)
     data, depth = _bytes_of_stored(data), _checked_depth(depth)
-    if not library.check(data, len(data), depth):
-        raise _no_document(depth)
+    within = min(depth, library.depth_of(library.LEVEL_STACK, data))
+    if not library.check(data, len(data), within):
+        raise _no_document(data, depth, within)
     return _of_checked(data)
 
 
@@ -794,7 +800,14 @@ def _bytes_of_stored(data: Any) -> bytes:
     return library.bytes_of(data, "Document takes stored bytes (Document.parse: a text)")
 
 
-def _no_document(depth: int) -> KohibladError:
+def _no_document(data: bytes, depth: int, within: int) -> KohibladError:
+    """Why bytes are refused that are no document within a depth: that which was given, or that of
+    the thread's stack."""
+    if within < depth:
+        try:
+            library.expect_carried(data, within)
+        except TooDeepError as error:
+            return error
     return library.error_of(library.INVALID_JSONB, f"no document of depth {depth} or less")
 
 
@@ -863,6 +876,7 @@ if IS_NATIVE:
          "key_slot": vars(Document)["_key"], "decimal": Decimal, "bytes_of_text": bytes_of_text,
          "bytes_of_stored": _bytes_of_stored, "checked_depth": _checked_depth,
          "error_of": library.error_of, "fault_of": fault_of, "no_document": _no_document,
+         "too_deep": library.too_deep,
          "extension_of": scalars.extension_of,
          "encode_other": lambda value, level: encode_other(value, level, Document),
          "text_of_int": scalars.text_of_int,

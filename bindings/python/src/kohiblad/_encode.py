@@ -14,6 +14,7 @@ from . import _library as library
 from . import _scalars as scalars
 from ._errors import FloatError, InvalidTextError, TooDeepError
 from ._expected import fault_of, refused_str
+from ._stack import DEPTH
 
 if library.IS_NATIVE:
     from . import _native as native
@@ -26,14 +27,13 @@ Encoder = Generator[Any, Encoded, Encoded]
 # The JSON text of a str. Not all type checkers know its name.
 text_of_str: Callable[[str], str] = getattr(json.encoder, "encode_basestring")
 
-DEPTH = library.DEPTH
-
 
 def parse(text: Union[str, bytes], depth: int = DEPTH, exponents: bool = True) -> bytes:
     """The document of a JSON text, whose numbers may have exponents or not."""
     if library.IS_NATIVE:
         return bytes(native.parse(text, depth, exponents))
     data = bytes_of_text(text)
+    depth = min(depth, library.depth_of(library.LEVEL_STACK, data))
     try:
         return library.result_of(library.parse, library.guess_of(data), data, len(data), depth,
                                  exponents)
@@ -66,8 +66,11 @@ def encode(value: Any, document_type: Type[SupportsBytes]) -> bytes:
 def encode_other(value: Any, level: int, document_type: Type[SupportsBytes]) -> Optional[Encoded]:
     """A scalar, or a document at a level of the value that is encoded; None for a container."""
     if isinstance(value, document_type):
-        document = bytes(value)
-        _expect(library.check(document, len(document), DEPTH - level))
+        document, most = bytes(value), DEPTH - level
+        depth = library.depth_of(library.LEVEL_STACK, document)
+        if depth < most and not library.check(document, len(document), depth):
+            raise library.too_deep(depth)
+        _expect(library.check(document, len(document), min(most, depth)))
         return document
     write = _writer_of(value)
     return write(value) if write else None

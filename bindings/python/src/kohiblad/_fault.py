@@ -7,9 +7,9 @@ entry word only to say what is wrong with it.
 from typing import NamedTuple, Tuple
 
 from . import _library as library
-from ._encode import DEPTH
 from ._errors import KohibladError
 from ._parts import EXTENSIONS, KINDS, WORD
+from ._stack import DEPTH
 
 _SCALAR_HEADER = library.scalar_document(library.TYPE_NULL, b"")[:WORD]
 _EMPTY_TYPES = (library.TYPE_NULL, library.TYPE_FALSE, library.TYPE_TRUE)
@@ -31,11 +31,16 @@ class _Found(Exception):
 
 
 def fault_of(data: bytes) -> Fault:
-    """The first fault of bytes that are not a document of at most DEPTH."""
+    """The first fault of bytes that are not a document of at most DEPTH.
+
+    TooDeepError: they nest deeper than the thread's stack carries, so that it is not known.
+    """
     begin, end = 0, len(data)
+    depth = library.depth_left(library.LEVEL_STACK)
+    library.expect_carried(data, depth)
     for level in range(DEPTH + 1):
         try:
-            inner_begin, inner_end = _faulty_child(data[begin:end], level)
+            inner_begin, inner_end = _faulty_child(data[begin:end], level, depth)
         except _Found as found:
             name = library.status_name(found.status)
             return Fault(begin + found.offset, name, found.reason)
@@ -43,10 +48,11 @@ def fault_of(data: bytes) -> Fault:
     raise AssertionError("a fault is at most DEPTH levels down")
 
 
-def _faulty_child(data: bytes, level: int) -> Tuple[int, int]:
+def _faulty_child(data: bytes, level: int, depth: int) -> Tuple[int, int]:
     """Where the first array or object with a fault is among the parts. _Found: the fault is here.
 
-    The data are what is so many levels down: the whole, or an array or object in it.
+    The data are what is so many levels down: the whole, or an array or object in it. They are
+    looked at within a depth.
     """
     keys, count = _counts(data, level)
     end = WORD * (1 + count)
@@ -71,7 +77,7 @@ def _faulty_child(data: bytes, level: int) -> Tuple[int, int]:
         if type_ != library.TYPE_CONTAINER:
             _test_payload(type_, payload, begin)
         elif library.header_status(payload) == library.NONE \
-                or not library.check(payload, length, DEPTH - level - 1):
+                or not library.check(payload, length, min(DEPTH - level - 1, depth)):
             return begin, end
         if number < keys and not fault_of_keys:
             if type_ != library.TYPE_STRING:

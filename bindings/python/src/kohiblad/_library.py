@@ -16,9 +16,11 @@ from functools import lru_cache
 from typing import (Any, Callable, Dict, Generator, Iterator, List, Optional, Sequence, Tuple, Type,
                     TypeVar, Union)
 
-from . import __version__
+from . import __version__, _stack
 from ._errors import (ExtensionError, InvalidDocumentError, InvalidTextError, KohibladError,
                       NumberError, OutOfMemoryError, PathError, TooDeepError, TooManyStepsError)
+
+from ._stack import DEPTH
 
 FILE_NAME = "libkohiblad.so.0.8"
 OLDEST_VERSION = 8000
@@ -68,8 +70,11 @@ ROW_NO_DOCUMENT = 4
 # Of steps.
 NO_LIMIT = 2**64 - 1
 
-# The greatest depth of any document and text.
-DEPTH = 1000
+# The stack that is enough for each level of a document: of most calls, of those that edit, and of a
+# merge patch.
+LEVEL_STACK, EDIT_LEVEL_STACK, PATCH_LEVEL_STACK = 1024, 2048, 2432
+# How many bytes of a document a level takes at least, but for the last one.
+_LEVEL_SIZE = 8
 
 # The tags of headers.
 HEADER_TAG_MASK = 0xE0
@@ -229,6 +234,15 @@ def _has_native() -> bool:
 
 
 IS_NATIVE: bool = _has_native()
+if IS_NATIVE:
+    from . import _native as native
+
+# How deep documents may nest for calls that take so many bytes of stack for each level, here and
+# now: what is left of the thread's stack carries that depth, which is at most DEPTH.
+depth_left: Callable[[int], int] = native.depth_left if IS_NATIVE else _stack.depth_left
+# The same for calls over some bytes or texts.
+depth_of: Callable[..., int] = \
+    (lambda level_stack, *data: native.depth_left(level_stack)) if IS_NATIVE else _stack.depth_of
 
 
 def addresses(*names: str) -> Dict[str, int]:
@@ -445,9 +459,58 @@ def result_of(call: Callable[..., int], guess: int, *arguments: Any) -> bytes:
     return result
 
 
+def too_deep(depth: int) -> KohibladError:
+    """The exception for a document that nests deeper than the thread's stack carries."""
+    return error_of(TOO_DEEP, f"it nests more than {depth:,} deep, which is what the stack that is "
+                              "left to this thread carries")
+
+
+def fitting(level_stack: int, *documents: bytes) -> int:
+    """The depth within which a call reads these documents that takes so much stack for each level.
+
+    TooDeepError: one nests deeper.
+    """
+    depth = depth_of(level_stack, *documents)
+    if depth < DEPTH:
+        for it in documents:
+            if len(it) // _LEVEL_SIZE >= depth and not check(it, len(it), depth):
+                raise too_deep(depth)
+    return depth
+
+
+def result_of_document(call: Callable[..., int], guess: int, document: bytes,
+                       *arguments: Any) -> bytes:
+    """The bytes that a call writes for a document, as `result_of`."""
+    return result_of(call, guess, document, len(document), *arguments,
+                     fitting(LEVEL_STACK, document))
+
+
+def expect_carried(data: bytes, depth: int) -> None:
+    """TooDeepError: bytes, which need be no document, nest deeper than the stack carries."""
+    if depth < DEPTH and len(data) // _LEVEL_SIZE >= depth \
+            and not check(data, len(data), depth) and _nests_deeper(data, depth):
+        raise too_deep(depth)
+
+
+def _nests_deeper(data: bytes, depth: int) -> bool:
+    """Whether arrays and objects in bytes, which need be no document, nest deeper than this."""
+    opened = [(0, len(data), 1)]
+    while opened:
+        begin, size, level = opened.pop()
+        if level > depth:
+            return True
+        try:
+            opened += [(at, length, level + 1)
+                       for _, _, type_, at, length in member_places(data, begin, size)
+                       if type_ == TYPE_CONTAINER and level + length // _LEVEL_SIZE >= depth]
+        except KohibladError:
+            pass  # There is a fault, and nothing to read after it.
+    return False
+
+
 def key_of(data: bytes) -> bytes:
     """The comparable key of bytes, which need be no document: then the call is refused."""
-    return result_of(key, guess_of(data), data, len(data), DEPTH)
+    return result_of(key, guess_of(data), data, len(data), fitting(LEVEL_STACK, data))
 
 
 # A call over so many bytes may take a tenth of a second.
@@ -520,10 +583,10 @@ def _has_started(make: Callable[[], None], size: int) -> bool:
 
 def keys_of(call: Callable[..., int], document: bytes) -> List[int]:
     """The keys of an index that a call writes for a document."""
-    size = len(document)
+    size, depth = len(document), fitting(LEVEL_STACK, document)
     # There are at most size / 4, each of eight bytes.
     room = _room_of(2 * size)
-    status = call(document, size, size, room.address, room.size // 8, room.length_address)
+    status = call(document, size, depth, room.address, room.size // 8, room.length_address)
     if status != OK:
         raise error_of(status)
     keys = memoryview(ctypes.string_at(room.address, 8 * room.length.value)).cast("Q").tolist()
@@ -538,7 +601,7 @@ def path_of_text(document: bytes, text: bytes) -> bytes:
     PathError: the text is not a path.
     """
     return result_of(path_in, guess_of(text), document, len(document), text, len(text),
-                     len(document))
+                     fitting(LEVEL_STACK, document))
 
 
 def places_of(document: bytes, path: bytes) -> List[Tuple[int, int, int]]:
@@ -547,12 +610,12 @@ def places_of(document: bytes, path: bytes) -> List[Tuple[int, int, int]]:
     PathError: the text is not a path.
     """
     size, each = len(document), ctypes.sizeof(Place)
-    room = _room_of(0)
-    status = select(document, size, path, len(path), size, room.address, room.size // each,
+    depth, room = fitting(LEVEL_STACK, document), _room_of(0)
+    status = select(document, size, path, len(path), depth, room.address, room.size // each,
                     room.length_address)
     if status == NO_ROOM:
         room = _Room(each * room.length.value)
-        status = select(document, size, path, len(path), size, room.address, room.size // each,
+        status = select(document, size, path, len(path), depth, room.address, room.size // each,
                         room.length_address)
     if status != OK:
         raise error_of(status)
@@ -688,6 +751,8 @@ def payload_of(document: bytes, place: Place) -> bytes:
 
 def build(call: Callable[..., int], rows: Sequence[bytes]) -> bytes:
     """What `build_array` or `build_object` make of rows that were checked before."""
+    # Those of an object are keys and values in turn.
+    depth = fitting(LEVEL_STACK, *(rows[1::2] if call is build_object else rows))
     offsets = (c_size_t * (len(rows) + 1))()
     end = 0
     for index, row in enumerate(rows, 1):
@@ -695,8 +760,7 @@ def build(call: Callable[..., int], rows: Sequence[bytes]) -> bytes:
         offsets[index] = end
     guess = end + 4 * len(rows) + 8
     count = len(offsets)
-    # No row nests as deep as all have bytes.
-    return result_of(call, guess, b"".join(rows), end, ctypes.addressof(offsets), count, end)
+    return result_of(call, guess, b"".join(rows), end, ctypes.addressof(offsets), count, depth)
 
 
 def _document_of_part(type_: int, payload: bytes) -> bytes:

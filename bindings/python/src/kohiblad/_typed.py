@@ -14,7 +14,6 @@ from . import _capsules as capsules
 from . import _library as library
 from ._changes import Step, document_of_path
 from ._document import Document
-from ._encode import DEPTH
 from ._errors import KohibladError, UnfitError
 from ._scalars import Interval, date_of, decimal_of, decimals_of, timestamp_of, timestamp_tz_of
 from ._zones import Zones, zones_of
@@ -63,6 +62,8 @@ class Batch(NamedTuple):
     begin: int
     end: int
     offsets: int
+    # Within which calls read the rows, none of which nests deeper.
+    depth: int
     # What has the memory.
     owner: Any
 
@@ -122,7 +123,7 @@ def survey_of(batches: Iterable[Batch], steps: Tuple[Step, ...]) -> Survey:
     least_scale, greatest_scale, most_digits, longest_text, has_numbers = 0, 0, 0, 0, False
     for batch in batches:
         it = library.survey(batch.data, batch.end, batch.offsets, batch.length + 1, path, len(path),
-                            DEPTH)
+                            batch.depth)
         if it.status != library.OK:
             raise library.error_of(it.status)
         totals = [total + getattr(it, name)
@@ -407,7 +408,8 @@ def _int128(low: int, high: int) -> int:
 
 def _member_of(row: bytes, path: bytes) -> Document:
     """The document of the member that a row has at the end of a path."""
-    place = library.get_path(row, len(row), path, len(path), DEPTH)
+    place = library.get_path(row, len(row), path, len(path),
+                             library.fitting(library.LEVEL_STACK, row))
     if place.status != library.OK:
         raise library.error_of(place.status)
     payload = library.payload_of(row, place)
@@ -449,7 +451,7 @@ class _Places:
         """Finds the members in a batch. Rows that are known to be documents are not checked."""
         status = library.locate[is_known](
             batch.data, batch.end, batch.offsets, batch.length + 1, self._names, len(self._names),
-            DEPTH, ctypes.addressof(self._room), len(self._numbers) * batch.length)
+            batch.depth, ctypes.addressof(self._room), len(self._numbers) * batch.length)
         if status != library.OK:
             raise library.error_of(status)
 
@@ -502,7 +504,7 @@ class _Filled:
         if self._places is not None:
             return (batch.data, batch.end, *self._places)
         return (batch.data, batch.end, batch.offsets, batch.length + 1, self._path, len(self._path),
-                DEPTH)
+                batch.depth)
 
     def _states_at(self, batch: Batch) -> Tuple[int, int]:
         return self.states.buffer_info()[0] + batch.first, batch.length

@@ -33,8 +33,8 @@ from . import _library as library
 from . import _typed as typed
 from ._changes import DocumentPath, steps_of
 from ._document import Document
-from ._encode import DEPTH
-from ._errors import KohibladError, OutOfMemoryError
+from ._errors import KohibladError, OutOfMemoryError, TooDeepError
+from ._stack import DEPTH
 from ._typed import Survey, Typed
 from ._zones import Zones
 
@@ -87,11 +87,29 @@ class _Rows(NamedTuple):
         """The address of the offset of a row."""
         return ctypes.addressof(self.offsets) + 8 * (self.first + row)
 
+    def depth_of(self, first: int, count: int) -> int:
+        """The depth within which calls read some rows. TooDeepError: one nests deeper than the
+        thread's stack carries."""
+        depth = library.depth_left(library.LEVEL_STACK)
+        if depth < DEPTH:
+            for row in range(first, first + count):
+                if not self.is_missing(row):
+                    self.expect_carried(row, depth)
+        return depth
+
+    def expect_carried(self, row: int, depth: int) -> None:
+        """TooDeepError: a row nests deeper."""
+        try:
+            library.expect_carried(self.bytes_at(row), depth)
+        except TooDeepError as error:
+            error.row, error.place = row, f"row {row}"
+            raise
+
     def sorted_run(self, first: int, count: int) -> List[int]:
-        """The numbers of some rows, in their order."""
-        order = (c_size_t * count)()
+        """The numbers of some rows, in their order. Raises as `depth_of`."""
+        order, depth = (c_size_t * count)(), self.depth_of(first, count)
         status = library.sort(self.data, self.offsets[self.first + first + count],
-                              self.offsets_at(first), count + 1, DEPTH, order, count)
+                              self.offsets_at(first), count + 1, depth, order, count)
         if status != library.OK:
             raise library.error_of(status)
         numbers = [first + row for row in order]
@@ -108,6 +126,7 @@ class _Rows(NamedTuple):
         except OutOfMemoryError:
             raise
         except KohibladError:
+            self.expect_carried(row, library.depth_left(library.LEVEL_STACK))
             return 1, b""
 
     def batches(self) -> Iterator[typed.Batch]:
@@ -115,8 +134,8 @@ class _Rows(NamedTuple):
             yield self._batch(first, min(typed.BATCH, self.length - first))
 
     def _batch(self, first: int, count: int) -> typed.Batch:
-        """Some rows where they are, or a copy where a missing row has bytes."""
-        at = self.first + first
+        """Some rows where they are, or a copy where a missing row has bytes. Raises as `depth_of`."""
+        at, depth = self.first + first, self.depth_of(first, count)
         if any(self.offsets[at + row] < self.offsets[at + row + 1]
                for row in self._missing(first, count)):
             missing = set(self._missing(first, count))
@@ -124,9 +143,9 @@ class _Rows(NamedTuple):
             data = ctypes.create_string_buffer(b"".join(rows))
             ends = array.array("q", [0, *itertools.accumulate(map(len, rows))])
             return typed.Batch(first, count, ctypes.addressof(data), 0, ends[-1],
-                               ends.buffer_info()[0], (data, ends))
+                               ends.buffer_info()[0], depth, (data, ends))
         return typed.Batch(first, count, self.data, self.offsets[at], self.offsets[at + count],
-                           self.offsets_at(first), self)
+                           self.offsets_at(first), depth, self)
 
     def _missing(self, first: int, count: int) -> Iterator[int]:
         """The numbers of the missing rows among some, counted from the first of these."""

@@ -15,7 +15,6 @@ from typing import (Any, Callable, Dict, Iterable, Iterator, List, Mapping, Sequ
 
 from . import _library as library
 from ._document import Document
-from ._encode import DEPTH
 from ._scalars import Interval, date_of, decimal_of, timestamp_of, timestamp_tz_of
 from ._target import File, target_of
 
@@ -69,9 +68,9 @@ def _bytes_of_type(name: str) -> bytes:
     return bytes([_TYPES.index(word), int(scale)])
 
 
-def _built(_kept: Any, *words: Any) -> bytes:
-    """What a call makes, for which something is kept at an address until it ends."""
-    return library.result_of(*words)
+def _built(rows: List[bytes], _kept: Any, *words: Any) -> bytes:
+    """What a call makes of rows, for which something is kept at an address until it ends."""
+    return library.result_of(*words, library.fitting(library.EDIT_LEVEL_STACK, *rows))
 
 
 class _PyBuffer(ctypes.Structure):
@@ -207,7 +206,8 @@ class TypedFile(library.Fixed, Sequence[Document]):
         library.set_fields(self, _view=view, _at=_address_of(view), _size=len(view))
         told = self._told()
         if check or not told:
-            checked = library.check_typed_file(self._at, self._size, DEPTH)
+            checked = library.check_typed_file(self._at, self._size,
+                                               library.depth_left(library.LEVEL_STACK))
             if checked.status != library.OK:
                 raise library.error_of(checked.status)
             length = checked.rows
@@ -253,10 +253,10 @@ class TypedFile(library.Fixed, Sequence[Document]):
         guess = 2 * end + len(rows) * (17 * len(names) + 8) + 64 * len(names) + 64
         data = b"".join(rows)
         words = (library.build_typed_file, guess, data, end, ctypes.addressof(offsets),
-                 len(offsets), listed, len(listed), kinds, len(kinds), DEPTH)
+                 len(offsets), listed, len(listed), kinds, len(kinds))
         if library.is_long(data):
-            return cast(bytes, library.attended(guess, _built, offsets, *words))
-        return library.result_of(*words)
+            return cast(bytes, library.attended(guess, _built, rows, offsets, *words))
+        return _built(rows, offsets, *words)
 
     @classmethod
     def write(cls, file: File, documents: Iterable[Any], types: Mapping[str, str]) -> int:
@@ -293,7 +293,7 @@ class TypedFile(library.Fixed, Sequence[Document]):
         if not 0 <= index < self._length:
             raise IndexError("row out of range")
         return Document(library.result_of(library.typed_row, 0, self._at, self._size, index,
-                                          DEPTH))
+                                          library.depth_left(library.EDIT_LEVEL_STACK)))
 
     @property
     def columns(self) -> List[StoredColumn]:

@@ -31,11 +31,27 @@ static uint32_t make_change(const struct library *library, const struct change *
     }
 }
 
+/* Whether the thread's stack carries the documents. The package has tested those of an edit, which
+ * need more or less by where the path leads. False with an exception: one nests deeper. */
+static bool carries(struct state *state, const struct change *it)
+{
+    if (it->call == CHANGE_EDIT) return true;
+    size_t depth = depth_left(it->call == CHANGE_MERGE_PATCH ? KOHIBLAD_PATCH_LEVEL_STACK
+                              : it->call == CHANGE_STRIP_NULLS ? KOHIBLAD_LEVEL_STACK
+                              : KOHIBLAD_EDIT_LEVEL_STACK);
+    if (fits(state, it->data.at, it->data.size, depth)
+        && (!it->other.at || fits(state, it->other.at, it->other.size, depth)))
+        return true;
+    raise_too_deep(state, depth);
+    return false;
+}
+
 /* The bytes of the result. */
 static PyObject *changed(struct state *state, const struct change *it)
 {
     struct room room;
     uint32_t status = KOHIBLAD_NO_ROOM;
+    if (!carries(state, it)) return NULL;
     size_t size = it->data.size + it->other.size + it->value.size;
     room.bytes = NULL;
     room.length = size + 64;

@@ -17,7 +17,8 @@ static const struct { const char *name; size_t offset; } objects[] = {
     OBJECT(scalar_document), OBJECT(object_document), OBJECT(array_document), OBJECT(data_slot),
     OBJECT(key_slot), OBJECT(decimal), OBJECT(bytes_of_text), OBJECT(bytes_of_stored),
     OBJECT(checked_depth), OBJECT(error_of), OBJECT(fault_of), OBJECT(no_document),
-    OBJECT(extension_of), OBJECT(encode_other), OBJECT(text_of_int), OBJECT(text_of_decimal),
+    OBJECT(too_deep), OBJECT(extension_of), OBJECT(encode_other), OBJECT(text_of_int),
+    OBJECT(text_of_decimal),
 };
 
 #define COUNT_OF(list) (sizeof (list) / sizeof *(list))
@@ -118,18 +119,17 @@ static uint32_t make_call(const struct library *library, enum call call, const u
                           size_t size, size_t depth, bool exponents, struct room *room)
 {
     uint8_t *out = room->at;
-    /* A document of n bytes is less than n deep, so the depth `size` excludes none. */
     switch (call) {
     case CALL_KEY:
-        return library->key(bytes, size, size, out, room->size, &room->length);
+        return library->key(bytes, size, depth, out, room->size, &room->length);
     case CALL_PARSE:
         return library->parse(bytes, size, depth, exponents, out, room->size, &room->length);
     case CALL_TO_CANONICAL:
-        return library->canonical(bytes, size, size, out, room->size, &room->length);
+        return library->canonical(bytes, size, depth, out, room->size, &room->length);
     case CALL_TO_PRETTY:
-        return library->pretty(bytes, size, size, out, room->size, &room->length);
+        return library->pretty(bytes, size, depth, out, room->size, &room->length);
     default:
-        return library->print(bytes, size, size, out, room->size, &room->length);
+        return library->print(bytes, size, depth, out, room->size, &room->length);
     }
 }
 
@@ -163,6 +163,14 @@ uint32_t call_into(struct state *state, enum call call, const uint8_t *bytes, si
      * first. */
     room->length = call == CALL_TO_PRETTY ? 0 : 2 * size + 64;
     *failed = false;
+    if (call != CALL_PARSE) {
+        depth = depth_left(KOHIBLAD_LEVEL_STACK);
+        if (!fits(state, bytes, size, depth)) {
+            raise_too_deep(state, depth);
+            *failed = true;
+            return KOHIBLAD_OK;
+        }
+    }
     while (status == KOHIBLAD_NO_ROOM) {
         if (!open_room(room, room->length)) {
             *failed = true;
@@ -230,6 +238,8 @@ bool parse_into(struct state *state, const struct input *text, size_t depth, boo
                 struct room *room)
 {
     bool failed;
+    size_t most = depth_left(KOHIBLAD_LEVEL_STACK);
+    if (depth > most) depth = most;
     uint32_t status = call_into(state, CALL_PARSE, text->at, text->size, depth, exponents, room,
                                 &failed);
     if (status != KOHIBLAD_OK) refuse_text(state, text, depth, exponents, status);
@@ -320,14 +330,17 @@ PyObject *native_loads(PyObject *module, PyObject *given)
     return value;
 }
 
-/* Raises what the package raises for bytes that are no document of a depth. */
-static PyObject *refuse_document(struct state *state, size_t depth)
+/* Raises what the package raises for bytes that are no document of a depth, within the depth that
+ * they were looked at. */
+static PyObject *refuse_document(struct state *state, PyObject *data, size_t depth, size_t within)
 {
-    PyObject *number = PyLong_FromSize_t(depth);
-    if (!number) return NULL;
-    PyObject *exception = PyObject_CallFunctionObjArgs(state->no_document, number, NULL);
-    Py_DECREF(number);
-    return raise_made(exception);
+    PyObject *numbers[] = { PyLong_FromSize_t(depth), PyLong_FromSize_t(within) };
+    if (numbers[0] && numbers[1])
+        raise_made(PyObject_CallFunctionObjArgs(state->no_document, data, numbers[0], numbers[1],
+                                                NULL));
+    Py_XDECREF(numbers[0]);
+    Py_XDECREF(numbers[1]);
+    return NULL;
 }
 
 PyObject *native_check(PyObject *module, PyObject *const *arguments, Py_ssize_t count)
@@ -341,15 +354,17 @@ PyObject *native_check(PyObject *module, PyObject *const *arguments, Py_ssize_t 
         : PyObject_CallFunctionObjArgs(state->bytes_of_stored, arguments[0], NULL);
     PyObject *document = NULL;
     if (data && open_data(data, &input) && quick_depth_of(state, arguments[1], &depth)) {
+        size_t most = depth_left(KOHIBLAD_LEVEL_STACK), within = depth < most ? depth : most;
         bool is_document;
         if (input.size < LONG_SIZE) {
-            is_document = state->library.check(input.at, input.size, depth);
+            is_document = state->library.check(input.at, input.size, within);
         } else {
             Py_BEGIN_ALLOW_THREADS
-            is_document = state->library.check(input.at, input.size, depth);
+            is_document = state->library.check(input.at, input.size, within);
             Py_END_ALLOW_THREADS
         }
-        document = is_document ? document_of(state, data) : refuse_document(state, depth);
+        document = is_document ? document_of(state, data)
+                               : refuse_document(state, data, depth, within);
     }
     Py_XDECREF(data);
     return document;
@@ -396,11 +411,11 @@ PyObject *native_to_string(PyObject *module, PyObject *data)
 #define NO(name) { #name, native_##name, METH_NOARGS, NULL }
 
 static PyMethodDef functions[] = {
-    FAST(bind), FAST(check), FAST(concat), FAST(contains), ONE(count), ONE(dumps), FAST(edit),
-    NO(end_uses), FAST(item), ONE(key), ONE(kind), ONE(loads), FAST(member), FAST(merge_patch),
-    ONE(names), NO(new_use), ONE(of), FAST(of_extension), ONE(pairs), FAST(parse), ONE(releases),
-    FAST(select), ONE(strip_nulls), ONE(to_canonical), ONE(to_pretty), ONE(to_string), ONE(value),
-    ONE(values),
+    FAST(bind), FAST(check), FAST(concat), FAST(contains), ONE(count), ONE(depth_left), ONE(dumps),
+    FAST(edit), NO(end_uses), FAST(item), ONE(key), ONE(kind), ONE(loads), FAST(member),
+    FAST(merge_patch), ONE(names), NO(new_use), ONE(of), FAST(of_extension), ONE(pairs),
+    FAST(parse), ONE(releases), FAST(select), ONE(strip_nulls), ONE(to_canonical), ONE(to_pretty),
+    ONE(to_string), ONE(value), ONE(values),
     { NULL, NULL, 0, NULL },
 };
 
@@ -447,7 +462,8 @@ static void free_state(void *module)
 
 static PyModuleDef_Slot slots[] = {
     { Py_mod_exec, (void *)prepare },
-    /* All that it has is in its state, but for what guards the uses of Arrow's structs. */
+    /* All that it has is in its state, but for what guards the uses of Arrow's structs, and where a
+     * thread's stack begins, which is one for all interpreters. */
 #if PY_VERSION_HEX >= 0x030C0000
     { Py_mod_multiple_interpreters, Py_MOD_PER_INTERPRETER_GIL_SUPPORTED },
 #endif

@@ -29,6 +29,9 @@ static inline PyObject *Py_NewRef(PyObject *object)
 /* The greatest depth of any document and text: DEPTH of the package. */
 #define MOST_DEPTH 1000
 
+/* How many bytes of a document a level takes at least, but for the last one. */
+#define LEVEL_SIZE 8
+
 /* Python's lock is released for calls over so many bytes or more. */
 #define LONG_SIZE (1 << 14)
 
@@ -73,7 +76,7 @@ struct state {
     PyObject *data_slot, *key_slot;   /* what sets the fields of a document */
     PyObject *decimal;                /* the class Decimal */
     PyObject *bytes_of_text, *bytes_of_stored, *checked_depth;
-    PyObject *error_of, *fault_of, *no_document;
+    PyObject *error_of, *fault_of, *no_document, *too_deep;
     PyObject *extension_of, *encode_other, *text_of_int, *text_of_decimal;
     PyObject *names[NAME_PLACES];
     /* What others use of Arrow's structs, by the addresses of their uses, and what hands them out.
@@ -101,18 +104,28 @@ struct room {
     uint8_t near[NEAR_SIZE];
 };
 
+/* How deep documents may nest for calls that take so many bytes of stack for each level, here and
+ * now: what is left of the thread's stack carries that depth. It is at most MOST_DEPTH. */
+size_t depth_left(size_t level_stack);
+/* Whether a document nests no deeper than that. */
+bool fits(struct state *state, const uint8_t *bytes, size_t size, size_t depth);
+/* Raises the exception for a document that nests deeper, and returns NULL. */
+PyObject *raise_too_deep(struct state *state, size_t depth);
+
 /* The calls whose results are bytes. */
 enum call { CALL_KEY, CALL_PARSE, CALL_TO_CANONICAL, CALL_TO_PRETTY, CALL_TO_STRING };
 
-/* Makes a call over some bytes into a room. `depth` and `exponents` are those of parse. Returns
- * the status, or OK with *failed set: Python was refused memory, and has an exception. */
+/* Makes a call over a text or a document into a room. `depth` and `exponents` are those of parse.
+ * Returns the status, or OK with *failed set and an exception: Python was refused memory, or the
+ * document nests deeper than the thread's stack carries. */
 uint32_t call_into(struct state *state, enum call call, const uint8_t *bytes, size_t size,
                    size_t depth, bool exponents, struct room *room, bool *failed);
 /* Makes a room of this size. False with an exception: no memory. */
 bool open_room(struct room *room, size_t size);
 void close_room(struct room *room);
 
-/* Parses a text into a room. False with the exception that Document.parse raises: it is refused. */
+/* Parses a text into a room, no deeper than the thread's stack carries. False with the exception
+ * that Document.parse raises: it is refused. */
 bool parse_into(struct state *state, const struct input *text, size_t depth, bool exponents,
                 struct room *room);
 
@@ -157,6 +170,7 @@ PyObject *native_check(PyObject *module, PyObject *const *arguments, Py_ssize_t 
 PyObject *native_concat(PyObject *module, PyObject *const *arguments, Py_ssize_t count);
 PyObject *native_contains(PyObject *module, PyObject *const *arguments, Py_ssize_t count);
 PyObject *native_count(PyObject *module, PyObject *data);
+PyObject *native_depth_left(PyObject *module, PyObject *level_stack);
 PyObject *native_dumps(PyObject *module, PyObject *value);
 PyObject *native_edit(PyObject *module, PyObject *const *arguments, Py_ssize_t count);
 PyObject *native_item(PyObject *module, PyObject *const *arguments, Py_ssize_t count);

@@ -360,13 +360,19 @@ struct places {
     size_t count;
 };
 
-/* Finds what the path of a text selects. False with an exception: the text is not a path, or there
- * is no memory. Otherwise the caller frees the places that are not near. */
+/* Finds what the path of a text selects. False with an exception: the text is not a path, the
+ * document nests deeper than the thread's stack carries, or there is no memory. Otherwise the caller
+ * frees the places that are not near. */
 static bool find_places(struct state *state, const struct input *input, const struct input *path,
                         struct places *places)
 {
     size_t room = sizeof places->near / sizeof *places->near;
+    size_t depth = depth_left(KOHIBLAD_LEVEL_STACK);
     uint32_t status;
+    if (!fits(state, input->at, input->size, depth)) {
+        raise_too_deep(state, depth);
+        return false;
+    }
     places->at = places->near;
     status = state->library.select(input->at, input->size, path->at, path->size, MOST_DEPTH,
                                    places->at, room, &places->count);

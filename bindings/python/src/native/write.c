@@ -341,9 +341,15 @@ static bool write_rows(struct writing *writing, struct rows *rows, const struct 
         Py_XDECREF(name);
         if (!is_written) return false;
     }
-    if (mark->document)
-        return write_row(rows, PyBytes_AS_STRING(mark->document),
-                         (size_t)PyBytes_GET_SIZE(mark->document));
+    if (mark->document) {
+        const char *bytes = PyBytes_AS_STRING(mark->document);
+        size_t size = (size_t)PyBytes_GET_SIZE(mark->document);
+        size_t depth = depth_left(KOHIBLAD_LEVEL_STACK);
+        if (fits(writing->state, (const uint8_t *)bytes, size, depth))
+            return write_row(rows, bytes, size);
+        raise_too_deep(writing->state, depth);
+        return false;
+    }
     struct input input = { NULL, (const uint8_t *)writing->text.at + mark->start,
                            mark->end - mark->start };
     struct room room;
