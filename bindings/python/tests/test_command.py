@@ -308,7 +308,9 @@ class CommandTest(unittest.TestCase):
                 ("$", "type mixed", "rows 5", "object 5"),
                 ('$."no such"', "type nothing", "rows 5", "absent 5")):
             expected = "".join(it + "\n" for it in lines).encode()
-            self.assertEqual(run("survey", path, given=stored(*self.ROWS)), (0, expected, ""), path)
+            told = 'kohiblad: no row has a value at $."no such"\n' if "nothing" in lines[0] else ""
+            self.assertEqual(run("survey", path, given=stored(*self.ROWS)), (0, expected, told),
+                             path)
         self.assertEqual(run("survey", "$.a"), (0, b"type nothing\nrows 0\n", ""))
         whole = stored('{"a":2.0}')
         self.assertIn(b"type int64\n", run("survey", "$.a", given=whole)[1])

@@ -163,7 +163,7 @@ class StackTest(unittest.TestCase):
         deepest = Document.of(nested(kohiblad.DEPTH))
         _, error = in_thread(LEAST_STACK, lambda: str(deepest))
         self.assertIsInstance(error, TooDeepError)
-        self.assertRegex(str(error), "^TooDeep: it nests more than [12][0-9]{2} deep, .* this thread")
+        self.assertRegex(str(error), "^TooDeep: it nests more than [12][0-9]{2} deep, .* thread")
 
     def test_the_row_that_is_too_deep(self):
         column = Column.from_arrow(Column.of([Document.of(nested(it)) for it in (5, 1000, 5)]))

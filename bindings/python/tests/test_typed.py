@@ -931,7 +931,9 @@ class WithoutValuesTest(unittest.TestCase):
                     typed, = Column.of(map(row_of, members)).extract(["a"])
                     self.assertEqual(typed.type, name)
                     self.assertEqual(list(typed.numpy), [0] * len(members))
-                    self.assertEqual(list(typed.masked), [None] * len(members))
+                    masked = typed.masked
+                    self.assertEqual(masked if module is Arrays else masked.tolist(),
+                                     [None] * len(members))
 
 
 @unittest.skipUnless(HAS_NUMPY, "typed members as arrays: needs the Debian package python3-numpy")

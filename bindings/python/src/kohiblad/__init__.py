@@ -13,8 +13,8 @@ from ._changes import DocumentPath
 from ._document import (ArrayDocument, Document, ObjectDocument, ScalarDocument, Value, dumps,
                         loads)
 from ._errors import (ExtensionError, FloatError, InvalidDocumentError, InvalidTextError,
-                      KohibladError, NumberError, OutOfMemoryError, PathError, TooDeepError,
-                      TooManyStepsError, UnfitError)
+                      KohibladError, KohibladWarning, NumberError, OutOfMemoryError, PathError,
+                      TooDeepError, TooManyStepsError, UnfitError)
 from ._files import read, read_lines, write
 from ._library import IS_NATIVE
 from ._scalars import Date, Interval, Opaque, Scalar, Timestamp, TimestampTz
@@ -22,7 +22,7 @@ from ._stack import DEPTH
 
 __all__ = ["ArrayDocument", "DEPTH", "Date", "Document", "DocumentPath", "ExtensionError",
            "FloatError", "IS_NATIVE", "Interval", "InvalidDocumentError", "InvalidTextError",
-           "KohibladError", "NumberError", "ObjectDocument", "Opaque", "OutOfMemoryError",
-           "PathError", "Scalar", "ScalarDocument", "Timestamp", "TimestampTz", "TooDeepError",
-           "TooManyStepsError", "UnfitError", "Value", "dumps", "loads", "read", "read_lines",
-           "write"]
+           "KohibladError", "KohibladWarning", "NumberError", "ObjectDocument", "Opaque",
+           "OutOfMemoryError", "PathError", "Scalar", "ScalarDocument", "Timestamp", "TimestampTz",
+           "TooDeepError", "TooManyStepsError", "UnfitError", "Value", "dumps", "loads", "read",
+           "read_lines", "write"]

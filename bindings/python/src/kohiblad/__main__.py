@@ -10,11 +10,13 @@ import sys
 import tempfile
 import threading
 import time
+import warnings
 from itertools import islice
 from typing import (IO, Any, Callable, ContextManager, Dict, Iterator, List, NoReturn, Optional,
                     Tuple, TypeVar)
 
-from . import Document, KohibladError, __version__
+from . import Document, KohibladError, KohibladWarning, __version__
+from ._changes import warn_of_missing
 from ._errors import printable
 from ._fault import fault_of
 from ._files import documents_of_lines, rest_of, stored, stored_documents
@@ -49,6 +51,8 @@ _BYTES_OF_A_ROW = 200
 
 # So many temporary files of sorted documents are merged to one, since a process has few open files.
 _MOST_RUNS = 100
+# The line of a document that has no such member.
+_NO_MEMBER = b"\n"
 _Row = TypeVar("_Row")
 
 
@@ -109,7 +113,7 @@ def line_of(document: Document) -> bytes:
 def member_line(document: Document, name: str) -> bytes:
     """The member as a JSON line, which is empty if there is none."""
     if document.kind != "object" or name not in document:
-        return b"\n"
+        return _NO_MEMBER
     member = document[name]
     return line_of(member if isinstance(member, Document) else Document.of(member))
 
@@ -311,9 +315,14 @@ def _run(options: argparse.Namespace, sources: List[IO[bytes]], target: IO[bytes
         "encode": stored, "decode": line_of, "sort": stored, "merge": stored,
         "get": lambda document: member_line(document, options.name),
         "keys": lambda document: (key_row if options.rowbinary else key_line)(document, options)}
+    rows_written, has_value = 0, False
     for document in documents:
-        target.write(written[options.command](document))
+        line = written[options.command](document)
+        target.write(line)
+        rows_written, has_value = rows_written + 1, has_value or line != _NO_MEMBER
     target.flush()
+    if options.command == "get" and rows_written and not has_value:
+        warn_of_missing([[options.name]])
     if refusals and refusals.count:
         _say(f"{refusals.count:,} lines were left out")
 
@@ -492,6 +501,25 @@ def _raised_signals() -> Iterator[None]:
             signal.signal(number, handler)
 
 
+@contextlib.contextmanager
+def _said_warnings() -> Iterator[None]:
+    """Has what the package warns of said on a line of its own, once."""
+    with warnings.catch_warnings():
+        warnings.simplefilter("always", KohibladWarning)
+        shown = warnings.showwarning
+        said = set()
+
+        def show(message: Any, category: Any, *where: Any, **named: Any) -> None:
+            if not issubclass(category, KohibladWarning):
+                shown(message, category, *where, **named)
+            elif str(message) not in said:
+                said.add(str(message))
+                _say(str(message))
+
+        warnings.showwarning = show
+        yield
+
+
 def _commands(parser: argparse.ArgumentParser) -> List[str]:
     return [name for action in parser._actions if isinstance(action, argparse._SubParsersAction)
             for name in action.choices]
@@ -512,7 +540,7 @@ def _options(words: List[str]) -> Tuple[argparse.Namespace, List[str], str]:
 def main(arguments: Optional[List[str]] = None) -> int:
     options, for_program, what = _options(sys.argv[1:] if arguments is None else arguments)
     try:
-        with _raised_signals():
+        with _raised_signals(), _said_warnings():
             return hand_over(for_program, what) if what else _answer(options)
     except BrokenPipeError:
         # Nobody reads on, as after `| head`. Python would fail once more at its end.

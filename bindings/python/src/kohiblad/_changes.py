@@ -2,12 +2,13 @@
 
 The library makes each copy, in the one form that is written today.
 """
+import re
 from collections.abc import Sequence as AnySequence
-from typing import Any, Callable, Dict, Sequence, Tuple, Union
+from typing import Any, Callable, Dict, Iterable, Sequence, Tuple, Union
 
 from . import _library as library
 from ._encode import parse, text_of_str
-from ._errors import KohibladError
+from ._errors import KohibladError, warn
 from ._stack import DEPTH
 
 if library.IS_NATIVE:
@@ -16,6 +17,8 @@ if library.IS_NATIVE:
 Step = Union[str, int]
 DocumentPath = Union[Step, Sequence[Step]]
 
+# A name that is not quoted in the text of a path.
+_PLAIN_NAME = re.compile("[A-Za-z_][A-Za-z0-9_]*")
 # No array has so many items, so what is further away is as far.
 _FAR = 1 << 32
 # The documents of paths that were used lately: most programs use the same few for many documents.
@@ -41,12 +44,38 @@ def steps_of(path: Any) -> Tuple[Step, ...]:
     return (step_of(path),)
 
 
+def path_text(steps: Sequence[Step]) -> str:
+    """The steps as the text of a path, or as a JSON text where a key has a quote, as no such has.
+
+    >>> path_text(["tags", -1, "any name"])
+    '$.tags[#-1]."any name"'
+    """
+    if any(isinstance(it, str) and '"' in it for it in steps):
+        return _json_of(steps)
+    return "$" + "".join(map(_text_of_step, steps))
+
+
+def _text_of_step(step: Step) -> str:
+    if isinstance(step, str):
+        return "." + (step if _PLAIN_NAME.fullmatch(step) else f'"{step}"')
+    return f"[{step}]" if step >= 0 else f"[#{step}]"
+
+
+def warn_of_missing(paths: Iterable[Sequence[Step]]) -> None:
+    """Warns that no row has something at the end of some paths."""
+    warn(f"no row has a value at {', '.join(map(path_text, paths))}")
+
+
+def _json_of(steps: Sequence[Step]) -> str:
+    return "[" + ",".join(text_of_str(it) if isinstance(it, str) else str(it)
+                          for it in steps) + "]"
+
+
 def document_of_path(steps: Tuple[Step, ...]) -> bytes:
     """The document of some steps, or of names."""
     document = _kept_paths.get(steps)
     if document is None:
-        texts = [text_of_str(it) if isinstance(it, str) else str(it) for it in steps]
-        document = parse("[" + ",".join(texts) + "]")
+        document = parse(_json_of(steps))
         if len(document) <= _MOST_KEPT:
             if len(_kept_paths) >= _MOST_KEPT:
                 _kept_paths.clear()

@@ -28,6 +28,8 @@ _MOST_SHOWN = 70
 _FIRST_STEPS = 1 << 20
 # A path is followed by copies, which the extension module makes, in documents that are no longer.
 _MOST_COPIED = 4096
+# What a path leads to that leads nowhere.
+_NOTHING = object()
 
 Value = Union[Scalar, List[Any], Dict[str, Any]]
 # A child of an array or object, as it is read.
@@ -237,21 +239,33 @@ class Document:
 
         A str leads to the value of a key of an object, an int to an item of an array, from the end
         if it is negative. A scalar comes as a Python value, and an array or object as a document.
+        PathError: there is no such key, but it leads somewhere as the text of a path.
         """
         path = tuple(map(changes.step_of, steps))
+        found = self._value_at(path)
+        if found is not _NOTHING:
+            return found
+        meant = steps_of_name(path[0]) if len(path) == 1 else None
+        if meant and self._value_at(meant) is not _NOTHING:
+            raise path_error(f"no key is {path[0]!r}: for the path that it is as a text write "
+                             f"get_path({', '.join(map(repr, meant))})")
+        return default
+
+    def _value_at(self, path: Tuple[Step, ...]) -> Any:
+        """The value at the end of a path, or _NOTHING if it leads nowhere."""
         if not path:
             return self.value() if isinstance(self, ScalarDocument) else self
         if IS_NATIVE and len(self._data) <= _MOST_COPIED:
-            return self._child_at(path, default)
+            return self._child_at(path)
         found: List[Union[bytes, int]] = []
         for step in path:
             data = _utf8_of_name(step) if isinstance(step, str) else step
             if data is None:
-                return default
+                return _NOTHING
             found.append(data)
         place = library.place_of_path(self._data, found)
         if place is None:
-            return default
+            return _NOTHING
         type_, at, size = place
         return _child_of(type_, self._data[at:at + size])
 
@@ -299,8 +313,8 @@ class Document:
             raise library.error_of(error.status, quoted_path(text)) from None
         return cast(List[Step], _of_checked(path).value())
 
-    def _child_at(self, path: Sequence[Step], default: Any) -> Any:
-        """As ``get_path``, by a copy of each array and object on the way."""
+    def _child_at(self, path: Sequence[Step]) -> Any:
+        """As ``_value_at``, by a copy of each array and object on the way."""
         child: Child = self
         try:
             for step in path:
@@ -309,9 +323,9 @@ class Document:
                 elif isinstance(child, ArrayDocument) and isinstance(step, int):
                     child = native.item(child._data, step)
                 else:
-                    return default
+                    return _NOTHING
         except LookupError:
-            return default
+            return _NOTHING
         return child
 
     def set(self, path: DocumentPath, value: Any, *, create: bool = False) -> "Document":
@@ -739,6 +753,32 @@ def _of_checked(data: bytes) -> Document:
 def _data_of(value: Any) -> bytes:
     """The bytes of a document, or of that of a Python value."""
     return (value if isinstance(value, Document) else Document.of(value))._data
+
+
+def steps_of_text(text: Union[str, bytes]) -> Tuple[Step, ...]:
+    """The steps of the text of a path. PathError: it is none, or does not lead to one value."""
+    data = bytes_of_text(text)
+    try:
+        path = library.result_of(library.path_of_given_text, library.guess_of(data), data,
+                                 len(data))
+    except PathError:
+        raise path_error(quoted_path(text)) from None
+    return tuple(cast(List[Step], _of_checked(path).value()))
+
+
+def steps_of_name(name: Step) -> Optional[Tuple[Step, ...]]:
+    """The steps that are meant by a name which is the text of a path, as ``$.at.town``, or what
+    comes after its ``$.``; None: it is no such name."""
+    if not isinstance(name, str) or not any(it in name for it in ".["):
+        return None
+    try:
+        return steps_of_text(name if name.startswith("$") else f"$.{name}")
+    except KohibladError:
+        return None
+
+
+def path_error(message: str) -> KohibladError:
+    return library.error_of(library.OTHER_KIND, message)
 
 
 def _expect_names(names: Sequence[Any]) -> None:

@@ -1,6 +1,9 @@
-"""What is raised for input that cannot be read or stored."""
+"""What is raised for input that cannot be read or stored, and what is warned of."""
 import json
 import re
+import sys
+import warnings
+from types import FrameType
 from typing import Optional
 
 # Control characters, separators of lines, what changes the direction or the look of the text around
@@ -12,6 +15,24 @@ _ESCAPED = re.compile(r"[\0-\x1f\x7f-\x9f\xad\u061c\u180e\u200b-\u200f\u2028-\u2
 def printable(text: str) -> str:
     """The text with escapes, as JSON has them, for what a terminal might take for a command."""
     return _ESCAPED.sub(lambda it: json.dumps(it[0])[1:-1], text)
+
+
+class KohibladWarning(UserWarning):
+    """What is asked for is in no row, or the rows have it in kinds that no one type holds, so that
+    the answer has no values."""
+
+
+def warn(words: str) -> None:
+    """Warns of something at the line that called the package."""
+    level = 1
+    frame: Optional[FrameType] = sys._getframe()
+    while frame is not None and _is_ours(frame):
+        level, frame = level + 1, frame.f_back
+    warnings.warn(printable(words), KohibladWarning, stacklevel=level)
+
+
+def _is_ours(frame: FrameType) -> bool:
+    return str(frame.f_globals.get("__name__")).partition(".")[0] == __name__.partition(".")[0]
 
 
 class KohibladError(ValueError):

@@ -4,14 +4,12 @@ import os
 from datetime import date
 from decimal import Decimal
 from importlib import import_module
-from typing import IO, Any, Callable, Dict, Iterator, List, Sequence, Tuple, cast
+from typing import IO, Any, Callable, Dict, Iterator, Sequence, Tuple
 
 from . import _library as library
-from ._changes import Step
-from ._document import Document
-from ._encode import bytes_of_text
+from ._changes import Step, warn_of_missing
+from ._document import steps_of_text
 from ._errors import KohibladError, PathError
-from ._expected import quoted_path
 from ._scalars import Date, Interval, Timestamp, TimestampTz
 from ._typed import type_of
 from .arrow import Column, Survey, Typed
@@ -64,17 +62,14 @@ def _add_exact(command: argparse.ArgumentParser) -> None:
                          help="a number fits only if the type gives its kind and digits back")
 
 
-def _path(text: str) -> Tuple[str, List[Step]]:
+def _path(text: str) -> Tuple[str, Tuple[Step, ...]]:
     """A path as a text, and its steps."""
     try:
-        data = bytes_of_text(text)
-        path = library.result_of(library.path_of_given_text, library.guess_of(data), data,
-                                 len(data))
-    except PathError:
-        raise argparse.ArgumentTypeError(quoted_path(text)) from None
+        return text, steps_of_text(text)
+    except PathError as error:
+        raise argparse.ArgumentTypeError(error.message) from None
     except KohibladError as error:
         raise argparse.ArgumentTypeError(f"{text!r}: {error}") from None
-    return text, cast(List[Step], Document(path).value())
 
 
 def _type(text: str) -> str:
@@ -90,6 +85,8 @@ def survey_lines(column: Column, options: argparse.Namespace) -> Iterator[bytes]
     """The least type of the members, and what they are, with no line for what is 0."""
     _, steps = options.path
     counts: Survey = column.survey(steps)
+    if counts.rows and counts.absent == counts.rows:
+        warn_of_missing([steps])
     lines = [("type", column.least_type(steps, exact=options.exact))]
     lines += [(name, str(getattr(counts, field))) for name, field in _COUNTS
               if field == "rows" or getattr(counts, field)]

@@ -15,8 +15,8 @@ def bind(exports: Dict[str, int], objects: Dict[str, Any]) -> None:
 def releases(exported: Dict[int, Any]) -> Tuple[int, int, int]:
     """The addresses of functions that release a schema, an array and a stream of Arrow.
 
-    Each takes the number that is the struct's private data out of the dict, in any thread and by the
-    lock of any interpreter, and keeps an exception that is raised.
+    Each takes the number that is the struct's private data out of the dict, in any thread and by
+    the lock of any interpreter, and keeps an exception that is raised.
     """
 
 def new_use() -> int:

@@ -5,16 +5,16 @@ the keyboard ends a long call between two of them.
 """
 import array
 import ctypes
-from importlib import import_module
 from itertools import islice
 from typing import (Any, Callable, Dict, Iterable, Iterator, List, NamedTuple, NoReturn, Optional,
                     Protocol, Sequence, Tuple, Union, overload)
 
+from . import _arrays as arrays
 from . import _capsules as capsules
 from . import _library as library
-from ._changes import Step, document_of_path
+from ._changes import Step, document_of_path, path_text
 from ._document import Document
-from ._errors import KohibladError, UnfitError
+from ._errors import KohibladError, UnfitError, warn
 from ._scalars import Interval, date_of, decimal_of, decimals_of, timestamp_of, timestamp_tz_of
 from ._zones import Zones, zones_of
 
@@ -48,6 +48,17 @@ _UNFIT_AS_NULL = bytes([library.ROW_ABSENT, library.ROW_VALUE, library.ROW_NULL,
                         library.ROW_NULL, *range(5, 256)])
 _IS_ONE = bytes([48, 49, *254 * [48]])
 _UNFIT, _NO_DOCUMENT = bytes([library.ROW_UNFIT]), bytes([library.ROW_NO_DOCUMENT])
+
+# The kinds of members, each with the fields that count it, and with the type that holds it.
+_KINDS = {"number": ("int64s", "uint64s", "decimal64s", "decimal128s"), "text": ("texts",),
+          "boolean": ("booleans",), "date": ("dates",), "timestamp": ("timestamps",),
+          "timestamp_tz": ("zoned_timestamps",), "interval": ("intervals",),
+          "binary": ("binaries",), "array": ("arrays",), "object": ("objects",),
+          "opaque": ("opaques",)}
+_EXTENSION_KINDS = {0x00: "binary", 0x10: "date", 0x20: "timestamp", 0x30: "timestamp_tz",
+                    0x40: "interval"}
+_WITHOUT_TYPE = ("array", "object", "opaque")
+_MOST_TOLD = 3
 
 # A member that does not fit; bytes that are no document are kept as they are.
 Unfit = Tuple[int, Union[Document, bytes]]
@@ -137,6 +148,12 @@ def survey_of(batches: Iterable[Batch], steps: Tuple[Step, ...]) -> Survey:
     return Survey(*[*totals, least_scale, greatest_scale, most_digits, longest_text])
 
 
+def has_member(rows: Rows, steps: Tuple[Step, ...]) -> bool:
+    """Whether a row has something at the end of a path."""
+    return any(it.absent < it.rows for it in
+               (survey_of([batch], steps) for batch in rows.batches()))
+
+
 def possible_types(survey: Survey) -> List[str]:
     """The types of which the first that holds all members is the least, or mixed if none does."""
     members = survey.rows - survey.not_documents - survey.absent - survey.nulls
@@ -161,7 +178,7 @@ class Typed(library.Fixed, Sequence[Any]):
     3 if it is another that does not fit, and 4 if the row is not a document.
     """
     __slots__ = ("type", "scale", "path", "unfit", "states", "values", "offsets", "texts", "_rows",
-                 "__weakref__")
+                 "_mixture", "__weakref__")
     # As docs/TYPED.md names them: boolean, int64, uint64, decimal 2, text, date, timestamp,
     # timestamp_tz, interval, binary, nothing or mixed.
     type: str
@@ -183,6 +200,8 @@ class Typed(library.Fixed, Sequence[Any]):
     offsets: memoryview
     texts: memoryview
     _rows: Optional[Rows]
+    # Of the type mixed, what says why it has no values.
+    _mixture: Optional["_Mixture"]
 
     def __init__(self) -> None:
         raise TypeError("typed members are made by Column.extract")
@@ -198,6 +217,7 @@ class Typed(library.Fixed, Sequence[Any]):
     def __getitem__(self, index: Union[int, slice]) -> Any:
         """The value of a row, or a list of those of a slice."""
         rows = range(len(self.states))[index]
+        self._warn_of_mixture()
         return self._at(rows) if isinstance(rows, int) else list(map(self._at, rows))
 
     def _at(self, row: int) -> Any:
@@ -219,6 +239,7 @@ class Typed(library.Fixed, Sequence[Any]):
 
     def to_list(self) -> List[Any]:
         """The values of all rows, as Python values."""
+        self._warn_of_mixture()
         if self.type in _NO_VALUES:
             return [None] * len(self.states)
         values: Iterable[Any] = self.values
@@ -236,6 +257,10 @@ class Typed(library.Fixed, Sequence[Any]):
             values = _of_structs(self.type, self.values)
         return [value if state == library.ROW_VALUE else None
                 for value, state in zip(values, self.states)]
+
+    def _warn_of_mixture(self) -> None:
+        if self._mixture is not None:
+            warn(self._mixture.words())
 
     @property
     def rest(self) -> List[Unfit]:
@@ -262,13 +287,12 @@ class Typed(library.Fixed, Sequence[Any]):
         days and micros. Dates are a copy of the type datetime64[D], and texts and binary values a
         copy with None where a row has none. ImportError: there is no numpy.
         """
-        np = import_module("numpy")
+        np = arrays.numpy_module()
+        self._warn_of_mixture()
         if self.type in _NO_VALUES:
             return np.zeros(len(self.states), dtype="uint8")
         if self.type in _OF_BYTES:
-            objects = np.empty(len(self.states), dtype=object)
-            objects[:] = self.to_list()
-            return objects
+            return arrays.of_objects(self.to_list())
         if self.type == "boolean":
             return np.asarray(self.values).view(bool)
         if self.type == "date":
@@ -282,16 +306,19 @@ class Typed(library.Fixed, Sequence[Any]):
         if not self.type.startswith("decimal"):
             return np.asarray(self.values)
         words = np.asarray(self.values).view("int64")
-        low, high = words[::2], words[1::2]
-        if (high == low >> 63).all():
-            return low
-        return np.array(list(map(_int128, self.values[::2], self.values[1::2])), dtype=object)
+        return arrays.of_decimals(words[::2], words[1::2], lambda: list(
+            map(_int128, self.values[::2], self.values[1::2])))
+
+    @property
+    def is_set(self) -> Any:
+        """Which rows have a value, as an array of numpy. ImportError: there is no numpy."""
+        return arrays.numpy_module().asarray(self.states) == library.ROW_VALUE
 
     @property
     def masked(self) -> Any:
         """``numpy`` with a mask of the rows that have no value. ImportError: there is no numpy."""
-        np = import_module("numpy")
-        return np.ma.MaskedArray(self.numpy, np.asarray(self.states) != library.ROW_VALUE)
+        states = arrays.numpy_module().asarray(self.states)
+        return arrays.masked(self.numpy, states != library.ROW_VALUE)
 
     def zones(self, block_rows: int = 4096) -> Zones:
         """The least and the greatest value of each block of so many rows; the last may have fewer.
@@ -319,6 +346,7 @@ class Typed(library.Fixed, Sequence[Any]):
         at, as the interface allows. ValueError: a decimal has more than the 38 digits that Arrow's
         have, or an interval more nanoseconds than 64 bits hold.
         """
+        self._warn_of_mixture()
         length = len(self.states)
         nulls = length - bytes(self.states).count(library.ROW_VALUE)
         buffers: List[Any] = [_bits_of(self.states) if nulls else None]
@@ -615,7 +643,60 @@ class _Filled:
         return library.with_fields(
             Typed, type=self.name, scale=self.scale, path=self.steps, unfit=self.unfit,
             _rows=rows if unfit == "rest" and self.unfit else None,
+            _mixture=_Mixture(rows, self.steps) if self.name == "mixed" else None,
             **{name: memoryview(it).toreadonly() for name, it in buffers.items()})
+
+
+class _Mixture:
+    """Why no one type holds the members of rows."""
+
+    def __init__(self, rows: Rows, steps: Tuple[Step, ...]) -> None:
+        self._rows, self._steps = rows, steps
+        self._words: Optional[str] = None
+
+    def words(self) -> str:
+        """What is usual, and the first rows that have something else."""
+        if self._words is None:
+            survey = survey_of(self._rows.batches(), self._steps)
+            counts: List[Tuple[int, str]] = [(sum(getattr(survey, it) for it in names), kind)
+                                             for kind, names in _KINDS.items()]
+            usual = max(counts, key=lambda it: it[0])[1]
+            odd = [f"row {row}: {kind}" for row, kind in
+                   islice(self._odd_rows(usual, survey.greatest_scale), _MOST_TOLD)]
+            found = f": most rows have a {usual} there, but {', '.join(odd)}" if odd else ""
+            self._words = f"the column of {path_text(self._steps)} is mixed, a type without " \
+                          f"values{found}; name a type for it, and what does not fit is its rest"
+        return self._words
+
+    def _odd_rows(self, usual: str, scale: int) -> Iterator[Tuple[int, str]]:
+        """The rows that have a member of another kind than the usual one, and its kind."""
+        name = f"decimal {scale}" if usual == "number" else usual
+        column = _Filled("nothing" if usual in _WITHOUT_TYPE else name, self._steps, False,
+                         self._rows.length)
+        column.fill(self._rows, is_known=self._rows.are_documents, is_trial=False)
+        states, path = column.states.tobytes(), document_of_path(self._steps)
+        row = states.find(_UNFIT)
+        while row >= 0:
+            kind = _kind_of(_member_of(self._rows.bytes_at(row), path))
+            if kind != usual:
+                yield row, kind
+            row = states.find(_UNFIT, row + 1)
+
+    def __reduce__(self) -> Tuple[Any, ...]:
+        return _told_mixture, (self.words(),)
+
+
+def _told_mixture(words: str) -> _Mixture:
+    it = _Mixture.__new__(_Mixture)
+    it._words = words
+    return it
+
+
+def _kind_of(member: Document) -> str:
+    if member.kind == "extension":
+        data = bytes(member)
+        return _EXTENSION_KINDS.get(library.extension(data, len(data)).tag, "opaque")
+    return {"string": "text"}.get(member.kind, member.kind)
 
 
 def least_type(rows: Rows, steps: Tuple[Step, ...], exact: bool) -> str:

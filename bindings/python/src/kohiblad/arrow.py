@@ -31,8 +31,8 @@ from typing import (Any, Iterable, Iterator, List, NamedTuple, Optional, Protoco
 from . import _capsules as capsules
 from . import _library as library
 from . import _typed as typed
-from ._changes import DocumentPath, steps_of
-from ._document import Document
+from ._changes import DocumentPath, Step, path_text, steps_of, warn_of_missing
+from ._document import Document, path_error, steps_of_name, steps_of_text
 from ._errors import KohibladError, OutOfMemoryError, TooDeepError
 from ._stack import DEPTH
 from ._typed import Survey, Typed
@@ -42,6 +42,8 @@ __all__ = ["Column", "Survey", "Typed", "Zones"]
 
 EXTENSION_NAME = b"kohiblad"
 _LARGE_BINARY, _BINARY = b"Z", b"z"
+# So the text of a path begins, where a path is given.
+_TEXT_STARTS = ("$.", "$[")
 # The offsets of so many rows, and one more, have addresses.
 _MOST_ROWS = sys.maxsize // 16
 # So many rows are sorted, and so many offsets tested, between two looks for a signal.
@@ -134,7 +136,10 @@ class _Rows(NamedTuple):
             yield self._batch(first, min(typed.BATCH, self.length - first))
 
     def _batch(self, first: int, count: int) -> typed.Batch:
-        """Some rows where they are, or a copy where a missing row has bytes. Raises as `depth_of`."""
+        """Some rows where they are, or a copy where a missing row has bytes.
+
+        Raises as `depth_of`.
+        """
         at, depth = self.first + first, self.depth_of(first, count)
         if any(self.offsets[at + row] < self.offsets[at + row + 1]
                for row in self._missing(first, count)):
@@ -282,10 +287,10 @@ class Column(library.Fixed, Sequence[Optional[Document]]):
         >>> counts.rows, counts.absent, counts.nulls, counts.numbers, counts.greatest_scale
         (4, 1, 1, 2, 1)
 
-        The path is one as for ``Document.set``. Rows need not be documents: those that are none
+        The path is one as for ``extract``. Rows need not be documents: those that are none
         have a count of their own.
         """
-        return typed.survey_of(self._rows.batches(), steps_of(path))
+        return typed.survey_of(self._rows.batches(), _steps_of(path))
 
     def least_type(self, path: DocumentPath, *, exact: bool = False) -> str:
         """The first type that holds the members of all rows at the end of a path.
@@ -297,7 +302,7 @@ class Column(library.Fixed, Sequence[Optional[Document]]):
         date, timestamp, timestamp_tz, interval, binary or mixed, which are tried in this order.
         Null is held by each, and rows that are no documents do not count.
         """
-        return typed.least_type(self._rows, steps_of(path), exact)
+        return typed.least_type(self._rows, _steps_of(path), exact)
 
     def extract(self, paths: Iterable[DocumentPath],
                 types: Optional[Iterable[Optional[str]]] = None, *, unfit: str = "rest",
@@ -312,11 +317,12 @@ class Column(library.Fixed, Sequence[Optional[Document]]):
         >>> skus.type, skus.to_list()
         ('text', [None, None, 'k7', None])
 
-        A path is one as for ``Document.set``, so a str is a key. A type is boolean, int64, uint64,
-        text, date, timestamp, timestamp_tz, interval, binary, decimal with a scale, as decimal 2,
-        or nothing or mixed, which have no values. Where none is named it is the ``least_type``. A
-        number fits if it equals a value of the type, or, if it is ``exact``, if the value gives its
-        kind and digits back.
+        A path is one as for ``Document.set``, so a str is a key; but one that begins with ``$.`` or
+        ``$[`` is the text of a path, as ``$.at.town``, and a list has such a key. A type is
+        boolean, int64, uint64, text, date, timestamp, timestamp_tz, interval, binary, decimal with
+        a scale, as decimal 2, or nothing or mixed, which have no values. Where none is named it is
+        the ``least_type``. A number fits if it equals a value of the type, or, if it is ``exact``,
+        if the value gives its kind and digits back.
 
         The rows of a column that was made of documents are not checked again, nor are those of
         Arrow for the second path and the later ones, unless one of them is not a document.
@@ -324,17 +330,36 @@ class Column(library.Fixed, Sequence[Optional[Document]]):
         What ``unfit`` says is done with members that do not fit, but for null, and with rows that
         are no documents: the ``rest`` keeps them, they count as null, or the first is an error.
         UnfitError: such a member. InvalidDocumentError: such a row. ValueError: there is no such
-        type, or there are not as many types as paths. TypeError: the paths are one str.
+        type, or there are not as many types as paths. TypeError: the paths are one str. PathError:
+        a text is no path, or no row has a key that leads somewhere as the text of a path.
+
+        KohibladWarning: there are rows, and none of them has a member. A column of the type mixed
+        warns when its values are read, and names the first rows that are not as most.
         """
         if isinstance(paths, str):
             raise TypeError(f"the paths are a list: for one path give [{paths!r}]")
+        given = list(paths)
         if unfit not in ("rest", "null", "error"):
             raise ValueError(f"what does not fit is rest, null or error, not {unfit!r}")
-        steps = list(map(steps_of, paths))
+        steps = list(map(_steps_of, given))
         names = typed.names_of([None] * len(steps) if types is None else types)
         if len(names) != len(steps):
             raise ValueError(f"there are {len(steps)} paths and {len(names)} types")
-        return typed.extract(self._rows, zip(steps, names), unfit, exact)
+        columns = typed.extract(self._rows, zip(steps, names), unfit, exact)
+        self._tell_missing([(path, it.path) for path, it in zip(given, columns)
+                            if len(it) and not any(bytes(it.states))])
+        return columns
+
+    def _tell_missing(self, members: List[Tuple[DocumentPath, Tuple[Step, ...]]]) -> None:
+        """Warns of members that no row has. PathError: one is given as a str that is no key, but
+        leads somewhere as the text of a path."""
+        for path, _ in members:
+            meant = steps_of_name(path) if isinstance(path, str) else None
+            if meant and typed.has_member(self._rows, meant):
+                raise path_error(f"no row has the key {path!r}: for the path that it is as a text "
+                                 f"give {list(meant)}, or {path_text(meant)!r}")
+        if members:
+            warn_of_missing([steps for _, steps in members])
 
     def __arrow_c_schema__(self) -> Any:
         """A capsule of the type: LargeBinary, of the extension type ``kohiblad``."""
@@ -350,6 +375,13 @@ class Column(library.Fixed, Sequence[Optional[Document]]):
         addresses = rows.validity, ctypes.addressof(rows.offsets), rows.data
         return self.__arrow_c_schema__(), capsules.array_capsule(rows.length, nulls, rows.first,
                                                                  addresses, rows)
+
+
+def _steps_of(path: DocumentPath) -> Tuple[Step, ...]:
+    """The steps of a path, which may be the text of one."""
+    if isinstance(path, str) and path.startswith(_TEXT_STARTS):
+        return steps_of_text(path)
+    return steps_of(path)
 
 
 def _check_parts(schema: Any, given: Any) -> None:

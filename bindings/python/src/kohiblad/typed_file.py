@@ -10,11 +10,13 @@
 docs/TYPED.md has the format, and says which members are kept in a column.
 """
 import ctypes
-from typing import (Any, Callable, Dict, Iterable, Iterator, List, Mapping, Sequence, Union, cast,
-                    overload)
+from typing import (Any, Callable, Dict, Iterable, Iterator, List, Mapping, Sequence, Tuple, Union,
+                    cast, overload)
 
+from . import _arrays as arrays
 from . import _library as library
-from ._document import Document
+from ._changes import document_of_path, warn_of_missing
+from ._document import Document, path_error, steps_of_name
 from ._scalars import Interval, date_of, decimal_of, timestamp_of, timestamp_tz_of
 from ._target import File, target_of
 
@@ -47,7 +49,7 @@ _MAKERS: Dict[str, Callable[[memoryview], Any]] = {
     "interval": lambda it: Interval(_signed(it[:4]), _signed(it[4:8]), _signed(it[8:])),
 }
 # The types that numpy has for the numbers of rows; it has no dates of 32 bits.
-_KINDS: Dict[str, Any] = {
+_FORMS: Dict[str, Any] = {
     "boolean": "u1", "int64": ">i8", "uint64": ">u8", "date": ">i4", "timestamp": ">M8[us]",
     "timestamp_tz": [("timestamp", ">M8[us]"), ("offset_seconds", ">i4")],
     "interval": [("months", ">i4"), ("days", ">i4"), ("micros", ">i8")],
@@ -71,6 +73,34 @@ def _bytes_of_type(name: str) -> bytes:
 def _built(rows: List[bytes], _kept: Any, *words: Any) -> bytes:
     """What a call makes of rows, for which something is kept at an address until it ends."""
     return library.result_of(*words, library.fitting(library.EDIT_LEVEL_STACK, *rows))
+
+
+def _tell_missing(rows: List[bytes], names: List[str]) -> None:
+    """Warns of keys that no row has. PathError: one leads somewhere as the text of a path."""
+    missing = names if rows else []
+    for row in rows:
+        if not missing:
+            return
+        missing = [it for it in missing if library.find(row, len(row), *_key_of(it)).status]
+    for name in missing:
+        meant = steps_of_name(name)
+        if meant and any(_leads_somewhere(row, document_of_path(meant)) for row in rows):
+            raise path_error(f"no row has the key {name!r}: a column of a file has the members at "
+                             "a key, and not those at the end of a path")
+    if missing:
+        warn_of_missing([(it,) for it in missing])
+
+
+def _key_of(name: str) -> Tuple[bytes, int]:
+    data = name.encode()
+    return data, len(data)
+
+
+def _leads_somewhere(row: bytes, path: bytes) -> bool:
+    """Whether a row has something at the end of a path."""
+    depth = library.fitting(library.LEVEL_STACK, row)
+    status: int = library.get_path(row, len(row), path, len(path), depth).status
+    return status == library.OK
 
 
 class _PyBuffer(ctypes.Structure):
@@ -160,25 +190,39 @@ class StoredColumn(library.Fixed, Sequence[Any]):
 
     @property
     def numpy(self) -> Any:
-        """The numbers as an array of numpy, in the file's memory.
+        """The values as an array of numpy, where a row without a value has 0, in the file's memory.
 
-        Booleans and dates are a copy, of the types bool and datetime64[D]. Timestamps are of the
-        type datetime64[us], to which the least of 64 bits is not a time; with a zone they are
-        structs with the fields timestamp, in UTC, and offset_seconds; intervals have months, days
-        and micros. TypeError: they are decimals, texts or binary values.
+        Booleans and dates are a copy, of the types bool and datetime64[D], and texts and binary
+        values a copy with None where a row has none. Decimals are whole numbers without their
+        point, of 64 bits where all fit, and else Python's in a copy. Timestamps are of the type
+        datetime64[us], to which the least of 64 bits is not a time; with a zone they are structs
+        with the fields timestamp, in UTC, and offset_seconds; intervals have months, days and
+        micros. ImportError: there is no numpy.
         """
-        if self._word not in _KINDS:
-            raise TypeError(f"numpy has no type for {self.type}")
-        import numpy
-        numbers = numpy.frombuffer(self.numbers, _KINDS[self._word])
+        np = arrays.numpy_module()
+        if self._word in _OF_BYTES:
+            return arrays.of_objects(list(self))
+        if self._word == "decimal":
+            words = np.frombuffer(self.numbers, ">i8")
+            return arrays.of_decimals(words[1::2], words[::2], self._digits)
+        numbers = np.frombuffer(self.numbers, _FORMS[self._word])
         return numbers.astype(_COPIES[self._word]) if self._word in _COPIES else numbers
+
+    def _digits(self) -> List[int]:
+        """The decimals without their point."""
+        return [_signed(self._number(row)) for row in range(self._length)]
 
     @property
     def is_set(self) -> Any:
-        """Which rows have a value, as an array of numpy."""
-        import numpy
-        return numpy.unpackbits(numpy.frombuffer(self.flags, "u1"), count=self._length,
-                                bitorder="little").astype(bool)
+        """Which rows have a value, as an array of numpy. ImportError: there is no numpy."""
+        np = arrays.numpy_module()
+        return np.unpackbits(np.frombuffer(self.flags, "u1"), count=self._length,
+                             bitorder="little").astype(bool)
+
+    @property
+    def masked(self) -> Any:
+        """``numpy`` with a mask of the rows that have no value. ImportError: there is no numpy."""
+        return arrays.masked(self.numpy, ~self.is_set)
 
     def __repr__(self) -> str:
         return f"<StoredColumn {self.name!r} of {self._length:,} rows, {self.type}>"
@@ -238,12 +282,15 @@ class TypedFile(library.Fixed, Sequence[Document]):
         int64, uint64, text, date, timestamp, timestamp_tz, interval, binary, or decimal with a
         scale, as decimal 2. A member is kept in its column if it is a value of the type with its
         kind and its digits, and else in the rest of its row. ValueError: there is no such type.
-        InvalidDocumentError: a row exceeds a limit of the format.
+        InvalidDocumentError: a row exceeds a limit of the format. PathError: no row has a key that
+        leads somewhere as the text of a path. KohibladWarning: there are rows, and none of them has
+        a member at a key.
         """
         names = sorted(types, key=str.encode)
         kinds = b"".join(_bytes_of_type(types[name]) for name in names)
         listed = bytes(Document.of(names))
         rows = [bytes(it if isinstance(it, Document) else Document.of(it)) for it in documents]
+        _tell_missing(rows, names)
         offsets = (ctypes.c_size_t * (len(rows) + 1))()
         end = 0
         for index, row in enumerate(rows, 1):
