@@ -61,6 +61,11 @@ def _text_of_step(step: Step) -> str:
     return f"[{step}]" if step >= 0 else f"[#{step}]"
 
 
+def name_of_path(steps: Sequence[Step]) -> str:
+    """The key that a path is, or else its text."""
+    return steps[0] if len(steps) == 1 and isinstance(steps[0], str) else path_text(steps)
+
+
 def warn_of_missing(paths: Iterable[Sequence[Step]]) -> None:
     """Warns that no row has something at the end of some paths."""
     warn(f"no row has a value at {', '.join(map(path_text, paths))}")

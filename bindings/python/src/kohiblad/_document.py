@@ -1,10 +1,11 @@
 """Documents: checked bytes, read in place."""
 import re
+import sys
 from decimal import Decimal
 from functools import lru_cache, total_ordering
 from json import JSONDecoder
-from typing import (TYPE_CHECKING, Any, Callable, Dict, Generator, ItemsView, Iterator, List,
-                    Mapping, Optional, Pattern, Sequence, SupportsIndex, Tuple, Type, Union,
+from typing import (TYPE_CHECKING, Any, Callable, Dict, Generator, ItemsView, Iterator, KeysView,
+                    List, Mapping, Optional, Pattern, Sequence, SupportsIndex, Tuple, Type, Union,
                     ValuesView, cast, overload)
 
 from . import _changes as changes
@@ -12,7 +13,7 @@ from . import _library as library
 from . import _scalars as scalars
 from ._changes import DocumentPath, Step
 from ._encode import bytes_of_text, encode, encode_other, parse
-from ._errors import KohibladError, PathError, TooDeepError
+from ._errors import KohibladError, PathError, TooDeepError, warn
 from ._expected import fault_of, quoted_path
 from ._library import IS_NATIVE
 from ._scalars import Scalar, scalar_of
@@ -522,12 +523,18 @@ class Document:
         return self._data
 
     def __repr__(self) -> str:
-        text = str(self)
-        shown = text if len(text) <= _MOST_SHOWN else text[:_MOST_SHOWN - 3] + "..."
-        return f"<{type(self).__name__} {shown}>"
+        return f"<{type(self).__name__} {_shown(str(self))}>"
+
+    def __conform__(self, protocol: Any) -> Optional[bytes]:
+        """The bytes where the module sqlite3 binds a document to a statement."""
+        sqlite3 = sys.modules.get("sqlite3")
+        is_asked = sqlite3 is not None and protocol is getattr(sqlite3, "PrepareProtocol", None)
+        return self._data if is_asked else None
 
     def __eq__(self, other: object) -> bool:
         if not isinstance(other, Document):
+            if isinstance(other, (dict, list, tuple)):
+                warn(f"a document never equals a {type(other).__name__}: compare its value()")
             return NotImplemented
         return self._data == other._data or self.key() == other.key()
 
@@ -701,6 +708,9 @@ class ObjectDocument(_Container, Mapping[str, Child]):
     def __iter__(self) -> Iterator[str]:
         return self._names()
 
+    def keys(self) -> "_Keys":
+        return _Keys(self)
+
     def items(self) -> "_Items":
         return _Items(self)
 
@@ -720,12 +730,23 @@ class ObjectDocument(_Container, Mapping[str, Child]):
         return place if place.status == library.OK else None
 
 
+class _Keys(KeysView[str]):
+    """The keys, which are shown."""
+    _mapping: ObjectDocument
+
+    def __repr__(self) -> str:
+        return f"keys({_shown(repr(list(self)))})"
+
+
 class _Items(ItemsView[str, Child]):
     """The members in one pass, where Mapping's own view finds each by its key."""
     _mapping: ObjectDocument
 
     def __iter__(self) -> Iterator[Tuple[str, Child]]:
         return self._mapping._members()
+
+    def __repr__(self) -> str:
+        return f"items({_shown(repr(list(self)))})"
 
 
 class _Values(ValuesView[Child]):
@@ -734,6 +755,14 @@ class _Values(ValuesView[Child]):
 
     def __iter__(self) -> Iterator[Child]:
         return self._mapping._values()
+
+    def __repr__(self) -> str:
+        return f"values({_shown(repr(list(self)))})"
+
+
+def _shown(text: str) -> str:
+    """A text that may be long, cut to a part of a line."""
+    return text if len(text) <= _MOST_SHOWN else text[:_MOST_SHOWN - 3] + "..."
 
 
 _CLASSES: Dict[int, Type[Document]] = {

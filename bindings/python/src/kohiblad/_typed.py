@@ -12,7 +12,7 @@ from typing import (Any, Callable, Dict, Iterable, Iterator, List, NamedTuple, N
 from . import _arrays as arrays
 from . import _capsules as capsules
 from . import _library as library
-from ._changes import Step, document_of_path, path_text
+from ._changes import Step, document_of_path, name_of_path, path_text
 from ._document import Document
 from ._errors import KohibladError, UnfitError, warn
 from ._scalars import Interval, date_of, decimal_of, decimals_of, timestamp_of, timestamp_tz_of
@@ -49,6 +49,7 @@ _UNFIT_AS_NULL = bytes([library.ROW_ABSENT, library.ROW_VALUE, library.ROW_NULL,
 _IS_ONE = bytes([48, 49, *254 * [48]])
 _UNFIT, _NO_DOCUMENT = bytes([library.ROW_UNFIT]), bytes([library.ROW_NO_DOCUMENT])
 
+_BUFFERS = ("states", "values", "offsets", "texts")
 # The kinds of members, each with the fields that count it, and with the type that holds it.
 _KINDS = {"number": ("int64s", "uint64s", "decimal64s", "decimal128s"), "text": ("texts",),
           "boolean": ("booleans",), "date": ("dates",), "timestamp": ("timestamps",),
@@ -79,7 +80,12 @@ class Batch(NamedTuple):
     owner: Any
 
 
-class Rows(Protocol):
+class HasRows(Protocol):
+    """What has the bytes of rows."""
+    def bytes_at(self, row: int) -> bytes: ...
+
+
+class Rows(HasRows, Protocol):
     """What a column of documents has for the calls here, in memory that does not change."""
     @property
     def length(self) -> int: ...
@@ -87,7 +93,6 @@ class Rows(Protocol):
     @property
     def are_documents(self) -> bool: ...
     def batches(self) -> Iterator[Batch]: ...
-    def bytes_at(self, row: int) -> bytes: ...
 
 
 class Survey(NamedTuple):
@@ -199,7 +204,7 @@ class Typed(library.Fixed, Sequence[Any]):
     # offsets[k + 1] in the UTF-8 that is `texts`, and so does a binary value in `values`.
     offsets: memoryview
     texts: memoryview
-    _rows: Optional[Rows]
+    _rows: Optional[HasRows]
     # Of the type mixed, what says why it has no values.
     _mixture: Optional["_Mixture"]
 
@@ -320,6 +325,26 @@ class Typed(library.Fixed, Sequence[Any]):
         states = arrays.numpy_module().asarray(self.states)
         return arrays.masked(self.numpy, states != library.ROW_VALUE)
 
+    def to_pandas(self, *, floats: bool = False) -> Any:
+        """The values as a series of pandas, in which a row without one is missing.
+
+        It is of the type Int64, UInt64, boolean or string, and of dates and timestamps one of
+        datetime64, with a zone in UTC; other values, and dates that pandas has not, are Python's,
+        as decimals; with ``floats`` these are the nearest doubles. ImportError: there is no pandas.
+        """
+        return arrays.series_of(self, name_of_path(self.path), floats)
+
+    def __reduce__(self) -> Tuple[Any, ...]:
+        """The column for pickle: a copy, with the rows of its rest alone."""
+        kept = {} if self._rows is None else {
+            row: self._rows.bytes_at(row) for row, state in enumerate(self.states)
+            if state >= library.ROW_UNFIT}
+        fields = {"type": self.type, "scale": self.scale, "path": self.path, "unfit": self.unfit,
+                  "_mixture": self._mixture}
+        # The arrays that have the memory of the buffers.
+        owners = {name: getattr(self, name).obj for name in _BUFFERS}
+        return _restored, (fields, owners, None if self._rows is None else kept)
+
     def zones(self, block_rows: int = 4096) -> Zones:
         """The least and the greatest value of each block of so many rows; the last may have fewer.
 
@@ -412,6 +437,24 @@ def _of_structs(name: str, words: memoryview) -> Iterator[Any]:
     if name == "timestamp_tz":
         return map(timestamp_tz_of, words[::2], halves[2::4])
     return map(Interval, halves[::4], halves[1::4], words[1::2])
+
+
+class _KeptRows:
+    """The rows of the rest of a column, by their numbers."""
+
+    def __init__(self, rows: Dict[int, bytes]) -> None:
+        self._rows = rows
+
+    def bytes_at(self, row: int) -> bytes:
+        return self._rows[row]
+
+
+def _restored(fields: Dict[str, Any], owners: Dict[str, Any],
+              kept: Optional[Dict[int, bytes]]) -> Typed:
+    """The column that pickle made these of."""
+    return library.with_fields(
+        Typed, **fields, _rows=None if kept is None else _KeptRows(kept),
+        **{name: memoryview(it).toreadonly() for name, it in owners.items()})
 
 
 def _bits_of(flags: memoryview) -> bytearray:

@@ -25,20 +25,21 @@ import operator
 import sys
 import weakref
 from ctypes import byref, c_int32, c_int64, c_size_t
-from typing import (Any, Iterable, Iterator, List, NamedTuple, Optional, Protocol, Sequence, Tuple,
-                    Union, overload)
+from typing import (Any, Iterable, Iterator, List, Mapping, NamedTuple, Optional, Protocol,
+                    Sequence, Tuple, Union, overload)
 
+from . import _arrays as arrays
 from . import _capsules as capsules
 from . import _library as library
 from . import _typed as typed
 from ._changes import DocumentPath, Step, path_text, steps_of, warn_of_missing
 from ._document import Document, path_error, steps_of_name, steps_of_text
-from ._errors import KohibladError, OutOfMemoryError, TooDeepError
+from ._errors import KohibladError, OutOfMemoryError, TooDeepError, warn
 from ._stack import DEPTH
 from ._typed import Survey, Typed
 from ._zones import Zones
 
-__all__ = ["Column", "Survey", "Typed", "Zones"]
+__all__ = ["Column", "Survey", "Typed", "Zones", "frame"]
 
 EXTENSION_NAME = b"kohiblad"
 _LARGE_BINARY, _BINARY = b"Z", b"z"
@@ -84,6 +85,14 @@ class _Rows(NamedTuple):
     def bytes_at(self, row: int) -> bytes:
         start, end = self.offsets[self.first + row:self.first + row + 2]
         return ctypes.string_at(self.data + start, end - start)
+
+    def copied(self) -> Tuple[bytes, Any, List[int]]:
+        """The bytes of the rows, where each begins and the last ends, and the missing rows."""
+        offsets = array.array("q", self.offsets[self.first:self.first + self.length + 1])
+        begin, end = offsets[0], offsets[-1]
+        return (ctypes.string_at(self.data + begin, end - begin),
+                array.array("q", (it - begin for it in offsets)),
+                list(filter(self.is_missing, range(self.length))))
 
     def offsets_at(self, row: int) -> int:
         """The address of the offset of a row."""
@@ -241,6 +250,32 @@ class Column(library.Fixed, Sequence[Optional[Document]]):
         weakref.finalize(owner, _end, taken).atexit = False
         return column
 
+    @classmethod
+    def _restored(cls, data: bytes, offsets: Any, missing: List[int]) -> "Column":
+        """The column of rows, which are checked when they are read."""
+        validity = bytearray(b"\xff" * (len(offsets) // 8 + 1))
+        for row in missing:
+            validity[row // 8] ^= 1 << row % 8
+        # An empty buffer has no address.
+        at = [(ctypes.c_char * len(it)).from_buffer(it) for it in (bytearray(data) or bytearray(1),
+                                                                   validity)]
+        return cls._new(len(offsets) - 1, offsets.buffer_info()[0], ctypes.addressof(at[0]),
+                        ctypes.addressof(at[1]) if missing else None, 0, (offsets, *at), False)
+
+    def __reduce__(self) -> Tuple[Any, ...]:
+        """The column for pickle: a copy of its rows."""
+        return type(self)._restored, self._rows.copied()
+
+    def __repr__(self) -> str:
+        return f"<Column of {self._rows.length:,} documents>"
+
+    def to_pandas(self) -> Any:
+        """The documents as a series of pandas, with None for a row that is missing.
+
+        ImportError: there is no pandas.
+        """
+        return arrays.pandas_module().Series(arrays.of_objects(list(self)))
+
     def __len__(self) -> int:
         return self._rows.length
 
@@ -375,6 +410,38 @@ class Column(library.Fixed, Sequence[Optional[Document]]):
         addresses = rows.validity, ctypes.addressof(rows.offsets), rows.data
         return self.__arrow_c_schema__(), capsules.array_capsule(rows.length, nulls, rows.first,
                                                                  addresses, rows)
+
+
+def frame(column: Union[Column, Iterable[Optional[Document]]], members: Mapping[str, DocumentPath],
+          types: Optional[Mapping[str, Optional[str]]] = None, *, unfit: str = "rest",
+          exact: bool = False, floats: bool = False) -> Any:
+    """A frame of pandas with a column for each name, of the members at the end of its path.
+
+    >>> rows = [Document.of({"at": {"town": "Oslo"}, "id": 1}), Document.of({"id": 2})]
+    >>> frame(rows, {"town": "$.at.town", "id": "id"})  # doctest: +SKIP
+       town  id
+    0  Oslo   1
+    1  <NA>   2
+
+    The rows are a column, or documents. ``types`` are of some names, and the others have the least
+    type; they, the paths, ``unfit`` and ``exact`` are as for ``Column.extract``, and ``floats`` is
+    as for ``Typed.to_pandas``. ImportError: there is no pandas. KohibladWarning: a member does not
+    fit its type, and as of ``Column.extract``. KeyError: a type is of none of the names.
+    """
+    arrays.pandas_module()
+    rows = column if isinstance(column, Column) else Column.of(column)
+    wanted = {} if types is None else dict(types)
+    listed = [wanted.pop(name, None) for name in members]
+    for name in wanted:
+        raise KeyError(name)
+    columns = rows.extract(members.values(), listed, unfit=unfit, exact=exact)
+    for name, it in zip(members, columns):
+        if it.unfit and it.type != "mixed":
+            first = min(row for row, state in enumerate(it.states) if state > library.ROW_NULL) \
+                if unfit == "rest" else None
+            warn(f"{name}: no {it.type} in {it.unfit:,} of {len(it):,} rows"
+                 + (f", first in row {first}" if first is not None else ""))
+    return arrays.frame_of([it.to_pandas(floats=floats) for it in columns], list(members))
 
 
 def _steps_of(path: DocumentPath) -> Tuple[Step, ...]:

@@ -10,6 +10,7 @@
 docs/TYPED.md has the format, and says which members are kept in a column.
 """
 import ctypes
+from functools import partial
 from typing import (Any, Callable, Dict, Iterable, Iterator, List, Mapping, Sequence, Tuple, Union,
                     cast, overload)
 
@@ -224,8 +225,24 @@ class StoredColumn(library.Fixed, Sequence[Any]):
         """``numpy`` with a mask of the rows that have no value. ImportError: there is no numpy."""
         return arrays.masked(self.numpy, ~self.is_set)
 
+    def to_pandas(self, *, floats: bool = False) -> Any:
+        """The values as a series of pandas, as ``kohiblad.arrow.Typed.to_pandas`` has it."""
+        return arrays.series_of(self, self.name, floats)
+
+    def __reduce__(self) -> Tuple[Any, ...]:
+        """The column for pickle: a copy."""
+        fields = {it: getattr(self, it) for it in ("name", "type", "_length", "_word", "_scale")}
+        buffers = {it: bytes(getattr(self, it)) for it in ("flags", "numbers", "texts")}
+        return _restored, (fields, buffers)
+
     def __repr__(self) -> str:
         return f"<StoredColumn {self.name!r} of {self._length:,} rows, {self.type}>"
+
+
+def _restored(fields: Dict[str, Any], buffers: Dict[str, bytes]) -> StoredColumn:
+    """The column that pickle made these of."""
+    return library.with_fields(StoredColumn, **fields,
+                               **{name: memoryview(it) for name, it in buffers.items()})
 
 
 class TypedFile(library.Fixed, Sequence[Document]):
@@ -237,17 +254,19 @@ class TypedFile(library.Fixed, Sequence[Document]):
     the bytes are no such file; ``name`` says why. TooDeepError: the rest of a row nests too deep.
     TypeError: the object has no bytes.
     """
-    __slots__ = ("_view", "_at", "_size", "_length", "_columns")
+    __slots__ = ("_view", "_at", "_size", "_length", "_columns", "_is_checked")
 
     _view: memoryview
     _at: int
     _size: int
     _length: int
     _columns: Dict[str, StoredColumn]
+    _is_checked: bool
 
     def __init__(self, data: Any, *, check: bool = True) -> None:
         view = memoryview(data).cast("B")
-        library.set_fields(self, _view=view, _at=_address_of(view), _size=len(view))
+        library.set_fields(self, _view=view, _at=_address_of(view), _size=len(view),
+                           _is_checked=bool(check))
         told = self._told()
         if check or not told:
             checked = library.check_typed_file(self._at, self._size,
@@ -350,6 +369,18 @@ class TypedFile(library.Fixed, Sequence[Document]):
     def column(self, name: str) -> StoredColumn:
         """The column of this name. KeyError: there is none."""
         return self._columns[name]
+
+    def to_pandas(self, *, floats: bool = False) -> Any:
+        """The columns as a frame of pandas: what is in the rest of a row is missing in it.
+
+        ImportError: there is no pandas.
+        """
+        return arrays.frame_of([it.to_pandas(floats=floats) for it in self._columns.values()],
+                               list(self._columns))
+
+    def __reduce__(self) -> Tuple[Any, ...]:
+        """The file for pickle: a copy of its bytes."""
+        return partial(type(self), check=self._is_checked), (bytes(self._view),)
 
     def __repr__(self) -> str:
         return f"<TypedFile of {self._length:,} rows and {len(self._columns):,} columns>"
