@@ -9,16 +9,18 @@ sanitizers, as bindings/python/soak.sh does.
 """
 import ctypes
 import json
+import pickle
 import random
 import signal
 import sys
 import threading
 import time
+import warnings
 from datetime import date, datetime, timedelta, timezone
 from decimal import Decimal
 
 import kohiblad
-from kohiblad import Document, Interval, KohibladError, dumps, loads
+from kohiblad import Document, Interval, KohibladError, KohibladWarning, dumps, loads
 from kohiblad.arrow import Column
 from kohiblad.typed_file import TypedFile
 from models import FewNames, Values
@@ -33,7 +35,8 @@ TYPES = ("boolean", "int64", "uint64", "decimal 0", "decimal 2", "decimal 255", 
 FILE_TYPES = [it for it in TYPES if it not in ("nothing", "mixed", None)]
 NOON = datetime(2026, 11, 29, 12, tzinfo=timezone(timedelta(hours=-3)))
 SCALARS = (None, True, 7, -1, 2**63, Decimal("1.50"), Decimal("-0.25"), "t", "é" * 9, b"", b"\xff",
-           date(2026, 11, 29), NOON, NOON.replace(tzinfo=None), Interval(1, -2, 3))
+           date(2026, 11, 29), NOON, NOON.replace(tzinfo=None), Interval(1, -2, 3), "2026-11-29",
+           NOON.isoformat())
 
 raise_in_thread = ctypes.pythonapi.PyThreadState_SetAsyncExc
 raise_in_thread.argtypes = ctypes.c_ulong, ctypes.py_object
@@ -192,12 +195,15 @@ class Calls:
         column = members.of(Document.of(it) if it else None for it in rows)
         types = [self.random.choice(TYPES) for _ in range(3)]
         columns = column.extract(["a", "b", ["c"]], types, exact=self.random.random() < .5,
-                                 unfit=self.random.choice(["rest", "null"]))
+                                 unfit=self.random.choice(["rest", "null"]),
+                                 iso_dates=self.random.random() < .5)
         for name, typed in zip("abc", columns):
             if typed.type not in ("nothing", "mixed"):
                 expect(all(it is None or name in row for it, row in zip(typed, rows)), rows)
             expect(len(typed.to_list()) == len(rows), rows)
-            typed[::2], typed.rest, repr(typed)
+            typed[::2], typed.rest, repr(typed), repr(column)
+            again = pickle.loads(pickle.dumps(typed))
+            expect(again.to_list() == typed.to_list() and again.rest == typed.rest, rows)
             for call in (lambda: typed.zones(self.random.randrange(1, 50)).may_hold(),
                          typed.__arrow_c_array__, typed.__arrow_c_stream__):
                 try:
@@ -212,6 +218,8 @@ class Calls:
         data = TypedFile.build(rows, types)
         expect([it.value() for it in TypedFile(data)] == [Document.of(it).value() for it in rows],
                rows)
+        expect(list(pickle.loads(pickle.dumps(TypedFile(data)))) == list(TypedFile(data)), rows)
+        TypedFile(TypedFile.build(rows, types, iso_dates=True))
         for it in (data, self.changed(data), self.changed(data)):
             self.read_file(it, self.random.random() < .5)
 
@@ -348,6 +356,7 @@ def ignore_cancelled(it):
 
 def main():
     sys.unraisablehook = ignore_cancelled
+    warnings.simplefilter("ignore", KohibladWarning)
     minutes, seed = float(sys.argv[1]), int(sys.argv[2]) if len(sys.argv) > 2 else 1
     end = time.monotonic() + 60 * minutes
     workers = [Worker(seed + number) for number in (1, 2)]

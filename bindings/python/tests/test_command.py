@@ -369,15 +369,15 @@ class CommandTest(unittest.TestCase):
                                           types[1], given=given)
             self.assertEqual((status, output.decode().splitlines()), (0, [
                 'row,"$[0]","$[1]"', "0,2026-11-28,2026-11-28T12:30:00",
-                f"1,{2**31 - 1},{-2**63}", "2,,"]))
+                "1,+5881580-07-11,-290308-12-21T19:59:05.224192", "2,,"]))
             self.assertIn("in 1 of 3 rows", message)
         rows = [[datetime(2026, 11, 28, 12, 30, tzinfo=timezone(timedelta(hours=-3))),
                  Interval(14, -31, 10**6)], [TimestampTz(-2**63, 7), 5]]
         output = run("extract", "$[0]", "least", "--and", "$[1]", "interval",
                      given=stored_documents(map(Document.of, rows)))[1]
         self.assertEqual(output.decode().splitlines(), [
-            'row,"$[0]","$[1]"', "0,2026-11-28T12:30:00-03:00,14 -31 1000000",
-            f"1,{-2**63} 7,"])
+            'row,"$[0]","$[1]"', "0,2026-11-28T12:30:00-03:00,P1Y2M-31DT1S",
+            "1,-290308-12-21T19:59:12.224192+00:00:07,"])
 
     def test_extract_counts_the_documents(self):
         given = stored("[7]") * 300_000

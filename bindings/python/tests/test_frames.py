@@ -126,11 +126,12 @@ class ShownTest(unittest.TestCase):
 class EqualTest(unittest.TestCase):
     def test_what_is_never_equal_is_said(self):
         row = Document.of({"tags": ["a"], "id": 7})
-        for compare, name in ((lambda: row == {"id": 7}, "dict"), (lambda: row["tags"] == ["a"], "list"),
+        for compare, name in ((lambda: row == {"id": 7}, "dict"),
+                              (lambda: row["tags"] == ["a"], "list"),
                               (lambda: {"id": 7} == row, "dict"), (lambda: row != (1,), "tuple"),
                               (lambda: dict(row) == {"tags": ["a"], "id": 7}, "list")):
-            with self.assertWarnsRegex(KohibladWarning,
-                                       f"a document never equals a {name}: compare its value") as said:
+            words = f"a document never equals a {name}: compare its value"
+            with self.assertWarnsRegex(KohibladWarning, words) as said:
                 compare()
             self.assertEqual(said.filename, __file__)
         with warnings.catch_warnings():
@@ -191,7 +192,8 @@ class PandasTest(unittest.TestCase):
                 self.assertEqual(found, expected(name))
 
     def test_times_that_pandas_has_not(self):
-        for values in ([Date(2**31 - 1), date(2026, 1, 1)], [Timestamp(-2**63), datetime(2026, 1, 1)],
+        for values in ([Date(2**31 - 1), date(2026, 1, 1)],
+                       [Timestamp(-2**63), datetime(2026, 1, 1)],
                        [Timestamp(2**63 - 1), datetime(2026, 1, 1)]):
             typed, = Column.of(Document.of({"a": it}) for it in [*values, None]).extract(["a"])
             series = typed.to_pandas()

@@ -13,7 +13,7 @@ SOURCE = os.path.join(TOP, "src")
 CALLER = """\
 from typing import Iterator, List, Mapping, Sequence
 from kohiblad import ArrayDocument, Document, DocumentPath, ObjectDocument, dumps, loads
-from kohiblad.arrow import Column, Typed
+from kohiblad.arrow import Column, Typed, frame
 
 document = Document.parse(b"{}", depth=3)
 if isinstance(document, ObjectDocument):
@@ -37,6 +37,9 @@ keys: List[int] = other.index_keys() + other.top_keys()
 ordered = sorted([document, Document.of(None)])
 column: Column = Column.of([document, None])
 members: List[Typed] = column.extract(["a", ["b", -1]], ["decimal 2", None], unfit="null")
+members += column.extract(["$.a.b"], iso_dates=True)
+made: object = frame(column, {"a": "$.a", "b": ["b", 0]}, {"b": "date"}, floats=True)
+made = [column.to_pandas(), members[0].to_pandas(floats=True), members[0].masked]
 count: int = column.survey(0).numbers + members[0].unfit + len(column.least_type("a", exact=True))
 Document.parse(5)
 """

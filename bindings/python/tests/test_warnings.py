@@ -62,7 +62,8 @@ class PathTextTest(WarningsTest):
         for text, steps in (("$.customer.town", "'customer', 'town'"),
                             ("customer.town", "'customer', 'town'"),
                             ("$.lines[0]", "'lines', 0"), ("$.lines[#-1]", "'lines', -1"),
-                            ("$.customer", "'customer'"), ("lines[0].price", "'lines', 0, 'price'")):
+                            ("$.customer", "'customer'"),
+                            ("lines[0].price", "'lines', 0, 'price'")):
             with self.assertRaises(PathError) as refused:
                 row.get_path(text)
             self.assertIn(f"write get_path({steps})", str(refused.exception))

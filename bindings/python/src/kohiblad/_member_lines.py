@@ -50,6 +50,9 @@ def add_extract_options(command: argparse.ArgumentParser) -> None:
                               "documents: empty writes no value and counts them on standard error, "
                               "error ends at the first")
     _add_exact(command)
+    command.add_argument("--iso-dates", action="store_true",
+                         help="read texts of RFC 3339 (ISO 8601) where the type is date, timestamp "
+                              "or timestamp_tz, and find these types as the least")
 
 
 def _add_path(command: argparse.ArgumentParser) -> None:
@@ -109,7 +112,7 @@ def extracted(column: Column, options: argparse.Namespace) -> Dict[str, Typed]:
     types = [None if it == _LEAST else it for _, it in members]
     unfit = "error" if options.unfit == "error" else "rest"
     columns = column.extract([steps for (_, steps), _ in members], types, unfit=unfit,
-                             exact=options.exact)
+                             exact=options.exact, iso_dates=options.iso_dates)
     return dict(zip(names, columns))
 
 
@@ -152,10 +155,8 @@ def _writer(type_: str) -> Callable[[Any], str]:
             return _quoted(value)
         if isinstance(value, bytes):
             return value.hex() or _quoted("")
-        if isinstance(value, date):
+        if isinstance(value, (date, Date, Timestamp, TimestampTz, Interval)):
             return value.isoformat()
-        if isinstance(value, (Date, Timestamp, TimestampTz, Interval)):
-            return " ".join(map(str, value))
         # A Decimal has no exponent so.
         return format(value, "f") if isinstance(value, Decimal) else str(value)
 

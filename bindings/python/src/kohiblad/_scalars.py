@@ -3,6 +3,7 @@ from datetime import date, datetime, timedelta, timezone
 from decimal import Context, Decimal
 from typing import Iterable, NamedTuple, Union, cast
 
+from . import _iso as iso
 from . import _library as library
 from ._errors import NumberError
 
@@ -14,10 +15,32 @@ class Date(NamedTuple):
     """A date that no ``datetime.date`` can be: days from 1970-01-01."""
     days: int
 
+    def isoformat(self) -> str:
+        """The date in ISO 8601, with a sign and more digits where the year needs them.
+
+        >>> Date(3_000_000).isoformat(), Date(-800_000).isoformat()
+        ('+10183-09-21', '-0221-09-04')
+        """
+        return iso.date_text(self.days)
+
+    def __str__(self) -> str:
+        return self.isoformat()
+
 
 class Timestamp(NamedTuple):
     """A timestamp that no ``datetime`` can be: microseconds from 1970-01-01 00:00."""
     micros: int
+
+    def isoformat(self) -> str:
+        """The timestamp in ISO 8601, as that of a ``Date``.
+
+        >>> Timestamp(3_000_000 * 86_400 * 10**6 + 5).isoformat()
+        '+10183-09-21T00:00:00.000005'
+        """
+        return iso.timestamp_text(self.micros)
+
+    def __str__(self) -> str:
+        return self.isoformat()
 
 
 class TimestampTz(NamedTuple):
@@ -28,12 +51,34 @@ class TimestampTz(NamedTuple):
     micros: int
     offset: int
 
+    def isoformat(self) -> str:
+        """The timestamp in its zone, in ISO 8601, as that of a ``Date``.
+
+        >>> TimestampTz(3_000_000 * 86_400 * 10**6, -5400).isoformat()
+        '+10183-09-20T22:30:00-01:30'
+        """
+        return iso.timestamp_text(self.micros, self.offset)
+
+    def __str__(self) -> str:
+        return self.isoformat()
+
 
 class Interval(NamedTuple):
     """An interval of months, days and microseconds, which are kept apart."""
     months: int
     days: int
     micros: int
+
+    def isoformat(self) -> str:
+        """The interval as a duration of ISO 8601, in which each part has a sign of its own.
+
+        >>> Interval(14, -3, 5_400_000_000).isoformat(), Interval(0, 0, -1500).isoformat()
+        ('P1Y2M-3DT1H30M', 'PT-0.0015S')
+        """
+        return iso.interval_text(self.months, self.days, self.micros)
+
+    def __str__(self) -> str:
+        return self.isoformat()
 
 
 class Opaque(NamedTuple):

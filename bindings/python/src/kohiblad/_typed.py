@@ -11,6 +11,7 @@ from typing import (Any, Callable, Dict, Iterable, Iterator, List, NamedTuple, N
 
 from . import _arrays as arrays
 from . import _capsules as capsules
+from . import _iso as iso
 from . import _library as library
 from ._changes import Step, document_of_path, name_of_path, path_text
 from ._document import Document
@@ -48,9 +49,10 @@ _UNFIT_AS_NULL = bytes([library.ROW_ABSENT, library.ROW_VALUE, library.ROW_NULL,
                         library.ROW_NULL, *range(5, 256)])
 _IS_ONE = bytes([48, 49, *254 * [48]])
 _UNFIT, _NO_DOCUMENT = bytes([library.ROW_UNFIT]), bytes([library.ROW_NO_DOCUMENT])
+_VALUE = bytes([library.ROW_VALUE])
 
 _BUFFERS = ("states", "values", "offsets", "texts")
-# The kinds of members, each with the fields that count it, and with the type that holds it.
+# The kinds of members, each with the fields of a survey that count it.
 _KINDS = {"number": ("int64s", "uint64s", "decimal64s", "decimal128s"), "text": ("texts",),
           "boolean": ("booleans",), "date": ("dates",), "timestamp": ("timestamps",),
           "timestamp_tz": ("zoned_timestamps",), "interval": ("intervals",),
@@ -645,6 +647,35 @@ class _Filled:
             raise library.error_of(taken.status)
         self.unfit += taken.unfit
 
+    def read_texts(self, rows: Rows) -> None:
+        """Takes the texts of dates and timestamps among the members that do not fit."""
+        read = iso.READERS.get(self.name)
+        if read is None or not self.unfit:
+            return
+        texts = _Filled("text", self.steps, False, rows.length)
+        texts.fill(rows, is_known=rows.are_documents, is_trial=False)
+        data = bytes(texts.texts)
+        for row, (begin, end) in enumerate(zip(texts.offsets, texts.offsets[1:])):
+            numbers = read(data[begin:end]) if begin < end else None
+            if numbers is not None:
+                self._put(row, numbers)
+                self.states[row] = library.ROW_VALUE
+                self.unfit -= 1
+
+    def _put(self, row: int, numbers: iso.Numbers) -> None:
+        """Puts the value of a row, which a date or timestamp is stored as."""
+        self.values[self._words * row] = numbers[0]
+        if len(numbers) == 2:
+            # The offset is the low half of the second word.
+            self.values[2 * row + 1] = numbers[1] & 0xFFFFFFFF
+
+    def first_text(self, rows: Rows) -> Optional[bytes]:
+        """The first text among the members of the rows."""
+        texts = _Filled("text", self.steps, False, rows.length)
+        texts.fill(rows, is_known=rows.are_documents, is_trial=False)
+        row = texts.states.tobytes().find(_VALUE)
+        return None if row < 0 else bytes(texts.texts[texts.offsets[row]:texts.offsets[row + 1]])
+
     def refuse_first(self, rows: Rows) -> NoReturn:
         """UnfitError, InvalidDocumentError: the first row that does not fit."""
         states = self.states.tobytes()
@@ -749,7 +780,7 @@ def least_type(rows: Rows, steps: Tuple[Step, ...], exact: bool) -> str:
 
 
 def extract(rows: Rows, members: Iterable[Tuple[Tuple[Step, ...], Optional[str]]], unfit: str,
-            exact: bool) -> List[Typed]:
+            exact: bool, iso_dates: bool = False) -> List[Typed]:
     """For each path the column of a type, or of the least one if none is named."""
     wanted, is_known = list(members), rows.are_documents
     located = _located(rows, wanted, exact, is_known)
@@ -757,13 +788,32 @@ def extract(rows: Rows, members: Iterable[Tuple[Tuple[Step, ...], Optional[str]]
     for number, (steps, name) in enumerate(wanted):
         column = located.get(number)
         if column is None:
-            column = _filled(rows, steps, name, unfit == "error", exact, is_known)
-        elif unfit == "error" and column.unfit:
+            refuses = unfit == "error" and not iso_dates
+            column = _filled(rows, steps, name, refuses, exact, is_known)
+        if iso_dates:
+            column = _with_texts(rows, column, name)
+        if unfit == "error" and column.unfit:
             column.refuse_first(rows)
         # Rows that were checked for one member are not checked again for the next ones.
         is_known = is_known or column.shows_documents()
         columns.append(column.typed(rows, unfit))
     return columns
+
+
+def _with_texts(rows: Rows, column: _Filled, name: Optional[str]) -> _Filled:
+    """A column with its texts of dates and timestamps, or where no type is named a column of these
+    if it holds all members."""
+    if name is not None or column.name not in ("text", "mixed"):
+        column.read_texts(rows)
+        return column
+    text = column.first_text(rows)
+    found = None if text is None else iso.type_of_text(text)
+    if found is None:
+        return column
+    other = _Filled(found, column.steps, False, rows.length)
+    other.fill(rows, is_known=rows.are_documents, is_trial=False)
+    other.read_texts(rows)
+    return column if _UNFIT in other.states.tobytes() else other
 
 
 def _located(rows: Rows, members: List[Tuple[Tuple[Step, ...], Optional[str]]], exact: bool,

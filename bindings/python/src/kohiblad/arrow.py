@@ -274,7 +274,8 @@ class Column(library.Fixed, Sequence[Optional[Document]]):
 
         ImportError: there is no pandas.
         """
-        return arrays.pandas_module().Series(arrays.of_objects(list(self)))
+        documents = [self._row(row) for row in range(self._rows.length)]
+        return arrays.pandas_module().Series(arrays.of_objects(documents))
 
     def __len__(self) -> int:
         return self._rows.length
@@ -341,7 +342,7 @@ class Column(library.Fixed, Sequence[Optional[Document]]):
 
     def extract(self, paths: Iterable[DocumentPath],
                 types: Optional[Iterable[Optional[str]]] = None, *, unfit: str = "rest",
-                exact: bool = False) -> List[Typed]:
+                exact: bool = False, iso_dates: bool = False) -> List[Typed]:
         """The members of the rows at the end of each path, as columns of values of one type.
 
         >>> texts = ['{"price": 5}', '{"price": "1.5"}', '{"sku": "k7"}', '{"price": 1.50}']
@@ -358,6 +359,17 @@ class Column(library.Fixed, Sequence[Optional[Document]]):
         a scale, as decimal 2, or nothing or mixed, which have no values. Where none is named it is
         the ``least_type``. A number fits if it equals a value of the type, or, if it is ``exact``,
         if the value gives its kind and digits back.
+
+        With ``iso_dates`` texts of RFC 3339, a profile of ISO 8601, fit the types of dates and
+        timestamps too: ``2026-11-29`` date, ``2026-11-29T12:30:00.5`` timestamp, as a clock shows
+        it, and the same with ``Z`` or ``+02:00`` after it timestamp_tz, in UTC with its offset.
+        Where no type is named and all texts of a member are such of one type, it is that. A text
+        that no value is exactly does not fit, as one with a leap second, or with more digits than
+        those of microseconds.
+
+        >>> days = Column.of(Document.of({"day": it}) for it in ("2026-11-29", "2026-02-29", None))
+        >>> days.extract(["day"], ["date"], iso_dates=True)[0].to_list()
+        [datetime.date(2026, 11, 29), None, None]
 
         The rows of a column that was made of documents are not checked again, nor are those of
         Arrow for the second path and the later ones, unless one of them is not a document.
@@ -380,7 +392,7 @@ class Column(library.Fixed, Sequence[Optional[Document]]):
         names = typed.names_of([None] * len(steps) if types is None else types)
         if len(names) != len(steps):
             raise ValueError(f"there are {len(steps)} paths and {len(names)} types")
-        columns = typed.extract(self._rows, zip(steps, names), unfit, exact)
+        columns = typed.extract(self._rows, zip(steps, names), unfit, exact, iso_dates)
         self._tell_missing([(path, it.path) for path, it in zip(given, columns)
                             if len(it) and not any(bytes(it.states))])
         return columns
@@ -414,7 +426,7 @@ class Column(library.Fixed, Sequence[Optional[Document]]):
 
 def frame(column: Union[Column, Iterable[Optional[Document]]], members: Mapping[str, DocumentPath],
           types: Optional[Mapping[str, Optional[str]]] = None, *, unfit: str = "rest",
-          exact: bool = False, floats: bool = False) -> Any:
+          exact: bool = False, iso_dates: bool = False, floats: bool = False) -> Any:
     """A frame of pandas with a column for each name, of the members at the end of its path.
 
     >>> rows = [Document.of({"at": {"town": "Oslo"}, "id": 1}), Document.of({"id": 2})]
@@ -424,23 +436,24 @@ def frame(column: Union[Column, Iterable[Optional[Document]]], members: Mapping[
     1  <NA>   2
 
     The rows are a column, or documents. ``types`` are of some names, and the others have the least
-    type; they, the paths, ``unfit`` and ``exact`` are as for ``Column.extract``, and ``floats`` is
-    as for ``Typed.to_pandas``. ImportError: there is no pandas. KohibladWarning: a member does not
-    fit its type, and as of ``Column.extract``. KeyError: a type is of none of the names.
+    type; they, the paths, ``unfit``, ``exact`` and ``iso_dates`` are as for ``Column.extract``, and
+    ``floats`` is as for ``Typed.to_pandas``. ImportError: there is no pandas. KohibladWarning: a
+    member does not fit its type, and as of ``Column.extract``. KeyError: a type is of none of the
+    names.
     """
     arrays.pandas_module()
     rows = column if isinstance(column, Column) else Column.of(column)
-    wanted = {} if types is None else dict(types)
-    listed = [wanted.pop(name, None) for name in members]
-    for name in wanted:
-        raise KeyError(name)
-    columns = rows.extract(members.values(), listed, unfit=unfit, exact=exact)
+    wanted = {} if types is None else types
+    if not wanted.keys() <= members.keys():
+        raise KeyError(*sorted(wanted.keys() - members.keys())[:1])
+    columns = rows.extract(members.values(), map(wanted.get, members), unfit=unfit, exact=exact,
+                           iso_dates=iso_dates)
     for name, it in zip(members, columns):
         if it.unfit and it.type != "mixed":
-            first = min(row for row, state in enumerate(it.states) if state > library.ROW_NULL) \
-                if unfit == "rest" else None
+            first = next((row for row, state in enumerate(it.states) if state > library.ROW_NULL),
+                         None)
             warn(f"{name}: no {it.type} in {it.unfit:,} of {len(it):,} rows"
-                 + (f", first in row {first}" if first is not None else ""))
+                 + ("" if first is None else f", first in row {first}"))
     return arrays.frame_of([it.to_pandas(floats=floats) for it in columns], list(members))
 
 

@@ -16,9 +16,12 @@ from typing import (Any, Callable, Dict, Iterable, Iterator, List, Mapping, Sequ
 
 from . import _arrays as arrays
 from . import _library as library
-from ._changes import document_of_path, warn_of_missing
+from ._changes import document_of_path, edited, warn_of_missing
 from ._document import Document, path_error, steps_of_name
-from ._scalars import Interval, date_of, decimal_of, timestamp_of, timestamp_tz_of
+from ._iso import READERS
+from ._scalars import (Date, Interval, Timestamp, TimestampTz, date_of, decimal_of,
+                       document_of_raw_date, document_of_timestamp, document_of_timestamp_tz,
+                       timestamp_of, timestamp_tz_of)
 from ._target import File, target_of
 
 _TYPES = ("boolean", "int64", "uint64", "decimal", "text", "date", "timestamp", "timestamp_tz",
@@ -74,6 +77,30 @@ def _bytes_of_type(name: str) -> bytes:
 def _built(rows: List[bytes], _kept: Any, *words: Any) -> bytes:
     """What a call makes of rows, for which something is kept at an address until it ends."""
     return library.result_of(*words, library.fitting(library.EDIT_LEVEL_STACK, *rows))
+
+
+# What makes the document of a value of the numbers that a text is read as.
+_DOCUMENTS: Dict[str, Callable[..., bytes]] = {
+    "date": lambda days: document_of_raw_date(Date(days)),
+    "timestamp": lambda micros: document_of_timestamp(Timestamp(micros)),
+    "timestamp_tz": lambda micros, offset: document_of_timestamp_tz(TimestampTz(micros, offset)),
+}
+
+
+def _with_dates(rows: List[bytes], types: Mapping[str, str]) -> List[bytes]:
+    """The rows with the values that the texts at the keys of dates and timestamps are."""
+    for name, kind in types.items():
+        if kind in _DOCUMENTS:
+            rows = [_with_date(row, name, kind) for row in rows]
+    return rows
+
+
+def _with_date(row: bytes, name: str, kind: str) -> bytes:
+    place = library.find(row, len(row), *_key_of(name))
+    if place.status or place.type != library.TYPE_STRING:
+        return row
+    numbers = READERS[kind](library.payload_of(row, place))
+    return row if numbers is None else edited(row, (name,), library.PUT, _DOCUMENTS[kind](*numbers))
 
 
 def _tell_missing(rows: List[bytes], names: List[str]) -> None:
@@ -294,7 +321,8 @@ class TypedFile(library.Fixed, Sequence[Document]):
         return told
 
     @staticmethod
-    def build(documents: Iterable[Any], types: Mapping[str, str]) -> bytes:
+    def build(documents: Iterable[Any], types: Mapping[str, str], *,
+              iso_dates: bool = False) -> bytes:
         """The bytes of a file of rows, with a column for the members at each key of ``types``.
 
         ``documents`` are documents or Python values, as for ``Document.of``. A type is boolean,
@@ -304,11 +332,17 @@ class TypedFile(library.Fixed, Sequence[Document]):
         InvalidDocumentError: a row exceeds a limit of the format. PathError: no row has a key that
         leads somewhere as the text of a path. KohibladWarning: there are rows, and none of them has
         a member at a key.
+
+        With ``iso_dates`` texts that fit a column of dates or timestamps, as for
+        ``kohiblad.arrow.Column.extract``, are kept in it, and the rows have these values then, in
+        place of the texts.
         """
         names = sorted(types, key=str.encode)
         kinds = b"".join(_bytes_of_type(types[name]) for name in names)
         listed = bytes(Document.of(names))
         rows = [bytes(it if isinstance(it, Document) else Document.of(it)) for it in documents]
+        if iso_dates:
+            rows = _with_dates(rows, types)
         _tell_missing(rows, names)
         offsets = (ctypes.c_size_t * (len(rows) + 1))()
         end = 0
@@ -325,13 +359,14 @@ class TypedFile(library.Fixed, Sequence[Document]):
         return _built(rows, offsets, *words)
 
     @classmethod
-    def write(cls, file: File, documents: Iterable[Any], types: Mapping[str, str]) -> int:
+    def write(cls, file: File, documents: Iterable[Any], types: Mapping[str, str], *,
+              iso_dates: bool = False) -> int:
         """Writes the file that ``build`` makes, and returns how many bytes it has.
 
         ``file`` is a path, or a file that is open for bytes. At a path the file is there once all
         of it was written.
         """
-        data = cls.build(documents, types)
+        data = cls.build(documents, types, iso_dates=iso_dates)
         with target_of(file) as target:
             target.write(data)
         return len(data)
