@@ -622,6 +622,19 @@ class StackTest(unittest.TestCase):
             self.assertEqual(call.call_count, 6)
             self.assertTrue(all(len(it.args[3]) == 8 for it in call.call_args_list))
 
+    def test_a_path_that_is_too_deep_is_not_made(self):
+        for count in (DEPTH + 1, 5 * DEPTH, 100 * DEPTH):
+            for document, step in (({}, "a"), ([], 0), ({"b": 5}, "a"), ([[]], 0)):
+                with self.assertRaises(TooDeepError) as refused:
+                    Document.of(document).set([step] * count, 5, create=True)
+                self.assertIn("1000 deep", str(refused.exception))
+            # A scalar is in the way, or a step is of the wrong kind.
+            deepest = Document.parse("[" * DEPTH + "5" + "]" * DEPTH)
+            for document, step in ((Document.of({"a": 5}), "a"), (Document.of([]), "a"),
+                                   (Document.of([1]), 7), (Document.of(5), "a"), (deepest, 0)):
+                self.assertEqual(document.set([step] * count, 5, create=True), document)
+        self.assertEqual(Document.of([]).set([0] * DEPTH, 5, create=True), deepest)
+
     def run_in_thread(self, size, program):
         """Runs a program in a thread with a stack of this size; a smaller one ends by a signal."""
         whole = ("import threading\n"

@@ -94,6 +94,8 @@ def edited(data: bytes, steps: Tuple[Step, ...], edit: int, value: bytes = b"") 
     TooDeepError: it would nest too deep. InvalidDocumentError: it is past a limit of the format.
     """
     path, depth = document_of_path(steps), library.fitting(library.EDIT_LEVEL_STACK, data)
+    if edit == library.CREATE and len(steps) > depth:
+        return _not_created(data, steps, depth)
     # Each level of the value takes four bytes, so that most documents need no look at them.
     if len(steps) + len(value) // 4 > depth \
             and not library.check(value, len(value), max(depth - len(steps), 0)):
@@ -112,6 +114,19 @@ def _unchanged(data: bytes, path: bytes, edit: int, depth: int) -> bytes:
     if document != other:
         raise _too_deep("document", depth)
     return document
+
+
+def _not_created(data: bytes, steps: Tuple[Step, ...], depth: int) -> bytes:
+    """A document in which a path is to be made that has more steps than the result may nest.
+
+    TooDeepError: it would be made. At what is in the way nothing changes.
+    """
+    front = document_of_path(steps[:depth])
+    place = library.get_path(data, len(data), front, len(front), depth)
+    if place.status == library.OK:
+        # It is a scalar, so that the rest leads nowhere.
+        return _edited(data, document_of_path(steps), library.REMOVE, b"")
+    return _unchanged(data, front, library.CREATE, depth)
 
 
 def _too_deep(name: str, depth: int) -> KohibladError:
