@@ -8,8 +8,11 @@ import sys
 import tempfile
 import time
 import unittest
+import urllib.parse
 import urllib.request
 from decimal import Decimal
+
+from kohiblad import Document
 
 EXAMPLES = os.path.join(os.path.dirname(os.path.abspath(__file__)), "..", "..", "examples",
                         "stores")
@@ -53,8 +56,38 @@ def rows():
              "price": Decimal(rng.randrange(-5000, 20000)) / 100} for number in range(ROWS)]
 
 
+def environment_of(python):
+    """The environment of a program, for this Python or another."""
+    if python == sys.executable:
+        return dict(os.environ)
+    # The extension module may be for another version.
+    return dict(os.environ, KOHIBLAD_NATIVE="0")
+
+
 def lines_of(given):
     return "".join(json.dumps(it, default=float) + "\n" for it in given)
+
+
+class Server:
+    """A server's process, which can be begun again when it was killed."""
+
+    def __init__(self, arguments, folder, name):
+        self.arguments = arguments
+        self.log = os.path.join(folder, name + ".log")
+        self.folder = folder
+        self.begin()
+
+    def begin(self):
+        with open(self.log, "ab") as log:
+            self.process = subprocess.Popen(self.arguments, stdout=log, stderr=log,
+                                            cwd=self.folder)
+
+    def is_dead(self):
+        return self.process.poll() is not None
+
+    def end(self):
+        self.process.kill()
+        self.process.wait()
 
 
 class StoreTest(unittest.TestCase):
@@ -73,14 +106,12 @@ class StoreTest(unittest.TestCase):
 
     def start(self, arguments, is_ready, name="server"):
         """Starts a server, which is ended after the test, and waits until it answers."""
-        with open(os.path.join(self.folder, name + ".log"), "wb") as log:
-            server = subprocess.Popen(arguments, stdout=log, stderr=log, cwd=self.folder)
-        self.addCleanup(server.wait)
-        self.addCleanup(server.kill)
+        server = Server(arguments, self.folder, name)
+        self.addCleanup(server.end)
         end = time.monotonic() + SECONDS
         while not is_ready():
-            if server.poll() is not None or time.monotonic() > end:
-                with open(os.path.join(self.folder, name + ".log"), errors="replace") as log:
+            if server.is_dead() or time.monotonic() > end:
+                with open(server.log, errors="replace") as log:
                     self.fail(f"{arguments[0]} did not start: {log.read()[-2000:]}")
             time.sleep(0.1)
         return server
@@ -93,15 +124,21 @@ class StoreTest(unittest.TestCase):
             return False
 
     def run_example(self, python, name, *arguments, given=b""):
-        environment = dict(os.environ)
-        if python != sys.executable:
-            # The extension module may be for another version.
-            environment["KOHIBLAD_NATIVE"] = "0"
-        done = subprocess.run([python, os.path.join(EXAMPLES, name), *arguments], input=given,
-                              stdout=subprocess.PIPE, stderr=subprocess.PIPE, timeout=SECONDS,
-                              env=environment)
+        done = self.try_example(python, name, *arguments, given=given)
         self.assertEqual((done.returncode, done.stderr.decode()), (0, ""))
         return done.stdout.decode()
+
+    def try_example(self, python, name, *arguments, given=b""):
+        return subprocess.run([python, os.path.join(EXAMPLES, name), *arguments], input=given,
+                              stdout=subprocess.PIPE, stderr=subprocess.PIPE, timeout=SECONDS,
+                              env=environment_of(python))
+
+    def check_refused(self, words, *arguments, given=b""):
+        """The example ends with 1, and its words on one line have these in it."""
+        done = self.try_example(*arguments, given=given)
+        error = done.stderr.decode()
+        self.assertEqual((done.returncode, error.count("\n")), (1, 1), error)
+        self.assertIn(words, error)
 
     def check_ranges(self, python, name, place):
         """What the example finds is what a filter finds, in the order of the prices."""
@@ -116,15 +153,41 @@ class StoreTest(unittest.TestCase):
             self.assertEqual(sorted(it["id"] for it in found), sorted(it["id"] for it in expected))
 
     def check_store(self, python, name, place):
+        """Loads of which each is found, and one of the same lines again, which changes nothing."""
         self.rows = rows()
-        self.run_example(python, name, place, "load", given=lines_of(self.rows).encode())
+        self.assertIn("0 rows are stored", self.run_example(python, name, place, "load"))
+        parts = [self.rows[:1000], self.rows[1000:1001], self.rows[1001:]]
+        for first, part in zip((0, 1000, 1001), parts):
+            told = self.run_example(python, name, place, "load", given=lines_of(part).encode())
+            self.assertIn(f"{len(part)} rows are stored, with numbers from ", told)
+            self.assertNotIn("earlier load", told)
         self.check_ranges(python, name, place)
+        again = lines_of(parts[2]).encode()
+        self.assertIn("as in an earlier load of these lines",
+                      self.run_example(python, name, place, "load", given=again))
+        self.check_all(python, name, place, self.rows)
+        # Another load may have rows that an earlier one has.
+        more = self.rows[:10]
+        self.run_example(python, name, place, "load", given=b"\n" + lines_of(more).encode())
+        self.check_all(python, name, place, self.rows + more)
+        self.check_refused("line 2: InvalidJson", python, name, place, "load", given=b"{}\n{\n{}")
+        self.check_refused("there is no command put", python, name, place, "put")
+
+    def check_all(self, python, name, place, expected):
+        """These rows are all that the example has, in the order of their cities and prices."""
+        found = [json.loads(it, parse_float=Decimal)
+                 for it in self.run_example(python, name, place, "all").splitlines()]
+        self.assertEqual([(it["city"].encode(), it["price"]) for it in found],
+                         sorted((it["city"].encode(), it["price"]) for it in expected))
+        self.assertEqual(sorted(it["id"] for it in found), sorted(it["id"] for it in expected))
 
 
 class LmdbTest(StoreTest):
     def test_ranges_of_two_members(self):
         python = self.need(python_with("lmdb"), "python3-lmdb")
-        self.check_store(python, "lmdb_store.py", os.path.join(self.folder, "store"))
+        place = os.path.join(self.folder, "store")
+        self.check_refused("No such file", python, "lmdb_store.py", place, "all")
+        self.check_store(python, "lmdb_store.py", place)
 
     def test_keys_that_are_cut(self):
         python = self.need(python_with("lmdb"), "python3-lmdb")
@@ -137,65 +200,147 @@ class LmdbTest(StoreTest):
         self.assertEqual([json.loads(it)["id"] for it in found.splitlines()], [2, 1])
 
 
-class RedisTest(StoreTest):
-    def test_ranges_over_three_servers(self):
+class RedisStore(StoreTest):
+    name, kept = "redis_store.py", ["--appendonly", "yes", "--appendfsync", "always"]
+
+    def ask(self, port, *words):
+        return subprocess.run([self.client, "-h", self.host, "-p", str(port), *words],
+                              stdout=subprocess.PIPE, stderr=subprocess.DEVNULL).stdout
+
+    def start_redis(self, options, count=3):
+        """Starts servers of a cluster, self.servers, and returns where one listens."""
         server = self.need(program_of("redis-server"), "redis-server")
-        client = self.need(program_of("redis-cli"), "redis-tools")
-        python = self.need(python_with("redis.cluster"), "python3-redis")
-        ports = (7001, 7002, 7003)
-
-        def ask(port, *words):
-            return subprocess.run([client, "-h", self.host, "-p", str(port), *words],
-                                  stdout=subprocess.PIPE, stderr=subprocess.DEVNULL).stdout
-
-        for port in ports:
-            self.start([server, "--port", str(port), "--bind", self.host, "--save", "",
+        self.client = self.need(program_of("redis-cli"), "redis-tools")
+        self.python = self.need(python_with("redis.cluster"), "python3-redis")
+        self.ports = range(7001, 7001 + count)
+        self.servers = [
+            self.start([server, "--port", str(port), "--bind", self.host, "--save", "", *options,
                         "--cluster-enabled", "yes", "--cluster-config-file", f"nodes{port}",
-                        "--cluster-announce-ip", self.host, "--dir", self.folder],
-                       lambda: ask(port, "PING") == b"PONG\n", str(port))
-        subprocess.run([client, "--cluster", "create", *(f"{self.host}:{it}" for it in ports),
-                        "--cluster-yes"], stdout=subprocess.DEVNULL, check=True,
-                       timeout=SECONDS)
+                        "--cluster-announce-ip", self.host, "--dir", self.folder,
+                        "--appenddirname", f"changes{port}"],
+                       lambda: self.ask(port, "PING") == b"PONG\n", str(port))
+            for port in self.ports]
+        # The command CLUSTER of redis-cli would have at least three.
+        for number, port in enumerate(self.ports):
+            slots = 16384 * number // count, 16384 * (number + 1) // count - 1
+            self.ask(port, "CLUSTER", "ADDSLOTSRANGE", *map(str, slots))
+            self.ask(port, "CLUSTER", "SET-CONFIG-EPOCH", str(number + 1))
+            self.ask(7001, "CLUSTER", "MEET", self.host, str(port))
         end = time.monotonic() + SECONDS
-        while not all(b"cluster_state:ok" in ask(port, "CLUSTER", "INFO") for port in ports):
+        while not all(b"cluster_state:ok" in self.ask(port, "CLUSTER", "INFO")
+                      and self.ask(port, "CLUSTER", "NODES").count(b" connected") == count
+                      for port in self.ports):
             self.assertLess(time.monotonic(), end, "the cluster is not ready")
             time.sleep(0.1)
-        self.check_store(python, "redis_store.py", f"{self.host}:{ports[0]}")
-        self.assertTrue(all(int(ask(port, "DBSIZE")) > 2 for port in ports))
+        return f"{self.host}:7001"
 
 
-class EtcdTest(StoreTest):
-    def test_ranges_of_two_members(self):
+class RedisTest(RedisStore):
+    def test_ranges_over_three_servers(self):
+        place = self.start_redis(self.kept)
+        self.check_refused("there are no bounds", self.python, self.name, place, "all")
+        self.check_store(self.python, self.name, place)
+        self.assertTrue(all(int(self.ask(port, "DBSIZE")) > 2 for port in self.ports))
+
+    def test_servers_that_would_lose_rows(self):
+        place = self.start_redis(["--appendonly", "yes", "--appendfsync", "always"], 2)
+        self.ask(7002, "CONFIG", "SET", "appendfsync", "everysec")
+        self.check_refused(f"{self.host}:7002 would lose rows when it is killed: "
+                           "set appendfsync to always, where it has everysec",
+                           self.python, self.name, place, "load", given=b"{}")
+        self.ask(7002, "CONFIG", "SET", "appendonly", "no")
+        self.check_refused("set appendonly to yes, where it has no",
+                           self.python, self.name, place, "load", given=b"{}")
+
+
+class EtcdStore(StoreTest):
+    name, python = "etcd_store.py", sys.executable
+
+    def start_etcd(self, *options):
+        """Starts a server, self.servers, and returns where it listens."""
         server = self.need(program_of("etcd"), "etcd-server")
         client, peer = f"http://{self.host}:2379", f"http://{self.host}:2380"
-        self.start([server, "--data-dir", os.path.join(self.folder, "data"),
-                    "--listen-client-urls", client, "--advertise-client-urls", client,
-                    "--listen-peer-urls", peer, "--initial-advertise-peer-urls", peer,
-                    "--initial-cluster", f"default={peer}", "--unsafe-no-fsync"],
-                   lambda: self.answers_http(2379, "v3/kv/range", b'{"key":"eA=="}'))
-        self.check_store(sys.executable, "etcd_store.py", f"{self.host}:2379")
+        self.servers = [self.start(
+            [server, "--data-dir", os.path.join(self.folder, "data"), *options,
+             "--listen-client-urls", client, "--advertise-client-urls", client,
+             "--listen-peer-urls", peer, "--initial-advertise-peer-urls", peer,
+             "--initial-cluster", f"default={peer}"],
+            lambda: self.answers_http(2379, "v3/kv/range", b'{"key":"eA=="}'))]
+        return f"{self.host}:2379"
 
 
-class ClickHouseTest(StoreTest):
+class EtcdTest(EtcdStore):
     def test_ranges_of_two_members(self):
+        self.check_store(self.python, self.name, self.start_etcd("--unsafe-no-fsync"))
+
+    def test_great_documents(self):
+        place = self.start_etcd("--unsafe-no-fsync")
+        self.rows = [{"id": it, "city": "Oslo", "price": Decimal(5), "text": "a" * 300_000}
+                     for it in range(12)]
+        given = lines_of(self.rows).encode()
+        self.run_example(self.python, self.name, place, "load", given=given)
+        too_great = json.dumps({"text": "a" * 1_573_000}).encode() + b"\n"
+        self.check_refused("row 1 has 1573", self.python, self.name, place, "load",
+                           given=b"{}\n" + too_great)
+        self.check_all(self.python, self.name, place, self.rows)
+
+    def test_reason_of_a_server(self):
+        place = self.start_etcd("--unsafe-no-fsync", "--max-request-bytes", "50000")
+        self.check_refused("etcdserver: request is too large", self.python, self.name, place,
+                           "load", given=json.dumps({"text": "a" * 60_000}).encode())
+
+    def test_rows_of_another_layout(self):
+        place = self.start_etcd("--unsafe-no-fsync")
+        self.answers_http(2379, "v3/kv/put", b'{"key": "cm93cy94", "value": "eA=="}')
+        self.check_refused("there are rows, and no number of the next", self.python, self.name,
+                           place, "load", given=b"{}")
+
+
+class ClickHouseStore(StoreTest):
+    name, python = "clickhouse_store.py", sys.executable
+
+    def ask(self, query, data=b"\n"):
+        words = urllib.parse.urlencode({"query": query})
+        with urllib.request.urlopen(f"http://{self.host}:8123/?{words}", data,
+                                    timeout=SECONDS) as answer:
+            return answer.read()
+
+    def start_clickhouse(self):
+        """Starts a server, self.servers, and returns where it listens."""
         server = self.need(program_of("clickhouse-server"), "clickhouse-server")
         config = os.path.join(self.folder, "config.xml")
         with open(config, "w") as file:
             file.write(CLICKHOUSE_CONFIG.format(folder=self.folder, host=self.host))
         with open(os.path.join(self.folder, "users.xml"), "w") as file:
             file.write(CLICKHOUSE_USERS)
-        self.start([server, f"--config-file={config}"], lambda: self.answers_http(8123))
-        self.rows = rows()
-        documents = self.kohiblad("encode", given=lines_of(self.rows).encode())
-        keyed = self.kohiblad("keys", "--member", "city", "--member", "price", "--rowbinary",
-                              given=documents)
-        place = f"{self.host}:8123"
-        self.run_example(sys.executable, "clickhouse_store.py", place, "load", given=keyed)
-        self.check_ranges(sys.executable, "clickhouse_store.py", place)
+        self.servers = [self.start([server, f"--config-file={config}"],
+                                   lambda: self.answers_http(8123))]
+        return f"{self.host}:8123"
 
     def kohiblad(self, *arguments, given):
         return subprocess.run([sys.executable, "-m", "kohiblad", *arguments], input=given,
                               stdout=subprocess.PIPE, check=True).stdout
+
+
+class ClickHouseTest(ClickHouseStore):
+    def test_ranges_of_two_members(self):
+        place = self.start_clickhouse()
+        self.check_refused("DB::Exception", self.python, self.name, place, "all")
+        self.check_store(self.python, self.name, place)
+
+    def test_rows_of_the_command(self):
+        """What `keys --rowbinary` writes are the keys and documents that a server reads."""
+        self.start_clickhouse()
+        documents = self.kohiblad("encode", given=lines_of(rows()[:100]).encode())
+        members = "--member", "city", "--member", "price"
+        self.ask("CREATE TABLE plain (key String, doc String) ENGINE = Memory")
+        self.ask("INSERT INTO plain FORMAT RowBinary",
+                 self.kohiblad("keys", *members, "--rowbinary", given=documents))
+        self.assertEqual(self.ask("SELECT lower(hex(key)) FROM plain"),
+                         self.kohiblad("keys", *members, given=documents))
+        self.assertEqual(
+            [bytes.fromhex(it.decode()) for it in self.ask("SELECT hex(doc) FROM plain").split()],
+            [bytes(Document.parse(it)) for it in lines_of(rows()[:100]).splitlines()])
 
 
 if __name__ == "__main__":
