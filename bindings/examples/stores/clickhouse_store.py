@@ -25,7 +25,7 @@ import urllib.request
 from http.client import HTTPException
 from urllib.error import HTTPError
 
-from common import StoreError, again, batches, main
+from common import Away, StoreError, again, batches, main
 from kohiblad import Document
 
 AT_ONCE = 100_000
@@ -34,10 +34,6 @@ ANSWER_SECONDS = 60
 TABLE = ("CREATE TABLE IF NOT EXISTS rows (key String, load FixedString(32), number UInt64, "
          "doc String) ENGINE = ReplacingMergeTree ORDER BY (key, load, number) "
          "SETTINGS index_granularity = 1024")
-
-
-class Away(Exception):
-    """The server did not answer."""
 
 
 def ask(address, query, data=b""):
@@ -56,7 +52,7 @@ def ask(address, query, data=b""):
         except (OSError, HTTPException) as error:
             raise Away(f"{address}: {error}") from error
 
-    return again(once, Away)
+    return again(once)
 
 
 def string(data):

@@ -24,6 +24,10 @@ class StoreError(Exception):
     """A load or a search cannot be done, for the reason that the words of the error say."""
 
 
+class Away(StoreError):
+    """A server does not answer, or cannot do so now."""
+
+
 class Load:
     """The rows of JSON lines, all of which are read before one is stored.
 
@@ -78,8 +82,8 @@ def batches(rows, most, most_bytes):
         yield batch
 
 
-def again(call, errors):
-    """What a call returns, which is made again for SECONDS while it raises one of these errors.
+def again(call):
+    """What a call returns, which is made again for SECONDS while it raises Away.
 
     So it must be one that may be made twice. After that time its last error is raised.
     """
@@ -88,7 +92,7 @@ def again(call, errors):
     while True:
         try:
             return call()
-        except errors as error:
+        except Away as error:
             if time.monotonic() > end:
                 raise
             if not pause:

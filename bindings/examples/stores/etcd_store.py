@@ -19,7 +19,7 @@ from base64 import b64decode, b64encode
 from http.client import HTTPException
 from urllib.error import HTTPError
 
-from common import StoreError, again, batches, main, number_of
+from common import Away, StoreError, again, batches, main, number_of
 from kohiblad import Document
 from kohiblad.keys import above
 
@@ -33,10 +33,6 @@ MOST_BYTES = 1536 * 1024 - 512
 ANSWER_SECONDS = 10
 # The numbers of gRPC for a time that is over and for a server that cannot answer now.
 AWAY = (4, 14)
-
-
-class Away(Exception):
-    """The server did not answer, or cannot answer now."""
 
 
 def ask(address, call, body):
@@ -53,7 +49,7 @@ def ask(address, call, body):
         except (OSError, HTTPException) as error:
             raise Away(f"{address}: {error}") from error
 
-    return again(once, Away)
+    return again(once)
 
 
 def reason_of(refusal):

@@ -25,11 +25,11 @@ import bisect
 import logging
 import random
 
-from common import ROW_BYTES, StoreError, again, batches, main, number_of
+from common import ROW_BYTES, Away, StoreError, again, batches, main, number_of
 from kohiblad import Document
 from redis.cluster import ClusterNode, RedisCluster
-from redis.exceptions import (AuthenticationError, AuthorizationError, ClusterDownError,
-                              ConnectionError, RedisClusterException, ReadOnlyError, ResponseError,
+from redis.exceptions import (AskError, AuthenticationError, AuthorizationError, ClusterError,
+                              ConnectionError, ReadOnlyError, RedisClusterException, ResponseError,
                               TimeoutError, TryAgainError)
 
 PARTS = 12
@@ -38,10 +38,6 @@ AT_ONCE = 500
 BYTES_AT_ONCE = 1 << 24
 ANSWER_SECONDS = 5
 KEPT = {"appendonly": "yes", "appendfsync": "always"}
-
-
-class Away(Exception):
-    """A server did not answer, or the cluster is changing."""
 
 
 class Cluster:
@@ -53,11 +49,11 @@ class Cluster:
 
     def ask(self, name, *arguments, **options):
         """The answer to a command, by the name of the client's method. StoreError: refused."""
-        return again(lambda: self._once(lambda it: getattr(it, name)(*arguments, **options)), Away)
+        return again(lambda: self._once(lambda it: getattr(it, name)(*arguments, **options)))
 
     def refuse_unkept(self):
         """StoreError: a server does not have each change on its disk when it answers."""
-        for name, settings in again(lambda: self._once(settings_of), Away):
+        for name, settings in again(lambda: self._once(settings_of)):
             for setting, value in KEPT.items():
                 if settings.get(setting) != value:
                     raise StoreError(f"{name} would lose rows when it is killed: set {setting} to "
@@ -72,8 +68,8 @@ class Cluster:
             return call(self._client)
         except (AuthenticationError, AuthorizationError) as error:
             raise StoreError(f"Redis refused: {error}") from error
-        except (ConnectionError, TimeoutError, ClusterDownError, ReadOnlyError, TryAgainError,
-                RedisClusterException, IndexError) as error:
+        except (ConnectionError, TimeoutError, ClusterError, RedisClusterException, AskError,
+                ReadOnlyError, TryAgainError, IndexError) as error:
             # A client of redis 4 does not find its way after a server was away: the next is new.
             self._client = None
             raise Away(f"{type(error).__name__}: {error}") from error

@@ -182,6 +182,32 @@ class StoreTest(unittest.TestCase):
         self.assertEqual(sorted(it["id"] for it in found), sorted(it["id"] for it in expected))
 
 
+class AwayTest(StoreTest):
+    """Servers that are not there, for longer than the examples wait."""
+    PROGRAM = ("import sys; sys.path.insert(0, sys.argv.pop(1)); import common, {0} as store; "
+               "common.SECONDS = 1; common.main(store.load, store.find)")
+
+    def check_away(self, python, name, words):
+        done = subprocess.run([python, "-c", self.PROGRAM.format(name), EXAMPLES, f"{self.host}:7",
+                               "all"], stdout=subprocess.PIPE, stderr=subprocess.PIPE,
+                              timeout=SECONDS, env=environment_of(python))
+        # It does not try again where the first try took all of the time.
+        *first, last = done.stderr.decode().splitlines()
+        self.assertEqual((done.returncode, done.stdout, len(first) < 2), (1, b"", True))
+        for line in [*first, "tries again for 1 seconds: " + last]:
+            self.assertRegex(line, f"^tries again for 1 seconds: .*{words}")
+
+    def test_etcd(self):
+        self.check_away(sys.executable, "etcd_store", "Connection refused")
+
+    def test_clickhouse(self):
+        self.check_away(sys.executable, "clickhouse_store", "Connection refused")
+
+    def test_redis(self):
+        python = self.need(python_with("redis.cluster"), "python3-redis")
+        self.check_away(python, "redis_store", "Redis Cluster cannot be connected")
+
+
 class LmdbTest(StoreTest):
     def test_ranges_of_two_members(self):
         python = self.need(python_with("lmdb"), "python3-lmdb")
@@ -231,7 +257,7 @@ class RedisStore(StoreTest):
                       and self.ask(port, "CLUSTER", "NODES").count(b" connected") == count
                       for port in self.ports):
             self.assertLess(time.monotonic(), end, "the cluster is not ready")
-            time.sleep(0.1)
+            time.sleep(0.3)
         return f"{self.host}:7001"
 
 
