@@ -6,8 +6,9 @@
 #
 # All tests run twice: without the extension module, and with it if it can be compiled. Then soak.sh
 # makes random calls for SOAK_MINUTES, 0.1 if it is not set, with a module that was compiled with
-# sanitizers. At the end drivers.sh runs the lines of DRIVERS.md. PYTHON names
-# another Python than python3. The last line says how many tests passed, and lines before it which
+# sanitizers. tests/kills.py kills programs and servers of bindings/examples, for KILL_SECONDS each,
+# which is 1 with QUICK and 10 without it, at places that are drawn with KILL_SEED. At the end
+# drivers.sh runs the lines of DRIVERS.md. PYTHON names another Python than python3. The last line says how many tests passed, and lines before it which
 # were passed over; the status is 0, 1 after a failure, or 77 if a tool is missing.
 set -euo pipefail
 name=bindings/python
@@ -92,6 +93,11 @@ if [ "$has_module" ] && has_sanitizers; then
     PREFIX=${library%/lib/*} run "$top/$name/soak.sh" "${SOAK_MINUTES:-0.1}" "${SOAK_SEED:-1}" ||
         fail "soak.sh failed"
 fi
+# Once, for Debian's Python has no extension module.
+if [ -n "${QUICK:-}" ]; then seconds=1; else seconds=10; fi
+kills=("$python" kills.py "${KILL_SECONDS:-$seconds}" "${KILL_SEED:-1}")
+(cd tests && run "${kills[@]}") 2>&1 | tee "$scratch/log" || fail "kills.py failed"
+list_skipped
 # The lines of DRIVERS.md, with the drivers that are installed.
 status=0
 PYTHONPATH=$packages run "$top/$name/drivers.sh" 2>&1 | tee "$scratch/log" || status=$?
