@@ -123,3 +123,39 @@ done
 measure '`sum(price)` of a generated column' 'SELECT sum(price) FROM in_TYPE'
 measure '`price < 10`, by its index' 'SELECT sum(price) FROM in_TYPE WHERE price < 10'
 echo "| bytes a row | $sizes |"
+
+# One line of the table of estimates: how many rows a condition finds, and how many are planned.
+estimate() {
+    local type plans=''
+    [[ $1 = *"$name_part"* ]] || return 0
+    for type in kohiblad jsonb; do
+        plans+=" $(psql -At -c "EXPLAIN SELECT FROM in_$type WHERE $1" |
+            sed -n '1s/.* rows=\([0-9]*\) .*/\1/p') |"
+    done
+    echo "| \`$1\` | $(psql -At -c "SELECT count(*) FROM in_kohiblad WHERE $1") |$plans"
+}
+
+for type in jsonb kohiblad; do
+    psql << SQL
+CREATE STATISTICS ${type}_id ON (doc -> 'id') FROM in_$type;
+CREATE STATISTICS ${type}_name ON (doc -> 'name') FROM in_$type;
+CREATE STATISTICS ${type}_price ON (doc -> 'price') FROM in_$type;
+CREATE STATISTICS ${type}_tags ON (doc -> 'tags') FROM in_$type;
+ANALYZE in_$type;
+SQL
+done
+echo
+echo "| condition on 100,000 rows | rows | planned | by \`jsonb\` |"
+echo "|---|---|---|---|"
+estimate "doc -> 'id' BETWEEN '100' AND '500'"
+estimate "doc -> 'id' < '4434'"
+estimate "doc -> 'price' BETWEEN '100' AND '101'"
+estimate "doc -> 'name' BETWEEN '\"customer 50000\"' AND '\"customer 50999\"'"
+estimate "doc < '{\"city\": \"city 100\"}'"
+estimate "doc @> '{\"city\": \"city 7\"}'"
+estimate "doc @> '{\"tags\": [\"t3\"]}'"
+estimate "doc @> '{\"id\": 77}'"
+estimate "doc -> 'tags' ? 't3'"
+estimate "doc ? 'none'"
+estimate "doc @? '\$.city ? (@ == \"city 7\")'"
+estimate "doc @@ '\$.price > 100'"

@@ -23,3 +23,42 @@ CREATE AGGREGATE kohiblad_survey(kohiblad, kohiblad) (
     COMBINEFUNC = kohiblad_survey_combine, SERIALFUNC = kohiblad_survey_serialize,
     DESERIALFUNC = kohiblad_survey_deserialize, PARALLEL = SAFE
 );
+
+-- Estimates of the planner: where a value is in a bucket of a histogram, and how common the keys of
+-- documents are that GIN indexes have.
+
+CREATE FUNCTION kohiblad_rangesel(internal, oid, internal, int4) RETURNS float8
+AS 'MODULE_PATHNAME', 'pg_kohiblad_rangesel' LANGUAGE C STRICT STABLE PARALLEL SAFE;
+
+CREATE FUNCTION kohiblad_rangejoinsel(internal, oid, internal, int2, internal) RETURNS float8
+AS 'MODULE_PATHNAME', 'pg_kohiblad_rangejoinsel' LANGUAGE C STRICT STABLE PARALLEL SAFE;
+
+CREATE FUNCTION kohiblad_matchsel(internal, oid, internal, int4) RETURNS float8
+AS 'MODULE_PATHNAME', 'pg_kohiblad_matchsel' LANGUAGE C STRICT STABLE PARALLEL SAFE;
+
+CREATE FUNCTION kohiblad_typanalyze(internal) RETURNS bool
+AS 'MODULE_PATHNAME', 'pg_kohiblad_typanalyze' LANGUAGE C STRICT STABLE PARALLEL SAFE;
+
+COMMENT ON FUNCTION kohiblad_rangesel(internal, oid, internal, int4)
+    IS 'restriction selectivity of <, <=, > and >= on documents';
+COMMENT ON FUNCTION kohiblad_rangejoinsel(internal, oid, internal, int2, internal)
+    IS 'join selectivity of <, <=, > and >= on documents';
+COMMENT ON FUNCTION kohiblad_matchsel(internal, oid, internal, int4)
+    IS 'restriction selectivity of @>, ?, ?|, ?&, @? and @@ on documents';
+COMMENT ON FUNCTION kohiblad_typanalyze(internal) IS 'analyzes columns of documents';
+
+ALTER OPERATOR < (kohiblad, kohiblad)
+    SET (RESTRICT = kohiblad_rangesel, JOIN = kohiblad_rangejoinsel);
+ALTER OPERATOR <= (kohiblad, kohiblad)
+    SET (RESTRICT = kohiblad_rangesel, JOIN = kohiblad_rangejoinsel);
+ALTER OPERATOR >= (kohiblad, kohiblad)
+    SET (RESTRICT = kohiblad_rangesel, JOIN = kohiblad_rangejoinsel);
+ALTER OPERATOR > (kohiblad, kohiblad)
+    SET (RESTRICT = kohiblad_rangesel, JOIN = kohiblad_rangejoinsel);
+ALTER OPERATOR @> (kohiblad, kohiblad) SET (RESTRICT = kohiblad_matchsel);
+ALTER OPERATOR ? (kohiblad, text) SET (RESTRICT = kohiblad_matchsel);
+ALTER OPERATOR ?| (kohiblad, text[]) SET (RESTRICT = kohiblad_matchsel);
+ALTER OPERATOR ?& (kohiblad, text[]) SET (RESTRICT = kohiblad_matchsel);
+ALTER OPERATOR @? (kohiblad, jsonpath) SET (RESTRICT = kohiblad_matchsel);
+ALTER OPERATOR @@ (kohiblad, jsonpath) SET (RESTRICT = kohiblad_matchsel);
+ALTER TYPE kohiblad SET (ANALYZE = kohiblad_typanalyze);

@@ -75,3 +75,12 @@ SELECT count(*) FROM damaged, LATERAL (SELECT left(refusal(
     5)) r(state)
 WHERE state NOT IN ('not r', 'XX001', '22P05', '54000');
 DROP TABLE damaged, written_to;
+-- ANALYZE passes a damaged row over, and counts the keys of the others.
+CREATE TABLE spoiled (d bytea);
+INSERT INTO spoiled SELECT '[1]'::kohiblad::bytea FROM generate_series(1, 20)
+    UNION ALL SELECT '\x8000000110000002c328';
+UPDATE pg_attribute SET atttypid = 'kohiblad'::regtype
+WHERE attrelid = 'spoiled'::regclass AND attname = 'd';
+ANALYZE spoiled;
+SELECT most_common_elem_freqs FROM pg_stats WHERE tablename = 'spoiled';
+DROP TABLE spoiled;

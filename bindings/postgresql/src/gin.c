@@ -8,18 +8,7 @@
 #include "paths.h"
 
 #include "access/gin.h"
-#include "access/stratnum.h"
 #include "miscadmin.h"
-
-/* The numbers of the operators, which are those of jsonb's operator classes. */
-enum {
-    CONTAINS = 7,
-    EXISTS = 9,
-    EXISTS_ANY = 10,
-    EXISTS_ALL = 11,
-    PATH_EXISTS = 15,
-    PATH_MATCHES = 16
-};
 
 #define FNV_BASIS UINT64CONST(0xcbf29ce484222325)
 #define FNV_PRIME UINT64CONST(0x100000001b3)
@@ -43,8 +32,7 @@ static Datum key_of_name(Bytes name) {
     return UInt64GetDatum(hash | 1);
 }
 
-/* Makes room for so many keys more. */
-static void make_room(Keys *keys, size_t more) {
+void make_room_for_keys(Keys *keys, size_t more) {
     size_t room = keys->count + more;
     if (keys->at && room <= keys->room) return;
     keys->room = Max(room, 2 * keys->room);
@@ -56,7 +44,7 @@ static void make_room(Keys *keys, size_t more) {
 /* Each value takes an entry word, so there are no more keys than these. */
 void append_values(Keys *keys, Bytes document) {
     size_t room = document.size / ENTRY_SIZE, depth = depth_of_size(document.size), count;
-    make_room(keys, room);
+    make_room_for_keys(keys, room);
     Datum *out = keys->at + keys->count;
     check_stack_for(stack_of_depth(depth));
     uint32_t status = kohiblad_index_keys(document.at, document.size, depth, (uint64_t *)out, room,
@@ -81,7 +69,7 @@ static void append_shown_values(Keys *keys, Bytes document) {
 }
 
 static void append_name(Keys *keys, Bytes name) {
-    make_room(keys, 1);
+    make_room_for_keys(keys, 1);
     keys->at[keys->count++] = key_of_name(name);
 }
 
@@ -108,12 +96,16 @@ static Datum answer(const Keys *keys, int32 *count) {
     PG_RETURN_POINTER(keys->at);
 }
 
-PG_FUNCTION_INFO_V1(pg_kohiblad_gin_extract);
-Datum pg_kohiblad_gin_extract(PG_FUNCTION_ARGS) {
-    Bytes document = bytes_of(PG_GETARG_VARLENA_PP(0));
+Keys keys_of_document(Bytes document) {
     Keys keys = {0};
     append_shown_values(&keys, document);
     append_names(&keys, document);
+    return keys;
+}
+
+PG_FUNCTION_INFO_V1(pg_kohiblad_gin_extract);
+Datum pg_kohiblad_gin_extract(PG_FUNCTION_ARGS) {
+    Keys keys = keys_of_document(bytes_of(PG_GETARG_VARLENA_PP(0)));
     return answer(&keys, (int32 *)PG_GETARG_POINTER(1));
 }
 
@@ -133,14 +125,16 @@ static void append_given_names(Keys *keys, ArrayType *array) {
     }
 }
 
-static Keys keys_of_query(FunctionCallInfo fcinfo, StrategyNumber strategy) {
+Keys keys_of_query(Datum query, StrategyNumber strategy) {
     Keys keys = {0};
     switch (strategy) {
-        case CONTAINS: append_values(&keys, bytes_of(PG_GETARG_VARLENA_PP(0))); break;
-        case EXISTS: append_name(&keys, utf8_of_text(PG_GETARG_TEXT_PP(0))); break;
-        case PATH_EXISTS: append_keys_of_path(&keys, PG_GETARG_JSONPATH_P(0)); break;
-        case PATH_MATCHES: append_keys_of_predicate(&keys, PG_GETARG_JSONPATH_P(0)); break;
-        default: append_given_names(&keys, PG_GETARG_ARRAYTYPE_P(0)); break;
+        case CONTAINS:
+            append_values(&keys, bytes_of((struct varlena *)PG_DETOAST_DATUM_PACKED(query)));
+            break;
+        case EXISTS: append_name(&keys, utf8_of_text(DatumGetTextPP(query))); break;
+        case PATH_EXISTS: append_keys_of_path(&keys, DatumGetJsonPathP(query)); break;
+        case PATH_MATCHES: append_keys_of_predicate(&keys, DatumGetJsonPathP(query)); break;
+        default: append_given_names(&keys, DatumGetArrayTypeP(query)); break;
     }
     return keys;
 }
@@ -150,7 +144,7 @@ PG_FUNCTION_INFO_V1(pg_kohiblad_gin_extract_query);
 Datum pg_kohiblad_gin_extract_query(PG_FUNCTION_ARGS) {
     StrategyNumber strategy = PG_GETARG_UINT16(2);
     int32 *search_mode = (int32 *)PG_GETARG_POINTER(6);
-    Keys keys = keys_of_query(fcinfo, strategy);
+    Keys keys = keys_of_query(PG_GETARG_DATUM(0), strategy);
     if (keys.count == 0 && strategy != EXISTS_ANY) *search_mode = GIN_SEARCH_MODE_ALL;
     return answer(&keys, (int32 *)PG_GETARG_POINTER(1));
 }

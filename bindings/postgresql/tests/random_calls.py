@@ -117,6 +117,10 @@ kohiblad_cmp({d}, {d})
 (SELECT count(*) FROM docs WHERE d @? {jsonpath})
 (SELECT count(*) FROM docs WHERE d @@ {jsonpath})
 (SELECT count(*) FROM docs WHERE d = {e})
+(SELECT count(*) FROM docs WHERE d > {e} AND d <= {e} AND d @> {e})
+(SELECT count(*) FROM docs WHERE d BETWEEN {e} AND {e} OR d ? {k})
+(SELECT count(*) FROM docs a JOIN damaged b ON a.d < b.d AND a.d >= b.d)
+(SELECT count(*) FROM damaged WHERE d @> {e} AND d < {e})
 """.strip().split("\n")
 CHANGES = """
 UPDATE docs SET d[{k}] = {e} WHERE i = {n}
@@ -128,6 +132,7 @@ UPDATE docs SET d[{i}][{far}][{i}] = {e}, d[{k}][{i}][{far}] = {d} WHERE i = {n}
 UPDATE damaged SET d[{i}][{far}] = {e} WHERE i = {n}
 UPDATE docs SET d = d || {e} WHERE i < {i}
 INSERT INTO docs VALUES (0, {d})
+ANALYZE damaged
 """.strip().split("\n")
 
 
@@ -305,6 +310,7 @@ def prepare(session):
                 "CREATE INDEX ON docs USING gin (d kohiblad_path_ops);")
     for i in range(1, DOCUMENTS + 1):
         session.ask(f"INSERT INTO docs VALUES ({i}, {quoted(document())});")
+    session.ask("ANALYZE docs;")
     session.ask("CREATE TABLE damaged (i int, d bytea);")
     session.ask(f"""INSERT INTO damaged SELECT i, CASE WHEN i % 3 = 0
             THEN substring(b FROM 1 FOR (random() * length(b))::int)
