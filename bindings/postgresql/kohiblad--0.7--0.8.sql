@@ -62,3 +62,45 @@ ALTER OPERATOR ?& (kohiblad, text[]) SET (RESTRICT = kohiblad_matchsel);
 ALTER OPERATOR @? (kohiblad, jsonpath) SET (RESTRICT = kohiblad_matchsel);
 ALTER OPERATOR @@ (kohiblad, jsonpath) SET (RESTRICT = kohiblad_matchsel);
 ALTER TYPE kohiblad SET (ANALYZE = kohiblad_typanalyze);
+
+-- Several servers. What is compared with IN is an array. postgres_fdw sends what belongs to the
+-- extension, as the array type does by itself from PostgreSQL 17 on. It sends no text, which has a
+-- collation, so the planner turns ?, ?| and ?& on a foreign table into functions whose keys are a
+-- document, and these back on any other table.
+
+DO $$
+BEGIN
+    IF current_setting('server_version_num')::int < 170000 THEN
+        EXECUTE 'ALTER EXTENSION kohiblad ADD TYPE kohiblad[]';
+    END IF;
+END $$;
+
+COMMENT ON TYPE kohiblad[] IS 'arrays of documents';
+
+CREATE FUNCTION kohiblad_has(kohiblad, kohiblad) RETURNS bool
+AS 'MODULE_PATHNAME', 'pg_kohiblad_has' LANGUAGE C STRICT IMMUTABLE PARALLEL SAFE;
+
+CREATE FUNCTION kohiblad_has_any(kohiblad, kohiblad) RETURNS bool
+AS 'MODULE_PATHNAME', 'pg_kohiblad_has_any' LANGUAGE C STRICT IMMUTABLE PARALLEL SAFE;
+
+CREATE FUNCTION kohiblad_has_all(kohiblad, kohiblad) RETURNS bool
+AS 'MODULE_PATHNAME', 'pg_kohiblad_has_all' LANGUAGE C STRICT IMMUTABLE PARALLEL SAFE;
+
+CREATE FUNCTION kohiblad_has_support(internal) RETURNS internal
+AS 'MODULE_PATHNAME', 'pg_kohiblad_has_support' LANGUAGE C STRICT IMMUTABLE PARALLEL SAFE;
+
+COMMENT ON FUNCTION kohiblad_has(kohiblad, kohiblad)
+    IS 'whether a key exists, as ?, which is the document of a text';
+COMMENT ON FUNCTION kohiblad_has_any(kohiblad, kohiblad)
+    IS 'whether any of some keys exists, as ?|, which are an array of texts';
+COMMENT ON FUNCTION kohiblad_has_all(kohiblad, kohiblad)
+    IS 'whether all of some keys exist, as ?&, which are an array of texts';
+COMMENT ON FUNCTION kohiblad_has_support(internal)
+    IS 'planner support of kohiblad_has and kohiblad_exists';
+
+ALTER FUNCTION kohiblad_exists(kohiblad, text) SUPPORT kohiblad_has_support;
+ALTER FUNCTION kohiblad_exists_any(kohiblad, text[]) SUPPORT kohiblad_has_support;
+ALTER FUNCTION kohiblad_exists_all(kohiblad, text[]) SUPPORT kohiblad_has_support;
+ALTER FUNCTION kohiblad_has(kohiblad, kohiblad) SUPPORT kohiblad_has_support;
+ALTER FUNCTION kohiblad_has_any(kohiblad, kohiblad) SUPPORT kohiblad_has_support;
+ALTER FUNCTION kohiblad_has_all(kohiblad, kohiblad) SUPPORT kohiblad_has_support;

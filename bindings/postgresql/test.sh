@@ -197,6 +197,84 @@ run_servers() {
         "$(query "$merged $keys FROM (SELECT d FROM remote ORDER BY d) s")"
 }
 
+# The rows of the table of README.md with this head: what is in back quotes in their cells, or the
+# cells themselves, with a tab between them.
+table_of_page() {
+    awk -v head="$1" '
+        index($0, head) == 1 { on = 1; getline; next }
+        on && !/^\|/ { exit }
+        on {
+            gsub(/\\\|/, "\001")
+            count = split($0, cells, "|")
+            line = ""
+            for (i = 2; i < count; i++) {
+                cell = cells[i]
+                if (match(cell, /`[^`]*`/)) cell = substr(cell, RSTART + 1, RLENGTH - 2)
+                gsub(/^ +| +$/, "", cell)
+                line = line (i > 2 ? "\t" : "") cell
+            }
+            gsub("\001", "|", line)
+            print line
+        }' "$folder/README.md"
+}
+
+# What README.md says of each condition is so: whether postgres_fdw sends it, and that what is to be
+# written in its place is sent and finds the same rows.
+run_sent() {
+    [ -f "$("$bin/pg_config" --sharedir)/extension/postgres_fdw.control" ] || return 0
+    local goods="CREATE TABLE goods AS
+        SELECT format('{\"id\":%s,\"city\":\"city %s\",\"price\":%s,\"tags\":[\"new\",\"t%s\"],'
+                      '\"seen\":%s%s}', i, i % 50, i % 300, i % 13, (i % 3 = 0)::text,
+                      CASE WHEN i % 5 = 0 THEN ',\"ref\":[]' END)::kohiblad AS doc
+        FROM generate_series(1, 2000) i"
+    query "$goods"
+    query "$goods" other
+    query "CREATE INDEX goods_by_content ON goods USING gin (doc)" other
+    query "ANALYZE goods" other
+    query "CREATE FOREIGN TABLE far_goods (doc kohiblad) SERVER other OPTIONS (table_name 'goods')"
+    query "CREATE TABLE on_page (condition text, sent text, instead text)"
+    table_of_page '| condition | sent |' > "$scratch/on_page"
+    [ -s "$scratch/on_page" ] || fail "README.md has no table of conditions"
+    psql -c "COPY on_page FROM STDIN" < "$scratch/on_page"
+    query "CREATE TABLE priced (doc kohiblad, price numeric
+        GENERATED ALWAYS AS ((doc -> 'price')::numeric) STORED)" other
+    run_script sent
+    local asked
+    asked=$(query "EXPLAIN (VERBOSE, COSTS OFF) SELECT doc FROM far_goods WHERE doc ? 'ref'" |
+        sed -n 's/ *Remote SQL: //p')
+    expect "plans with the index of the other server" 1 "$(query "SET enable_seqscan = off;
+        EXPLAIN (COSTS OFF) $asked" other | grep -c goods_by_content)"
+}
+
+# A session that is open during an update goes on not sending what it did not send before, until the
+# options of the server change.
+run_open_session() {
+    [ -f "$("$bin/pg_config" --sharedir)/extension/postgres_fdw.control" ] || return 0
+    note "a session that is open during an update"
+    psql -c "CREATE DATABASE opened"
+    psql -d opened -c "CREATE EXTENSION kohiblad VERSION '0.7'" -c "CREATE EXTENSION postgres_fdw" \
+        -c "CREATE SERVER other FOREIGN DATA WRAPPER postgres_fdw
+            OPTIONS (host '$scratch', dbname 'other', extensions 'kohiblad')" \
+        -c "CREATE USER MAPPING FOR tester SERVER other OPTIONS (user 'tester')" \
+        -c "CREATE FOREIGN TABLE far_goods (doc kohiblad) SERVER other
+            OPTIONS (table_name 'goods')"
+    local asked="EXPLAIN (VERBOSE, COSTS OFF)
+        SELECT doc FROM far_goods WHERE doc -> 'id' IN ('7', '8');"
+    local other="$bin/psql -Xq -d opened -c"
+    psql -At -d opened > "$scratch/opened" << SQL
+$asked
+\! $other "ALTER EXTENSION kohiblad UPDATE"
+\echo updated
+$asked
+\! $other "ALTER SERVER other OPTIONS (SET extensions 'kohiblad')"
+\echo altered
+$asked
+SQL
+    expect "what is left here, and sent" "Filter updated Filter altered ANY" \
+        "$(grep -oE '^ *Filter|^updated|^altered|Remote SQL.* ANY' "$scratch/opened" |
+            sed 's/.* //' | paste -sd ' ')"
+}
+
 # Rows that were inserted before a subscription come from the log, in text.
 run_replication() {
     note "logical replication"
@@ -326,6 +404,8 @@ run_script vectors
 run_latin
 run_dump
 run_servers
+run_sent
+run_open_session
 run_replication
 run_stored
 run_trusted

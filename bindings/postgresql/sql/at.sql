@@ -69,10 +69,14 @@ INSERT INTO parted SELECT d FROM rows_of;
 SELECT count(*) FROM parted_low;
 SELECT plan_has($$ SELECT * FROM parted WHERE d -> 'id' = '7' $$, 'on parted_low'),
     plan_has($$ SELECT * FROM parted WHERE d -> 'id' = '7' $$, 'on parted_high');
--- In another schema.
+-- In another schema. Before PostgreSQL 17 the array type must not be a member meanwhile.
 CREATE SCHEMA apart;
+SELECT 'ALTER EXTENSION kohiblad DROP TYPE kohiblad[]'
+WHERE current_setting('server_version_num')::int < 170000 \gexec
 ALTER EXTENSION kohiblad SET SCHEMA apart;
 SELECT '{"a":[5]}'::apart.kohiblad OPERATOR(apart.->) 'a', x OPERATOR(apart.->) 'a'
 FROM (VALUES ('{"a":6}'::apart.kohiblad)) v(x);
 ALTER EXTENSION kohiblad SET SCHEMA public;
+SELECT 'ALTER EXTENSION kohiblad ADD TYPE kohiblad[]'
+WHERE current_setting('server_version_num')::int < 170000 \gexec
 SELECT d -> 'id' FROM kept WHERE d -> 'id' = '2';

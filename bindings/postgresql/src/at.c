@@ -4,6 +4,7 @@
  * of a query, and so neither -> nor #>. A document has no collation. So the planner turns both, if
  * their path is constant, into kohiblad_at, also in indexes and in the bounds of partitions. ->>
  * stays: its answer is a text, which is compared and sorted by a collation. */
+#include "at.h"
 #include "paths.h"
 
 #include "catalog/pg_proc.h"
@@ -97,8 +98,7 @@ static struct varlena *array_of_path(ArrayType *array) {
     return built;
 }
 
-/* The path of kohiblad_at for what -> or #> are called with, or NULL. */
-static struct varlena *path_of_argument(const Node *argument) {
+struct varlena *document_of_constant(const Node *argument) {
     const Const *path = (const Const *)argument;
     if (!IsA(argument, Const) || path->constisnull) return NULL;
     if (VARSIZE_ANY_EXHDR(DatumGetPointer(path->constvalue)) > LONGEST_PATH) return NULL;
@@ -123,7 +123,7 @@ static Oid at_beside(Oid function, Oid type) {
 /* The call of kohiblad_at that does the same, or NULL. */
 static Node *call_of_at(const FuncExpr *call) {
     Oid type = call->funcresulttype;
-    struct varlena *path = path_of_argument(lsecond(call->args));
+    struct varlena *path = document_of_constant(lsecond(call->args));
     if (!path) return NULL;
     Oid at = at_beside(call->funcid, type);
     if (!OidIsValid(at)) return NULL;

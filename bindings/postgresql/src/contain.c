@@ -238,6 +238,10 @@ Datum pg_kohiblad_exists(PG_FUNCTION_ARGS) {
     PG_RETURN_BOOL(result);
 }
 
+static void pg_attribute_noreturn() refuse_names(const char *message) {
+    ereport(ERROR, (errcode(ERRCODE_INVALID_PARAMETER_VALUE), errmsg("kohiblad: %s", message)));
+}
+
 /* Whether any of a few keys exists, or all of them: each is looked up by itself. */
 static bool few_exist(Bytes document, TextPath keys, bool needs_all) {
     for (int i = 0; i < keys.count; i++) {
@@ -268,20 +272,26 @@ static struct varlena *array_of_keys(TextPath keys, bool *some_are_too_long) {
     return array;
 }
 
-/* The same for any number of keys, in one walk over the document. */
-static bool many_exist(Bytes document, TextPath keys, bool needs_all) {
-    bool some_are_too_long;
-    struct varlena *array = array_of_keys(keys, &some_are_too_long);
-    if (some_are_too_long && needs_all) return false;
-    Bytes names = bytes_of(array);
-    size_t depth = depth_of_size(document.size);
+/* The same for the texts of an array, in one walk over the document. */
+static bool texts_exist(Bytes document, Bytes names, bool needs_all) {
+    size_t depth = depth_of_size(Max(document.size, names.size));
     check_stack_for(stack_of_depth(depth));
     struct kohiblad_truth truth =
         (needs_all ? kohiblad_exists_all : kohiblad_exists_any)(document.at, document.size,
                                                                 names.at, names.size, depth);
+    if (truth.status == KOHIBLAD_OTHER_KIND) refuse_names("keys are an array of texts");
     if (truth.status != KOHIBLAD_OK) refuse(truth.status, ERRCODE_DATA_CORRUPTED);
-    pfree(array);
     return truth.value;
+}
+
+/* The same for any number of keys. */
+static bool many_exist(Bytes document, TextPath keys, bool needs_all) {
+    bool some_are_too_long;
+    struct varlena *array = array_of_keys(keys, &some_are_too_long);
+    if (some_are_too_long && needs_all) return false;
+    bool result = texts_exist(document, bytes_of(array), needs_all);
+    pfree(array);
+    return result;
 }
 
 /* Whether any key of an array exists, or all of them; nulls are passed over. */
@@ -303,4 +313,33 @@ Datum pg_kohiblad_exists_any(PG_FUNCTION_ARGS) {
 PG_FUNCTION_INFO_V1(pg_kohiblad_exists_all);
 Datum pg_kohiblad_exists_all(PG_FUNCTION_ARGS) {
     PG_RETURN_BOOL(keys_exist(fcinfo, true));
+}
+
+/* What ?, ?| and ?& are sent to other servers as: keys are a document, which has no collation. */
+PG_FUNCTION_INFO_V1(pg_kohiblad_has);
+Datum pg_kohiblad_has(PG_FUNCTION_ARGS) {
+    struct varlena *document = PG_GETARG_VARLENA_PP(0);
+    Part key = part_of_document(bytes_of(PG_GETARG_VARLENA_PP(1)));
+    if (key.type != KOHIBLAD_TYPE_STRING) refuse_names("a key is a text");
+    bool result = exists(bytes_of(document), key.payload);
+    PG_FREE_IF_COPY(document, 0);
+    PG_RETURN_BOOL(result);
+}
+
+static bool names_exist(FunctionCallInfo fcinfo, bool needs_all) {
+    struct varlena *document = PG_GETARG_VARLENA_PP(0), *names = PG_GETARG_VARLENA_PP(1);
+    bool result = texts_exist(bytes_of(document), bytes_of(names), needs_all);
+    PG_FREE_IF_COPY(document, 0);
+    PG_FREE_IF_COPY(names, 1);
+    return result;
+}
+
+PG_FUNCTION_INFO_V1(pg_kohiblad_has_any);
+Datum pg_kohiblad_has_any(PG_FUNCTION_ARGS) {
+    PG_RETURN_BOOL(names_exist(fcinfo, false));
+}
+
+PG_FUNCTION_INFO_V1(pg_kohiblad_has_all);
+Datum pg_kohiblad_has_all(PG_FUNCTION_ARGS) {
+    PG_RETURN_BOOL(names_exist(fcinfo, true));
 }

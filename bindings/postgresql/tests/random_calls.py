@@ -53,6 +53,9 @@ kohiblad_at({d}, {e})
 {d} ?& {p}
 {d} ?| {many}
 {d} ?& {many}
+kohiblad_has({d}, {e})
+kohiblad_has_any({d}, {e})
+kohiblad_has_all({d}, {e})
 {d} || {e}
 {d} - {k}
 {d} - {p}
