@@ -1,4 +1,5 @@
 /* Whether a document contains another, and whether keys exist. */
+#include "contain.h"
 #include "paths.h"
 
 #include "miscadmin.h"
@@ -135,7 +136,7 @@ static bool move_to_key(Bytes object, struct kohiblad_cursor *cursor, Bytes want
 }
 
 /* Whether a value contains another, in parts if need be. */
-static bool contains_value(Part left, Part right) {
+bool contains_value(Part left, Part right) {
     bool answer, are_arrays = is_array_part(left) && is_array_part(right);
     bool are_objects = is_object_part(left) && is_object_part(right);
     if ((are_arrays || are_objects) && ends_in_time(left.payload, right.payload, &answer))
@@ -199,23 +200,13 @@ static bool contains(Bytes left, Bytes right) {
     return contains_in_parts(whole, wanted);
 }
 
-/* One argument contains the other. */
-static bool is_contained(FunctionCallInfo fcinfo, int outer, int inner) {
-    struct varlena *left = PG_GETARG_VARLENA_PP(outer), *right = PG_GETARG_VARLENA_PP(inner);
-    bool result = contains(bytes_of(left), bytes_of(right));
-    PG_FREE_IF_COPY(left, outer);
-    PG_FREE_IF_COPY(right, inner);
-    return result;
-}
-
-PG_FUNCTION_INFO_V1(pg_kohiblad_contains);
-Datum pg_kohiblad_contains(PG_FUNCTION_ARGS) {
-    PG_RETURN_BOOL(is_contained(fcinfo, 0, 1));
-}
-
 PG_FUNCTION_INFO_V1(pg_kohiblad_contained);
 Datum pg_kohiblad_contained(PG_FUNCTION_ARGS) {
-    PG_RETURN_BOOL(is_contained(fcinfo, 1, 0));
+    struct varlena *inner = PG_GETARG_VARLENA_PP(0), *outer = PG_GETARG_VARLENA_PP(1);
+    bool result = contains(bytes_of(outer), bytes_of(inner));
+    PG_FREE_IF_COPY(inner, 0);
+    PG_FREE_IF_COPY(outer, 1);
+    PG_RETURN_BOOL(result);
 }
 
 /* Looks a key of an object up, which is sooner done than to check all of the document. */
