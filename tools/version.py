@@ -27,6 +27,7 @@ PLACES = {
     "bindings/postgresql/README.md": ["the version of the library, as `<version>`"],
     "bindings/postgresql/kohiblad.control": ["default_version = '<minor>'"],
     "bindings/postgresql/kohiblad_compat.control": ["default_version = '<minor>'"],
+    "bindings/postgresql/kohiblad_jsonb_order.control": ["default_version = '<minor>'"],
     "bindings/python/.gitignore": [SONAME],
     "bindings/python/README.md": [SONAME],
     "bindings/python/build_backend/kohiblad_build.py": [SONAME],

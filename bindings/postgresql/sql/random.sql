@@ -12,7 +12,7 @@ DECLARE
     is_object bool := random() < 0.55;
 BEGIN
     IF depth = 0 OR random() < 0.2 THEN
-        RETURN one_of('{null,true,false,0,1,2,1.0,-3,1.50,12345678901234567890,
+        RETURN one_of('{"null",true,false,0,1,2,1.0,-3,1.50,12345678901234567890,
                         "\"a\"","\"b\"","\"\"","\"0\"","\"é\"","[]","{}"}');
     END IF;
     FOR i IN 1 .. floor(random() * 5)::int LOOP

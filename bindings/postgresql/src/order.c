@@ -4,7 +4,7 @@
  * containers are compared here child by child, by the library's walk, and that call only compares
  * numbers and extension values. Sorts first compare parts of comparable keys, and hashes are those
  * of comparable keys: docs/COMPARABLE.md. */
-#include "document.h"
+#include "order.h"
 
 #include "common/hashfn.h"
 #include "lib/hyperloglog.h"
@@ -39,10 +39,6 @@ static enum rank rank_of(Part part) {
         case KOHIBLAD_TYPE_CONTAINER: return is_array(part) ? ARRAY_RANK : OBJECT_RANK;
         default: return EXTENSION_RANK;
     }
-}
-
-static bool are_same_bytes(Bytes left, Bytes right) {
-    return left.size == right.size && memcmp(left.at, right.at, left.size) == 0;
 }
 
 /* The document of a scalar, in the buffer if it is small. */
@@ -110,11 +106,7 @@ static int compare_documents(Bytes left, Bytes right) {
 }
 
 static int compare_arguments(FunctionCallInfo fcinfo) {
-    struct varlena *left = PG_GETARG_VARLENA_PP(0), *right = PG_GETARG_VARLENA_PP(1);
-    int order = compare_documents(bytes_of(left), bytes_of(right));
-    PG_FREE_IF_COPY(left, 0);
-    PG_FREE_IF_COPY(right, 1);
-    return order;
+    return compare_arguments_by(fcinfo, compare_documents);
 }
 
 /* Documents of the same bytes are equal, whatever is in them. */
@@ -129,15 +121,8 @@ static bool are_equal(FunctionCallInfo fcinfo) {
 
 PG_FUNCTION_INFO_V1(pg_kohiblad_cmp);
 Datum pg_kohiblad_cmp(PG_FUNCTION_ARGS) {
-    int order = compare_arguments(fcinfo);
-    PG_RETURN_INT32((order > 0) - (order < 0));
+    PG_RETURN_INT32(sign_of(compare_arguments(fcinfo)));
 }
-
-#define COMPARISON(name, condition)      \
-    PG_FUNCTION_INFO_V1(name);           \
-    Datum name(PG_FUNCTION_ARGS) {       \
-        PG_RETURN_BOOL(condition);       \
-    }
 
 COMPARISON(pg_kohiblad_lt, compare_arguments(fcinfo) < 0)
 COMPARISON(pg_kohiblad_le, compare_arguments(fcinfo) <= 0)
@@ -235,11 +220,7 @@ typedef struct Sort {
 #define DOCUMENTS_EACH 2000    /* with more documents for each abbreviation they do not pay */
 
 static int compare_datums(Datum left, Datum right, SortSupport support pg_attribute_unused()) {
-    struct varlena *l = PG_DETOAST_DATUM_PACKED(left), *r = PG_DETOAST_DATUM_PACKED(right);
-    int order = compare_documents(bytes_of(l), bytes_of(r));
-    if ((Pointer)l != DatumGetPointer(left)) pfree(l);
-    if ((Pointer)r != DatumGetPointer(right)) pfree(r);
-    return order;
+    return compare_datums_by(left, right, compare_documents);
 }
 
 /* A number for a key that rises with it, from where the key differs from a reference. Documents of

@@ -26,6 +26,15 @@ SELECT count(*) FROM lacking WHERE d::text::kohiblad::bytea = d::bytea
 SELECT d::text LIKE '%éé600%\\u20ac%éééé%' FROM lacking WHERE id = 3;
 SELECT to_kohiblad(lacking)::text, row_to_json(lacking) FROM lacking WHERE id = 1;
 SELECT * FROM kohiblad_to_record('{"a":["\u20ac"],"b":{"\u20ac":1}}') AS t(a kohiblad, b json);
+-- In the order of jsonb texts are compared as the server has them: its escapes are for what it lacks.
+CREATE EXTENSION kohiblad_compat;
+SET search_path = kohiblad_compat, public;
+SELECT jsonb_order_cmp('"é"', '"z"'), jsonb_order_cmp('"é"', '"ÿ"'),
+    jsonb_order_cmp('{"é":1}', '{"è":2}'), jsonb_order_cmp('"\u20ac"', '"a"'),
+    jsonb_order_cmp('"\u20ac"', '"]"'), jsonb_order_cmp('"\u20ac"', '"\\u20ac"'),
+    jsonb_order_cmp('"\u20ac"', '"\u20ac"');
+RESET search_path;
+DROP EXTENSION kohiblad_compat;
 \set ON_ERROR_STOP off
 SELECT '{"é":x}'::kohiblad;
 \set VERBOSITY sqlstate

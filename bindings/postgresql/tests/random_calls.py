@@ -108,6 +108,11 @@ kohiblad_path_query_array({d}, {jsonpath}, '{{"x":"\\u0000"}}', {truth})
 {text}::kohiblad
 {d} < {e}
 {d} = {e}
+{d} OPERATOR(kohiblad_compat.<) {e}
+{d} OPERATOR(kohiblad_compat.>=) {d}
+kohiblad_compat.jsonb_order_cmp({d}, {e})
+(SELECT string_agg(kohiblad_kind(d), '' ORDER BY d USING OPERATOR(kohiblad_compat.<)) FROM docs)
+(SELECT count(*) FROM damaged WHERE i < {i} AND d OPERATOR(kohiblad_compat.<=) {e})
 kohiblad_cmp({d}, {d})
 (SELECT max(d) FROM docs)
 (SELECT count(DISTINCT d) FROM docs)
@@ -305,7 +310,7 @@ class Session:
 def prepare(session):
     """Makes the tables of documents."""
     session.ask("SET client_encoding = 'UTF8';")
-    session.ask("CREATE EXTENSION kohiblad;")
+    session.ask("CREATE EXTENSION kohiblad; CREATE EXTENSION kohiblad_compat;")
     session.ask("CREATE TYPE shape AS (a int, b text, c int[], \"é\" kohiblad, tags jsonb,"
                 " x json);")
     session.ask("CREATE TABLE docs (i int, d kohiblad);")

@@ -5,10 +5,10 @@
 
 The statements are those of src/test/regress/sql, jsonb.sql and jsonb_jsonpath.sql, in Debian's
 source package of the server, which tests/peers/run.py downloads into FOLDER, or into a scratch
-folder; without it they are passed over. Each is run in a session that has jsonb, and in three
+folder; without it they are passed over. Each is run in a session that has jsonb, and in four
 others: with `kohiblad` in place of `jsonb`; with `kohiblad` in place of the type `jsonb` alone,
-where kohiblad_compat is loaded; and as it is, where that is loaded. The server is the one that
-PGHOST and PGUSER name, and PSQL its client.
+where kohiblad_compat is loaded; the same where the order of jsonb is set up; and as it is, where
+kohiblad_compat is loaded. The server is the one that PGHOST and PGUSER name, and PSQL its client.
 
 Two answers are the same if both are errors with one SQLSTATE, or have the same rows in any order.
 Values are compared as JSON where both are JSON, also inside of arrays and records. Statements whose
@@ -40,6 +40,9 @@ REGRESS = "src/test/regress"
 SCRIPTS = ["jsonb", "jsonb_jsonpath"]
 DATA = "data/jsonb.data"
 MARK = "-- statement"
+# What all sessions set, and which schemas one has beside.
+SETTINGS = "-c datestyle=postgres,mdy -c timezone=PST8PDT"
+PATHS = {"of_order": " -c search_path=kohiblad_compat,public"}
 FIELD_ENDS = {"(": ")", "{": "}"}
 
 
@@ -139,8 +142,8 @@ def ask(statements, data, database):
     run = subprocess.run(
         [os.environ.get("PSQL", "psql"), "-XqAt", "--csv", "-d", database],
         input="\n".join(lines) + "\n", capture_output=True, check=False, encoding="utf-8",
-        env={**os.environ, "PGOPTIONS": "-c datestyle=postgres,mdy -c timezone=PST8PDT",
-             "PGCLIENTENCODING": "UTF8"})
+        env={**os.environ, "PGCLIENTENCODING": "UTF8",
+             "PGOPTIONS": SETTINGS + PATHS.get(database, "")})
     answers, output = [], ""
     for line in io.StringIO(run.stdout):
         if line.startswith(MARK):
@@ -162,6 +165,7 @@ def with_type(statement):
 SESSIONS = {
     "of_kohiblad": lambda statement: statement.replace("jsonb", "kohiblad"),
     "of_compat": with_type,
+    "of_order": with_type,
     "of_both": lambda statement: statement,
 }
 
