@@ -90,3 +90,168 @@ CREATE EVENT TRIGGER kohiblad_compat_default_order ON sql_drop
     EXECUTE FUNCTION kohiblad_compat.choose_default_order_again();
 
 SELECT kohiblad_compat.choose_default_order();
+
+-- Descriptions, which psql shows by \dT+, \do+, \df+ and their like.
+
+COMMENT ON EVENT TRIGGER kohiblad_compat_default_order
+    IS 'choose the default order once an extension is dropped';
+COMMENT ON SCHEMA kohiblad_compat IS 'order of jsonb for documents';
+
+COMMENT ON OPERATOR kohiblad_compat.< (kohiblad, kohiblad) IS 'less than, in the order of jsonb';
+COMMENT ON OPERATOR kohiblad_compat.<= (kohiblad, kohiblad)
+    IS 'less than or equal, in the order of jsonb';
+COMMENT ON OPERATOR kohiblad_compat.> (kohiblad, kohiblad) IS 'greater than, in the order of jsonb';
+COMMENT ON OPERATOR kohiblad_compat.>= (kohiblad, kohiblad)
+    IS 'greater than or equal, in the order of jsonb';
+
+COMMENT ON FUNCTION kohiblad_compat.choose_default_order()
+    IS 'make the default order of documents the one that extensions ask for';
+COMMENT ON FUNCTION kohiblad_compat.choose_default_order_again()
+    IS 'choose the default order once an extension is dropped';
+COMMENT ON FUNCTION kohiblad_compat.jsonb_order_cmp(kohiblad, kohiblad)
+    IS 'less than 0, 0 or more by the order of jsonb';
+COMMENT ON FUNCTION kohiblad_compat.jsonb_order_ge(kohiblad, kohiblad)
+    IS 'implementation of >= operator';
+COMMENT ON FUNCTION kohiblad_compat.jsonb_order_gt(kohiblad, kohiblad)
+    IS 'implementation of > operator';
+COMMENT ON FUNCTION kohiblad_compat.jsonb_order_le(kohiblad, kohiblad)
+    IS 'implementation of <= operator';
+COMMENT ON FUNCTION kohiblad_compat.jsonb_order_lt(kohiblad, kohiblad)
+    IS 'implementation of < operator';
+COMMENT ON FUNCTION kohiblad_compat.jsonb_order_sortsupport(internal) IS 'sort support';
+COMMENT ON FUNCTION jsonb_array_elements(text) IS 'row for each item of an array (given as text)';
+COMMENT ON FUNCTION jsonb_array_elements(kohiblad) IS 'row for each item of an array';
+COMMENT ON FUNCTION jsonb_array_elements_text(text)
+    IS 'row for each item of an array, as text (given as text)';
+COMMENT ON FUNCTION jsonb_array_elements_text(kohiblad) IS 'row for each item of an array, as text';
+COMMENT ON FUNCTION jsonb_array_length(text) IS 'number of items of an array (given as text)';
+COMMENT ON FUNCTION jsonb_array_length(kohiblad) IS 'number of items of an array';
+COMMENT ON FUNCTION jsonb_concat(text, jsonb) IS 'documents put together (given as text)';
+COMMENT ON FUNCTION jsonb_concat(kohiblad, kohiblad) IS 'documents put together';
+COMMENT ON FUNCTION jsonb_contained(text, jsonb)
+    IS 'whether a document is contained by another (given as text)';
+COMMENT ON FUNCTION jsonb_contained(kohiblad, kohiblad)
+    IS 'whether a document is contained by another';
+COMMENT ON FUNCTION jsonb_contains(text, jsonb)
+    IS 'whether a document contains another (given as text)';
+COMMENT ON FUNCTION jsonb_contains(kohiblad, kohiblad) IS 'whether a document contains another';
+COMMENT ON FUNCTION jsonb_delete(text, int4)
+    IS 'document without a key, keys or an index (given as text)';
+COMMENT ON FUNCTION jsonb_delete(text, text)
+    IS 'document without a key, keys or an index (given as text)';
+COMMENT ON FUNCTION jsonb_delete(text, text[])
+    IS 'document without a key, keys or an index (given as text)';
+COMMENT ON FUNCTION jsonb_delete(kohiblad, int4) IS 'document without a key, keys or an index';
+COMMENT ON FUNCTION jsonb_delete(kohiblad, text) IS 'document without a key, keys or an index';
+COMMENT ON FUNCTION jsonb_delete(kohiblad, text[]) IS 'document without a key, keys or an index';
+COMMENT ON FUNCTION jsonb_delete_path(text, text[])
+    IS 'document without what is at the end of a path (given as text)';
+COMMENT ON FUNCTION jsonb_delete_path(kohiblad, text[])
+    IS 'document without what is at the end of a path';
+COMMENT ON FUNCTION jsonb_each(text) IS 'row for each member of an object (given as text)';
+COMMENT ON FUNCTION jsonb_each(kohiblad) IS 'row for each member of an object or item of an array';
+COMMENT ON FUNCTION jsonb_each_text(text)
+    IS 'row for each member of an object, with its value as text (given as text)';
+COMMENT ON FUNCTION jsonb_each_text(kohiblad)
+    IS 'row for each member of an object or item of an array, with its value as text';
+COMMENT ON FUNCTION jsonb_exists(text, text) IS 'whether a key exists (given as text)';
+COMMENT ON FUNCTION jsonb_exists(kohiblad, text) IS 'whether a key exists';
+COMMENT ON FUNCTION jsonb_exists_all(text, text[]) IS 'whether all keys exist (given as text)';
+COMMENT ON FUNCTION jsonb_exists_all(kohiblad, text[]) IS 'whether all keys exist';
+COMMENT ON FUNCTION jsonb_exists_any(text, text[]) IS 'whether any key exists (given as text)';
+COMMENT ON FUNCTION jsonb_exists_any(kohiblad, text[]) IS 'whether any key exists';
+COMMENT ON FUNCTION jsonb_extract_path(text, text[])
+    IS 'value at the end of a path (given as text)';
+COMMENT ON FUNCTION jsonb_extract_path(kohiblad, text[]) IS 'value at the end of a path';
+COMMENT ON FUNCTION jsonb_extract_path_text(text, text[])
+    IS 'value at the end of a path, as text (given as text)';
+COMMENT ON FUNCTION jsonb_extract_path_text(kohiblad, text[])
+    IS 'value at the end of a path, as text';
+COMMENT ON FUNCTION jsonb_insert(text, text[], jsonb, bool)
+    IS 'document with a value put in at a path (given as text)';
+COMMENT ON FUNCTION jsonb_insert(kohiblad, text[], kohiblad, bool)
+    IS 'document with a value put in at a path';
+COMMENT ON FUNCTION jsonb_object_keys(text) IS 'row for each key of an object (given as text)';
+COMMENT ON FUNCTION jsonb_object_keys(kohiblad) IS 'row for each key of an object';
+COMMENT ON FUNCTION jsonb_path_exists(text, jsonpath, jsonb, bool)
+    IS 'whether a path of SQL/JSON finds anything (given as text)';
+COMMENT ON FUNCTION jsonb_path_exists(kohiblad, jsonpath, kohiblad, bool)
+    IS 'whether a path of SQL/JSON finds anything';
+COMMENT ON FUNCTION jsonb_path_exists_tz(text, jsonpath, jsonb, bool)
+    IS 'whether a path of SQL/JSON finds anything, with a time zone (given as text)';
+COMMENT ON FUNCTION jsonb_path_exists_tz(kohiblad, jsonpath, kohiblad, bool)
+    IS 'whether a path of SQL/JSON finds anything, with the time zone of the session';
+COMMENT ON FUNCTION jsonb_path_match(text, jsonpath, jsonb, bool)
+    IS 'what the predicate of a path of SQL/JSON says (given as text)';
+COMMENT ON FUNCTION jsonb_path_match(kohiblad, jsonpath, kohiblad, bool)
+    IS 'what the predicate of a path of SQL/JSON says';
+COMMENT ON FUNCTION jsonb_path_match_tz(text, jsonpath, jsonb, bool)
+    IS 'what the predicate of a path of SQL/JSON says, with a time zone (given as text)';
+COMMENT ON FUNCTION jsonb_path_match_tz(kohiblad, jsonpath, kohiblad, bool)
+    IS 'what the predicate of a path of SQL/JSON says, with the time zone of the session';
+COMMENT ON FUNCTION jsonb_path_query(text, jsonpath, jsonb, bool)
+    IS 'row for each value that a path of SQL/JSON finds (given as text)';
+COMMENT ON FUNCTION jsonb_path_query(kohiblad, jsonpath, kohiblad, bool)
+    IS 'row for each value that a path of SQL/JSON finds';
+COMMENT ON FUNCTION jsonb_path_query_array(text, jsonpath, jsonb, bool)
+    IS 'array of what a path of SQL/JSON finds (given as text)';
+COMMENT ON FUNCTION jsonb_path_query_array(kohiblad, jsonpath, kohiblad, bool)
+    IS 'array of what a path of SQL/JSON finds';
+COMMENT ON FUNCTION jsonb_path_query_array_tz(text, jsonpath, jsonb, bool)
+    IS 'array of what a path of SQL/JSON finds, with the time zone of the session (given as text)';
+COMMENT ON FUNCTION jsonb_path_query_array_tz(kohiblad, jsonpath, kohiblad, bool)
+    IS 'array of what a path of SQL/JSON finds, with the time zone of the session';
+COMMENT ON FUNCTION jsonb_path_query_first(text, jsonpath, jsonb, bool)
+    IS 'first value that a path of SQL/JSON finds (given as text)';
+COMMENT ON FUNCTION jsonb_path_query_first(kohiblad, jsonpath, kohiblad, bool)
+    IS 'first value that a path of SQL/JSON finds';
+COMMENT ON FUNCTION jsonb_path_query_first_tz(text, jsonpath, jsonb, bool)
+    IS 'first value that a path of SQL/JSON finds, with a time zone (given as text)';
+COMMENT ON FUNCTION jsonb_path_query_first_tz(kohiblad, jsonpath, kohiblad, bool)
+    IS 'first value that a path of SQL/JSON finds, with the time zone of the session';
+COMMENT ON FUNCTION jsonb_path_query_tz(text, jsonpath, jsonb, bool)
+    IS 'row for each value that a path of SQL/JSON finds, with a time zone (given as text)';
+COMMENT ON FUNCTION jsonb_path_query_tz(kohiblad, jsonpath, kohiblad, bool)
+    IS 'row for each value that a path of SQL/JSON finds, with the time zone of the session';
+COMMENT ON FUNCTION jsonb_populate_record(anyelement, text)
+    IS 'record of an object, with defaults (given as text)';
+COMMENT ON FUNCTION jsonb_populate_record(anyelement, kohiblad)
+    IS 'record of an object, with defaults';
+COMMENT ON FUNCTION jsonb_populate_recordset(anyelement, text)
+    IS 'record of each object of an array, with defaults (given as text)';
+COMMENT ON FUNCTION jsonb_populate_recordset(anyelement, kohiblad)
+    IS 'record of each object of an array, with defaults';
+COMMENT ON FUNCTION jsonb_pretty(text) IS 'indented text (given as text)';
+COMMENT ON FUNCTION jsonb_pretty(kohiblad) IS 'indented text';
+COMMENT ON FUNCTION jsonb_set(text, text[], jsonb, bool)
+    IS 'document with a value put at a path (given as text)';
+COMMENT ON FUNCTION jsonb_set(kohiblad, text[], kohiblad, bool)
+    IS 'document with a value put at a path';
+COMMENT ON FUNCTION jsonb_set_lax(text, text[], jsonb, bool, text)
+    IS 'document with a value put at a path, or with what is said for NULL (given as text)';
+COMMENT ON FUNCTION jsonb_set_lax(kohiblad, text[], kohiblad, bool, text)
+    IS 'document with a value put at a path, or with what is said for NULL';
+COMMENT ON FUNCTION jsonb_strip_nulls(text)
+    IS 'document without members that are null (given as text)';
+COMMENT ON FUNCTION jsonb_strip_nulls(kohiblad) IS 'document without members that are null';
+COMMENT ON FUNCTION jsonb_to_record(text)
+    IS 'record of an object, whose columns the query lists (given as text)';
+COMMENT ON FUNCTION jsonb_to_record(kohiblad)
+    IS 'record of an object, whose columns the query lists';
+COMMENT ON FUNCTION jsonb_to_recordset(text)
+    IS 'record of each object of an array, whose columns the query lists (given as text)';
+COMMENT ON FUNCTION jsonb_to_recordset(kohiblad)
+    IS 'record of each object of an array, whose columns the query lists';
+COMMENT ON FUNCTION jsonb_to_tsvector(regconfig, text, jsonb)
+    IS 'words of the parts of a document that a filter names (given as text)';
+COMMENT ON FUNCTION jsonb_to_tsvector(regconfig, kohiblad, kohiblad)
+    IS 'words of the parts of a document that a filter names';
+COMMENT ON FUNCTION jsonb_to_tsvector(text, jsonb)
+    IS 'words of the parts of a document that a filter names (given as text)';
+COMMENT ON FUNCTION jsonb_to_tsvector(kohiblad, kohiblad)
+    IS 'words of the parts of a document that a filter names';
+COMMENT ON FUNCTION jsonb_typeof(text) IS 'kind of a document (given as text)';
+COMMENT ON FUNCTION jsonb_typeof(kohiblad) IS 'kind of a document';
+
+COMMENT ON OPERATOR CLASS kohiblad_compat.jsonb_order_ops USING btree IS 'order of jsonb';
+COMMENT ON OPERATOR FAMILY kohiblad_compat.jsonb_order_ops USING btree IS 'order of jsonb';

@@ -3,7 +3,9 @@ CREATE TEMPORARY VIEW members AS
     SELECT classid, objid FROM pg_depend
     WHERE deptype = 'e' AND refclassid = 'pg_extension'::regclass
       AND refobjid = (SELECT oid FROM pg_extension WHERE extname = 'kohiblad');
-SELECT pg_describe_object(classid, objid, 0) AS line FROM members ORDER BY 1;
+SELECT pg_describe_object(classid, objid, 0) AS line, description
+FROM members LEFT JOIN pg_description ON (classoid, objoid, objsubid) = (classid, objid, 0)
+ORDER BY 1;
 SELECT p.oid::regprocedure, pg_get_function_result(p.oid), prokind, prolang, prosrc, procost,
     prorows, provolatile, proparallel, proisstrict
 FROM pg_proc p JOIN members ON classid = 'pg_proc'::regclass AND objid = p.oid ORDER BY 1::text;
