@@ -16,6 +16,7 @@ TOP = os.path.dirname(os.path.dirname(os.path.abspath(__file__)))
 PACKAGES = {"psycopg2": "python3-psycopg2", "psycopg": "python3-psycopg",
             "sqlalchemy": "python3-sqlalchemy", "django": "python3-django"}
 TABLE = """
+DROP EXTENSION IF EXISTS kohiblad_jsonb_order, kohiblad_compat CASCADE;
 DROP TABLE IF EXISTS goods, shop_good;
 CREATE TABLE goods (id int PRIMARY KEY, doc kohiblad);
 """
@@ -107,9 +108,32 @@ class SqlAlchemyTest(unittest.TestCase):
         doc = self.doc
         for expression, text, values in (
                 (doc["tags"][0], "(doc -> %(doc_1)s) -> %(param_1)s", ["tags", 0]),
+                (doc["a", "b", 0], "doc #> %(doc_1)s::TEXT[]", [["a", "b", "0"]]),
+                (doc["a"].astext, "doc ->> %(doc_1)s", ["a"]),
+                (doc["a", "b"].astext, "doc #>> %(doc_1)s::TEXT[]", [["a", "b"]]),
+                (doc["a"]["b"].astext, "(doc -> %(doc_1)s) ->> %(param_1)s", ["a", "b"]),
+                (doc.astext, "doc #>> %(doc_1)s::TEXT[]", [[]]),
+                (doc["n"].as_string(), "doc ->> %(doc_1)s", ["n"]),
+                (doc["n"].as_integer(), "CAST(doc ->> %(doc_1)s AS INTEGER)", ["n"]),
+                (doc["n"].as_float(), "CAST(doc ->> %(doc_1)s AS FLOAT)", ["n"]),
+                (doc["n"].as_numeric(9, 2), "CAST(doc ->> %(doc_1)s AS NUMERIC(9, 2))", ["n"]),
+                (doc["n"].as_boolean(), "CAST(doc ->> %(doc_1)s AS BOOLEAN)", ["n"]),
                 (doc.text_of("id"), "doc ->> %(doc_1)s", ["id"]),
+                (doc.text_of(["a", 1]), "doc #>> %(doc_1)s::TEXT[]", [["a", "1"]]),
                 (doc.has_key("id"), "doc ? %(doc_1)s", ["id"]),
+                (doc.has_key(doc.text_of("key")), "doc ? (doc ->> %(doc_1)s)", ["key"]),
+                (doc.has_any(["a", "b"]), "doc ?| %(doc_1)s::TEXT[]", [["a", "b"]]),
+                (doc.has_all(["a", "b"]), "doc ?& %(doc_1)s::TEXT[]", [["a", "b"]]),
                 (doc.contains({"a": 1}), "doc @> %(doc_1)s", [{"a": 1}]),
+                (doc.contains(doc["a"]), "doc @> (doc -> %(doc_1)s)", ["a"]),
+                (doc.contained_by({"a": 1}), "doc <@ %(doc_1)s", [{"a": 1}]),
+                (doc.path_exists("$.a"), "doc @? CAST(%(param_1)s AS jsonpath)", ["$.a"]),
+                (doc.path_match("$.a > 1"), "doc @@ CAST(%(param_1)s AS jsonpath)", ["$.a > 1"]),
+                (doc.delete_path(["a", "b"]), "doc #- %(doc_1)s::TEXT[]", [["a", "b"]]),
+                (doc + {"a": 1}, "doc || %(doc_1)s", [{"a": 1}]),
+                (doc.concat([1]), "doc || %(doc_1)s", [[1]]),
+                (doc["a"] + doc["b"], "(doc -> %(doc_1)s) || (doc -> %(doc_2)s)", ["a", "b"]),
+                (doc["id"] > 7, "(doc -> %(doc_1)s) > %(param_1)s", ["id", 7]),
                 (doc["id"] == 7, "(doc -> %(doc_1)s) = %(param_1)s", ["id", 7])):
             self.assertEqual(self.in_postgres(expression)[1], values)
             shape = re.sub(r"%\(\w+\)s", "%s", self.in_postgres(expression)[0])
