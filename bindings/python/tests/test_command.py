@@ -292,7 +292,7 @@ class CommandTest(unittest.TestCase):
         status, _, message = run("encode", source, "-o", self.path("out"), "--progress",
                                  program=("-c", OFTEN))
         self.assertEqual(status, 0)
-        self.assertRegex(message, r"^\r[\d,]+ lines, \d+%, \d+ s left")
+        self.assertRegex(message, r"^\r[\d,]+ lines, \d+%, [\d,]+ s left")
         self.assertEqual(message.split("\r")[-1].split(), ["300,000", "lines,", "100%"])
 
     ROWS = ('{"price":1.50,"sku":"k7"}', '{"price":2,"ok":true}', '{"price":"n/a","ok":false}',
