@@ -9,7 +9,7 @@ kit=$(dirname "$(rt doc)")
 scratch=$(mktemp -d)
 trap 'rm -rf "$scratch"' EXIT
 cp -r "$here/../crates" "$here/../crates.txt" "$scratch"
-echo "measured staticlib: jsonb_column jsonb_comparable jsonb jsonb_value jsonb_codec" \
+echo "measured staticlib: jsonb_comparable jsonb jsonb_value jsonb_codec" \
     >> "$scratch/crates.txt"
 mkdir -p "$scratch/crates/measured/src" "$baseline/examples"
 cp "$here/measured.rt.in" "$scratch/crates/measured/src/lib.rt"

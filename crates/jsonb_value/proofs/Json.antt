@@ -13,6 +13,7 @@ pub mod SpelledLaws
 pub mod FirstCharacter
 pub mod Shorter
 pub mod DigitLaws
+pub mod DigitRuns
 pub mod Exponents
 pub mod NumberSteps
 pub mod TextSteps

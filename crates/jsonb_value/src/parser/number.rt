@@ -13,7 +13,7 @@ mod short;
 
 use crate::number::Number;
 use crate::parser::cursor::{after_char, split_ascii, split_first};
-use short::read_short_number;
+pub use short::read_short_number;
 
 /// Whether numbers may have an exponent.
 #[derive(Clone, Copy)]
@@ -236,9 +236,9 @@ fn scaled(count: usize, magnitude: u128, exponent: Integer) -> Option<(usize, u1
     Some((0, with_zeros(magnitude, raised - count as u128)?))
 }
 
-// As `read_number`, in 128 bits.
+/// Reads the number at the start of the text, in 128 bits; returns the text after it.
 #[inline(never)]
-fn read_long_number(exponents: Exponents, text: &str) -> Option<(Number, &str)>
+pub fn read_number(exponents: Exponents, text: &str) -> Option<(Number, &str)>
     ensures { option_map
         (λ found. (found.0, chars found.1.now)) result ≡ read_number exponents (chars text.now) }
 {
@@ -250,16 +250,4 @@ fn read_long_number(exponents: Exponents, text: &str) -> Option<(Number, &str)>
     let value = signed(is_negative, magnitude)?;
     let number = Number::from_scaled(scale, value)?;
     Some((number, rest))
-}
-
-/// Reads the number at the start of the text; returns the text after it.
-#[inline(always)]
-pub fn read_number(exponents: Exponents, text: &str) -> Option<(Number, &str)>
-    ensures { option_map
-        (λ found. (found.0, chars found.1.now)) result ≡ read_number exponents (chars text.now) }
-{
-    match read_short_number(text) {
-        Some(found) => Some(found),
-        None => read_long_number(exponents, text),
-    }
 }

@@ -23,7 +23,7 @@ ghost use Rattle.jsonb_value.specs.Json.Characters.{open_bracket, open_brace};
 
 use crate::error::Error;
 use crate::parser::cursor::{after_all, after_char, skip_blank, split_ascii};
-use crate::parser::number::{Exponents, read_number};
+use crate::parser::number::{Exponents, read_number, read_short_number};
 use crate::parser::open_kinds::OpenKinds;
 use crate::parser::sink::Sink;
 use crate::parser::string::{read_string, split_plain};
@@ -106,6 +106,26 @@ fn give_truth<'a, S: Sink<'a>>(
     Ok(after)
 }
 
+// Gives the sink a number, in 128 bits; returns the text after it.
+#[cold]
+#[inline(never)]
+fn give_long_number<'a, S: Sink<'a>>(
+    sink: &mut S,
+    exponents: Exponents,
+    text: &'a str,
+) -> Result<&'a str, Error>
+    ensures ok { IfOk result (λ after. (n : Number)
+        × ((read_number exponents (chars text.now) ≡ Some (n, chars after.now))
+        × Adds S.is sink.old sink.new (number n))) }
+    ensures err { IfErr result (λ e. Fails e (read_number exponents (chars text.now))) }
+{
+    let Some((number, after)) = read_number(exponents, text) else {
+        return Err(Error::InvalidJson);
+    };
+    sink.number(number)?;
+    Ok(after)
+}
+
 // Gives the sink a number; returns the text after it.
 #[inline(always)]
 fn give_number<'a, S: Sink<'a>>(
@@ -118,8 +138,8 @@ fn give_number<'a, S: Sink<'a>>(
         × Adds S.is sink.old sink.new (number n))) }
     ensures err { IfErr result (λ e. Fails e (read_number exponents (chars text.now))) }
 {
-    let Some((number, after)) = read_number(exponents, text) else {
-        return Err(Error::InvalidJson);
+    let Some((number, after)) = read_short_number(text) else {
+        return give_long_number(sink, exponents, text);
     };
     sink.number(number)?;
     Ok(after)

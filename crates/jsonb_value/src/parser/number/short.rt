@@ -1,18 +1,22 @@
 //! The parser of short numbers: those of a value below 10^18 without their point, in 64 bits.
 
-ghost use Rattle.std.specs.Prelude.{◌≡◌, ℕ, pos, ◌+◌, ◌*◌, ◌^◌, ◌<◌, List, Some, chars, IfSome};
+ghost use Rattle.std.specs.Prelude.{◌≡◌, ℕ, pos, ◌+◌, ◌*◌, ◌^◌, ◌<◌, ◌≤◌, List, Some, chars, IfSome};
 ghost use Rattle.std.specs.Prelude.{IsTrue, false};
 ghost use Rattle.jsonb_value.specs.declared.parser.number.Exponents.{Exponents};
-ghost use Rattle.jsonb_value.specs.Words.{digit_value, is_ascii_digit, digits_value, IsShort};
+ghost use Rattle.jsonb_value.specs.Words.{digit_value, is_ascii_digit, digits_value, IsShort, OnTrue};
 ghost use Rattle.jsonb_value.specs.Words.{signed_number, number_of, read_whole, read_fraction};
 ghost use Rattle.jsonb_value.specs.Words.{read_exponent, read_number, front_digits, after_digits};
 
 use crate::number::{Decimal64, Number};
 use crate::parser::cursor::{after_char, split_ascii};
 use crate::parser::number::{is_exponent_mark, read_sign};
+use core::dec2flt::{read_digits, ten_to};
 
 // A number below this is still short after one more digit.
 const SHORT_AFTER_A_DIGIT: u64 = 100_000_000_000_000_000;
+
+// How many digits are short whatever they are.
+const SHORT_DIGITS: usize = 18;
 
 /// Digits that were read: their count, and the number below 10^18 that they form with the digits
 /// before them.
@@ -63,6 +67,44 @@ fn read_short_digits(start: u64, text: &str) -> Option<(ShortDigits, &str)>
     Some((digits, rest))
 }
 
+// Whether the number `start` is still short after this many more digits, whatever they are.
+#[inline(always)]
+fn stays_short(start: u64, count: usize) -> bool
+    ensures { OnTrue result (start * 10 ^ count + 10 ^ count ≤ 10 ^ 18) }
+{
+    count <= SHORT_DIGITS && start < ten_to((SHORT_DIGITS - count) as u64)
+}
+
+// As `read_short_digits`, eight digits at a time.
+#[inline(never)]
+fn read_many_digits(start: u64, text: &str) -> Option<(ShortDigits, &str)>
+    requires { start < 10 ^ 18 }
+    ensures { IfSome result (λ found. IsShort found.0 start (front_digits (chars text.now))
+        × (chars found.1.now ≡ after_digits (chars text.now))) }
+{
+    let (count, value) = read_digits(text.as_bytes(), 0, start);
+    if !stays_short(start, count) {
+        return None;
+    }
+    Some((ShortDigits { count, value }, text.split_at(count).1))
+}
+
+// As `read_short_digits`, eight digits at a time if there seem to be many.
+#[inline(always)]
+fn read_fraction_digits(start: u64, text: &str) -> Option<(ShortDigits, &str)>
+    requires { start < 10 ^ 18 }
+    ensures { IfSome result (λ found. IsShort found.0 start (front_digits (chars text.now))
+        × (chars found.1.now ≡ after_digits (chars text.now))) }
+{
+    match text.as_bytes() {
+        [_, _, third, _, _, _, _, eighth, ..]
+            if third.is_ascii_digit() && eighth.is_ascii_digit() => {
+            read_many_digits(start, text)
+        }
+        _ => read_short_digits(start, text),
+    }
+}
+
 // As `read_whole`, if the number is short.
 #[inline(always)]
 fn read_short_whole(text: &str) -> Option<(u64, &str)>
@@ -97,7 +139,7 @@ fn read_short_fraction(whole: u64, text: &str) -> Option<(ShortDigits, &str)>
         };
         return Some((digits, text));
     };
-    let (digits, rest) = read_short_digits(whole, rest)?;
+    let (digits, rest) = read_fraction_digits(whole, rest)?;
     if digits.count == 0 {
         return None;
     }

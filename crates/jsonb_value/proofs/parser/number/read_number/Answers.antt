@@ -2,7 +2,7 @@ use Rattle.std.proofs.Common.{rules, sym, ◌∙◌, ap, chars}
 use Rattle.std.specs.Prelude.{option_map}
 use Rattle.jsonb_value.proofs.Json.NumberSteps.{has_parts, number_too_large, number_past_scale}
 use Rattle.jsonb_value.proofs.Json.NumberSteps.{number_out_of_range, number_of_parts}
-use Rattle.jsonb_value.proofs.parser.number.read_long_number.Goals as goal
+use Rattle.jsonb_value.proofs.parser.number.read_number.Goals as goal
 
 pub returns-in_err-digits-2 : goal.returns-in_err-digits-2
 returns-in_err-digits-2 c =
