@@ -6,7 +6,7 @@ use Rattle.jsonb_value.specs.declared.error.Error.TheVariants.{InvalidJsonb}
 use Rattle.jsonb_codec.specs.JEntry.{jentry_at}
 use Rattle.jsonb_codec.specs.declared.jentry.JEntry.{JEntry}
 use Rattle.jsonb.specs.Entry.{part_at}
-use Rattle.jsonb.specs.Parts.{part_start, key_of_size, PassedBefore, IsUnreadable, key_unread}
+use Rattle.jsonb.specs.Parts.{part_start, key_of_size, PassedBefore, IsKeyUnread}
 use Rattle.jsonb.specs.CutKeys.{NoneOfSize, IsFirstUnread}
 use Rattle.jsonb.proofs.PartLaws.{key_known}
 
@@ -29,6 +29,10 @@ others_passed answers size bytes n pair others = λ k less. rw (others k less) t
 
 -- the first key of the size, or whose entry word is cut off, cannot be read
 pub first_unread : (answers : List ℕ → Bool → Type 0) (size : ℕ) (bytes : List ℕ) (n : ℕ)
-    (e : Error) → IsFirstUnread size bytes n e → IsUnreadable answers size bytes n e
-first_unread answers size bytes n e first = key_unread first.pair first.among
-    (others_passed answers size bytes n first.pair first.others) first.unread
+    (e : Error) → IsFirstUnread size bytes n e → IsKeyUnread answers size bytes n e
+first_unread answers size bytes n e first = record {
+  pair = first.pair;
+  among = first.among;
+  earlier = others_passed answers size bytes n first.pair first.others;
+  unread = first.unread;
+}

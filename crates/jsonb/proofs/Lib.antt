@@ -4,10 +4,12 @@ pub mod Places
 pub mod KindLaws
 pub mod EntryLaws
 pub mod WalkLaws
+pub mod ItemDocuments
 pub mod ItemLaws
 pub mod StorageLaws
 pub mod LeafLaws
 pub mod StoredEntryLaws
+pub mod StoredRowLaws
 pub mod DocumentWalks
 pub mod ContentLaws
 pub mod PartLaws
@@ -15,6 +17,8 @@ pub mod ParseLaws
 pub mod CanonicalLaws
 pub mod LookupLaws
 pub mod CutKeyLaws
+pub mod AnswerLaws
+pub mod PrefixLaws
 pub mod PayloadEnds
 pub mod ResultLaws
 pub mod ObjectLaws

@@ -10,8 +10,10 @@ use Rattle.jsonb_value.specs.declared.error.Error.TheVariants.{InvalidEOF, Inval
 use Rattle.jsonb_codec.specs.JEntry.{jentry_in, jentry_at}
 use Rattle.jsonb_codec.specs.WordBytes.{word_at}
 use Rattle.jsonb_codec.specs.declared.jentry.JEntry.{JEntry}
+use Rattle.jsonb_codec.proofs.RoomLaws.{word_at-inside}
 use Rattle.jsonb.specs.Steps.{◌>>=◌}
 use Rattle.jsonb.specs.declared.entries.Entry.{Entry}
+use Rattle.jsonb.specs.Entries.{payloads_end}
 use Rattle.jsonb.specs.Entry.{entry_read, entry_there, placed_by, entry_at, part_at}
 use Rattle.jsonb.specs.Parts.{length_in, part_length, length_before, part_start, HasParts}
 use Rattle.jsonb.specs.Parts.{key_of_size, value_entry, IsPlaceOf}
@@ -24,7 +26,7 @@ length_before-add bytes part (suc more) =
     let before = length_before-add bytes part more in
     rw add-suc (omega arith)
 
-length_before-le : (bytes : List ℕ) (part later : ℕ) → part ≤ later
+pub length_before-le : (bytes : List ℕ) (part later : ℕ) → part ≤ later
     → length_before bytes part ≤ length_before bytes later
 length_before-le bytes part later h =
     let e : part + (later - part) ≡ later = omega arith in
@@ -179,3 +181,22 @@ module _ (bytes : List ℕ) (start : ℕ) (jentry : JEntry) where
       value_known bytes n pair start jentry read begins _ (part_read entry _ is refl)
       ∙ ap (λ (type : ℕ). Ok record { type = type; payload = (entry_there bytes entry).payload })
       (placed_type-if _ entry (sym is))
+
+-- where payloads end, by the lengths in their words
+module _ (bytes : List ℕ) where
+  pub ends_there : (n part base word start : ℕ) → 4 + 4 * (part + n) ≤ length bytes
+      → word ≡ 4 + 4 * part → start ≡ base + length_before bytes part
+      → payloads_end bytes n word start ≡ Ok (base + length_before bytes (part + n))
+  unfolding part_length
+  ends_there zero part base word start fits at from =
+      let same : part ≡ part + zero = omega arith in
+      ap (λ (s : ℕ). Ok s) from ∙ ap (λ (p : ℕ). Ok (base + length_before bytes p)) same
+  ends_there (suc n) part base word start fits at from =
+      let read = ap jentry_in (word_at-inside bytes word (omega arith)) in
+      let size = ap (λ (w : ℕ). length_in (jentry_at bytes w)) (sym at) ∙ ap length_in read in
+      let number : suc part + n ≡ part + suc n = omega arith in
+      ap (λ (r : Result JEntry Error). r
+      >>= (λ (e : JEntry). payloads_end bytes n (word + 4) (start + e.length))) read
+      ∙ ends_there n (suc part) base (word + 4) _ (omega arith) (omega arith)
+      (omega (arith, size, from))
+      ∙ ap (λ (p : ℕ). Ok (base + length_before bytes p)) number

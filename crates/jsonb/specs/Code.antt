@@ -1,7 +1,8 @@
 -- What items mean, and the entries with which they are stored.
 use Rattle.std.specs.Prelude.{◌≡◌, ◌≢◌, ◌⊎◌, ◌+◌, ◌<◌, ◌^◌, ℕ, List, [], ◌++◌, length, true, false}
-use Rattle.std.specs.Prelude.{Option, unwrap_or, ⊤}
+use Rattle.std.specs.Prelude.{Option, None, unwrap_or, zero, pos, ⊤}
 use Rattle.jsonb_value.specs.declared.number.Number.{Number}
+use Rattle.jsonb_value.specs.declared.number.Number.TheVariants.{Int64}
 use Rattle.jsonb_value.specs.NumCode.{number_payload}
 use Rattle.jsonb_value.specs.ExtCode.{extension_payload}
 use Rattle.jsonb_value.specs.Tree.{Tree, Extension}
@@ -75,3 +76,12 @@ CanBeStored (text s) = length s < 2 ^ 28
 CanBeStored (extension given e) = length (extension_bytes given e) < 2 ^ 28
 CanBeStored (raw b) = ⊤
 CanBeStored (owned b) = ⊤
+
+-- The item is a signed zero that was made from a number: it is stored as the unsigned zero.
+abbrev pub IsSignedZero : ItemView → Type 0
+IsSignedZero (number None (Int64 (pos zero))) = ⊤
+IsSignedZero x = ⊥
+
+-- The document of the item can be made, and means the tree.
+abbrev pub HasDocument : ItemView → Tree → Type 0
+HasDocument x t = CanBeStored x × Doc (item_document x) t

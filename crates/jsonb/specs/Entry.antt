@@ -13,12 +13,17 @@ pub record Code : Type 0 where
   pub type : ℕ
   pub payload : List ℕ
 
--- The entry of this word, whose payload begins at `start` and must not run past the end.
-abbrev pub placed_by : List ℕ → ℕ → JEntry → Result Entry Error
-placed_by bytes start jentry =
-    if nat_le (start + jentry.length) (length bytes)
+-- The entry of this word in so many bytes, whose payload begins at `start` and must not run past
+-- the end.
+abbrev pub placed_within : ℕ → ℕ → JEntry → Result Entry Error
+placed_within len start jentry =
+    if nat_le (start + jentry.length) len
     then Ok (record { type_code = jentry.type_code; start = start; length = jentry.length })
     else Err InvalidJsonb
+
+-- The entry of this word, whose payload begins at `start` and must not run past the end.
+abbrev pub placed_by : List ℕ → ℕ → JEntry → Result Entry Error
+placed_by bytes start jentry = placed_within (length bytes) start jentry
 
 -- The entry whose word is at `word` and whose payload begins at `start`, with its place.
 abbrev pub placed_at : List ℕ → ℕ → ℕ → Result Entry Error

@@ -15,9 +15,11 @@ pub mod DocumentWalk
 pub mod Lookup
 pub mod Parts
 pub mod CutKeys
+pub mod Prefix
 pub mod Storage
 pub mod Building
 pub mod StoredEntries
+pub mod StoredRow
 pub mod Children
 pub mod Gathering
 pub mod Results

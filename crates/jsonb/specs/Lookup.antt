@@ -15,11 +15,12 @@ use Rattle.jsonb.specs.declared.entries.Entry.{Entry}
 use Rattle.jsonb.specs.declared.item.JsonbItem.{JsonbItem}
 use Rattle.jsonb.specs.declared.lookup.Accepted.{Accepted}
 use Rattle.jsonb.specs.declared.lookup.FoundValue.{FoundValue}
+use Rattle.jsonb.specs.declared.lookup.ValueWord.{ValueWord}
 use Rattle.jsonb.specs.ItemView.{ItemView, item_view}
 use Rattle.jsonb.specs.Steps.{◌>>=◌}
 use Rattle.jsonb.specs.Entry.{Code, entry_there}
 use Rattle.jsonb.specs.Parts.{part_start, value_entry, PassedBefore, IsAccepted, IsNoneFound}
-use Rattle.jsonb.specs.Parts.{IsPlaceOf, IsUnreadable, IsValueFound}
+use Rattle.jsonb.specs.Parts.{IsKeyUnread, IsPlaceOf, IsUnreadable, IsValueFound, IsWordFound}
 use Rattle.jsonb.specs.StoredEntries.{IsObjectOfEntries, entry_item}
 use Rattle.jsonb.specs.Walk.{count_under}
 use Rattle.jsonb.specs.DocumentWalk.{IsItemOf}
@@ -128,7 +129,16 @@ abbrev pub FindsKey : (List ℕ → Bool → Type 0) → ℕ → List ℕ → �
 FindsKey answers size b n (Ok None) reads = IsNoneFound answers size b n reads
 FindsKey answers size b n (Ok (Some key)) reads = IsAccepted answers size b n key.pair
     × ((key.end ≡ part_start b n (key.pair + 1)) × (reads ≡ key.pair + 1))
-FindsKey answers size b n (Err e) reads = IsUnreadable answers size b n e
+FindsKey answers size b n (Err e) reads = IsKeyUnread answers size b n e
+
+-- The result of searching n pairs up to the accepted key's value, with the number of words read: the
+-- entry word of that value, nothing if all keys are passed over, or the first error of a key.
+abbrev pub FindsWord : (List ℕ → Bool → Type 0) → ℕ → List ℕ → ℕ
+    → Result (Option ValueWord) Error → ℕ → Type 0
+FindsWord answers size b n (Ok None) reads = IsNoneFound answers size b n reads
+FindsWord answers size b n (Ok (Some value)) reads =
+    IsWordFound answers size b n value.jentry value.start reads
+FindsWord answers size b n (Err e) reads = IsKeyUnread answers size b n e
 
 -- The result of searching n pairs, with the number of words read: the entry of the accepted key's
 -- value and where its payload begins, nothing if all keys are passed over, or the first error.

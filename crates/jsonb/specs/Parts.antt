@@ -84,6 +84,24 @@ pub record IsValueFound (answers : List ℕ → Bool → Type 0) (size : ℕ) (b
   pub there : value_entry bytes n pair ≡ Ok entry
   pub cost : reads ≡ n + pair + 1
 
+-- The entry word is that of the accepted key's value, whose payload begins at `start`; the words read
+-- are the keys' entries and the values' up to this one.
+pub record IsWordFound (answers : List ℕ → Bool → Type 0) (size : ℕ) (bytes : List ℕ) (n : ℕ)
+    (jentry : JEntry) (start reads : ℕ) : Type 0 where
+  pub pair : ℕ
+  pub key : IsAccepted answers size bytes n pair
+  pub there : jentry_at bytes (4 + 4 * (n + pair)) ≡ Ok jentry
+  pub begins : start ≡ part_start bytes n (n + pair)
+  pub cost : reads ≡ n + pair + 1
+
+-- The first key that is not passed over cannot be read; this is the error.
+pub record IsKeyUnread (answers : List ℕ → Bool → Type 0) (size : ℕ) (bytes : List ℕ) (n : ℕ)
+    (e : Error) : Type 0 where
+  pub pair : ℕ
+  pub among : pair < n
+  pub earlier : PassedBefore answers size bytes n pair
+  pub unread : key_of_size size bytes n pair ≡ Err e
+
 -- The first key that is not passed over cannot be read, or the accepted key's value cannot; this is
 -- the error.
 pub data IsUnreadable (answers : List ℕ → Bool → Type 0) (size : ℕ) (bytes : List ℕ) (n : ℕ)

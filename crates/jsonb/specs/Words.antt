@@ -47,8 +47,8 @@ pub use Rattle.jsonb.specs.Building.{in_order, with_pair}
 pub use Rattle.jsonb.specs.Canonical.{RewritesTo}
 pub use Rattle.jsonb.specs.Children.{AreShown, AreShownAt, HasSameEntry, ItemPairs, pairs_by}
 pub use Rattle.jsonb.specs.Children.{raw_view}
-pub use Rattle.jsonb.specs.Code.{CanBeStored, extension_bytes, item_document, number_bytes}
-pub use Rattle.jsonb.specs.Code.{scalar_bytes}
+pub use Rattle.jsonb.specs.Code.{CanBeStored, HasDocument, IsSignedZero, ItemMeans}
+pub use Rattle.jsonb.specs.Code.{extension_bytes, item_document, number_bytes, scalar_bytes}
 pub use Rattle.jsonb.specs.Contents.{AreStoredIn, contents_tree}
 pub use Rattle.jsonb.specs.CutKeys.{IsFirstUnread, NoneOfSize}
 pub use Rattle.jsonb.specs.Document.{document_bytes, document_tree}
@@ -68,13 +68,15 @@ pub use Rattle.jsonb.specs.Kind.{kind, kind_of_tree, kind_of_type, kind_rank, ra
 pub use Rattle.jsonb.specs.Lines.{HasIndentRoom, next_key, pair_text}
 pub use Rattle.jsonb.specs.Lookup.{AnswersBy, IsItemFound, IsRefusal, LooksUp, LooksUpBytes}
 pub use Rattle.jsonb.specs.Lookup.{LooksUpIn, LooksUpInBytes, find, find_pair, count_in_header}
-pub use Rattle.jsonb.specs.Lookup.{FindsEntry, FindsKey, found_view, value_view}
+pub use Rattle.jsonb.specs.Lookup.{FindsEntry, FindsKey, FindsWord, found_view, value_view}
 pub use Rattle.jsonb.specs.Node.{HoldsNoScalar, IsContainer, array_of, container_of, first_key_of}
 pub use Rattle.jsonb.specs.Node.{item_at_index, items_of, members_of, node_tree, node_view}
 pub use Rattle.jsonb.specs.Node.{object_of, value_of_key, words_for_key}
 pub use Rattle.jsonb.specs.Owned.{result_bytes, owned_bytes}
 pub use Rattle.jsonb.specs.Parts.{HasParts, IsPlaceOf, part_length, part_start}
 pub use Rattle.jsonb.specs.Payloads.{extension_error}
+pub use Rattle.jsonb.specs.Prefix.{AsksAtMost, FindsPlace, IsFoundInDocument, IsKeyProgress}
+pub use Rattle.jsonb.specs.Prefix.{IsIndexProgress, index_stops, is_name, key_stops, next_stop}
 pub use Rattle.jsonb.specs.Raw.{raw_bytes}
 pub use Rattle.jsonb.specs.Results.{AllMean, AllMeanAt, AreWithinLimits, IsArrayOfDocuments}
 pub use Rattle.jsonb.specs.Results.{IsArrayOfInputs, IsArrayUpToZeros, IsObjectOfDocuments}
@@ -83,6 +85,7 @@ pub use Rattle.jsonb.specs.Results.{PairsExceedLimits, TakesAll, TakesUpTo, docu
 pub use Rattle.jsonb.specs.Results.{AreDistinctWith, PairsAreWithinLimits, input_pair, raw_pairs}
 pub use Rattle.jsonb.specs.SortKey.{key_meaning}
 pub use Rattle.jsonb.specs.StoredEntries.{IsEntryAt, IsFoundIn, IsItemFoundIn, entry_item}
+pub use Rattle.jsonb.specs.StoredRow.{BeginsWith, row_bytes}
 pub use Rattle.jsonb.specs.Storage.{IsHeld, IsStored, document_code, pair_of, stored_code}
 pub use Rattle.jsonb.specs.Tally.{CountsOneLess, CountsOneMore, Lists, SetsCount, Tally, count_at}
 pub use Rattle.jsonb.specs.Tally.{count_of, has_equal, list_with}

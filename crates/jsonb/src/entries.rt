@@ -6,6 +6,7 @@ ghost use Rattle.std.specs.Iterator.{YieldsFirstBy};
 ghost use Rattle.jsonb_codec.specs.declared.constants.TheConstants.{ARRAY_CONTAINER_TAG};
 ghost use Rattle.jsonb_codec.specs.declared.constants.TheConstants.{OBJECT_CONTAINER_TAG};
 ghost use Rattle.jsonb.specs.Entry.{IsEntryIn, entry_read, entry_there, placed_at, placed_by};
+ghost use Rattle.jsonb.specs.Entry.{placed_within};
 ghost use Rattle.jsonb.specs.Entries.{Run, entries_of};
 ghost use Rattle.jsonb.specs.Entries.{item_run, key_run, left_after, others_left, payloads_end};
 ghost use Rattle.jsonb.specs.Entries.{run_from, run_in, value_run};
@@ -44,10 +45,20 @@ impl Entry {
         ensures value { result ≡ placed_by bytes.now start jentry }
         ensures inside { IfOk result (IsEntryIn bytes.now) }
     {
+        Entry::within(bytes.len(), start, jentry)
+    }
+
+    // The same in `len` bytes, of which none are read.
+    #[inline(always)]
+    pub(crate) fn within(len: usize, start: usize, jentry: JEntry) -> Result<Self, Error>
+        ensures value { result ≡ placed_within len start jentry }
+        ensures inside { IfOk result (λ entry. (entry.start + entry.length ≤ len)
+            × ((entry.type_code ≡ jentry.type_code) × (entry.length ≡ jentry.length))) }
+    {
         let length = jentry.length as usize;
         // The last valid start does not depend on `start`, so a look-up among keys of one size
         // finds it once.
-        if bytes.len() < length || bytes.len() - length < start {
+        if len < length || len - length < start {
             return Err(Error::InvalidJsonb);
         }
         Ok(Entry {
@@ -125,7 +136,7 @@ pub fn payloads_end(bytes: &[u8], word: usize, start: usize, count: usize) -> Re
 
 // The same, where all words are known to be there.
 #[inline(always)]
-fn payloads_end_within(bytes: &[u8], word: usize, start: usize, count: usize) -> usize
+pub(crate) fn payloads_end_within(bytes: &[u8], word: usize, start: usize, count: usize) -> usize
     requires words { word + 4 * count ≤ 2 ^ 34 }
     requires payloads { start + 2 ^ 32 * count ≤ 2 ^ 63 }
     requires there { word + 4 * count ≤ length bytes.now }

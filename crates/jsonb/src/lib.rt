@@ -22,6 +22,7 @@ mod owned;
 mod raw;
 mod sort_key;
 mod sorting;
+mod stored_row;
 mod text;
 mod text_len;
 
@@ -50,3 +51,4 @@ pub use owned::OwnedJsonb;
 pub use raw::RawJsonb;
 pub use sort_key::SortKey;
 pub use sorting::sort_views;
+pub use stored_row::{append_row, split_row};

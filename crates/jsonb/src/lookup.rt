@@ -1,10 +1,12 @@
 //! Looking up the value of a key in the bytes, with a counted number of word reads.
 
+mod prefix;
 mod reads;
 
 ghost use Rattle.std.specs.Prelude.{◌≡◌, ◌+◌, ◌-◌, ◌*◌, ◌<◌, ◌≤◌, ◌^◌, length, Ok, IfOk};
 ghost use Rattle.std.specs.Prelude.{IfErr, IfSome, IsOk, OnOk};
 ghost use Rattle.jsonb.specs.Words.{FnReturnsAtPair, OBJECT_CONTAINER_TAG, FindsEntry, FindsKey};
+ghost use Rattle.jsonb.specs.Words.{FindsWord};
 ghost use Rattle.jsonb.specs.Words.{jentry_at, count_under, part_length, part_start, IsEntryIn};
 ghost use Rattle.jsonb.specs.Words.{HasParts, IsRefusal, NoneOfSize, IsFirstUnread};
 ghost use Rattle.jsonb.specs.Words.{count_in_header};
@@ -15,6 +17,7 @@ use jsonb_codec::JEntry;
 use jsonb_codec::constants::OBJECT_CONTAINER_TAG;
 use jsonb_codec::layer::decode_header;
 use jsonb_value::Error;
+pub use prefix::{Progress, find_index_in_prefix, find_key_in_prefix};
 pub use reads::Reads;
 
 /// A value that a look-up found, and its entry, with the place of its payload.
@@ -154,6 +157,50 @@ fn skip_parts(bytes: &[u8], count: usize, from: Accepted, to: usize, reads: &mut
     place
 }
 
+// The entry word of a value, and the offset at which its payload begins.
+#[derive(Clone, Copy)]
+struct ValueWord {
+    jentry: JEntry,
+    start: usize,
+}
+
+// The entry word of the value of the first accepted key among `count` pairs, `None` if no key is
+// accepted. Nothing after the keys is read but entry words.
+#[inline(always)]
+#[tactic(auto, using(crate::proofs::PartLaws::before_bound, crate::proofs::PartLaws::part_fits))]
+fn find_word<F: Fn(&[u8], &[u8]) -> bool>(
+    bytes: &[u8],
+    count: usize,
+    name: &str,
+    eq_func: &F,
+    reads: &mut Reads,
+) -> Result<Option<ValueWord>, Error>
+    requires count { count < 2 ^ 29 }
+    requires callable { (a b : _) → a.now ≡ name.now → length b.now ≡ length name.now
+        → F.pre eq_func.now a b }
+    requires room { reads.old + 2 * count < 2 ^ 64 }
+    ensures found { FindsWord (FnReturnsAtPair F.Fn eq_func.now name.now) (length name.now)
+        bytes.now count result (reads.new - reads.old) }
+    ensures short { IfOk result
+        (λ o. IfSome o (λ value. value.jentry.type_code + value.jentry.length < 2 ^ 31)) }
+    ensures bound { (reads.old ≤ reads.new) × (reads.new ≤ reads.old + 2 * count) }
+    ensures whole { HasParts bytes.now count → IsOk result }
+    ensures refused { IfErr result IsRefusal }
+{
+    // The payloads come after all entry words.
+    if bytes.len() < 4 + 8 * count {
+        read_cut_keys(bytes, count, name.len(), reads)?;
+        return Ok(None);
+    }
+    let Some(key) = matching_key(bytes, count, name.as_bytes(), eq_func, reads)? else {
+        return Ok(None);
+    };
+    let wanted = count + key.pair;
+    let start = skip_parts(bytes, count, key, wanted, reads);
+    let jentry = entry_within(bytes, wanted, reads);
+    Ok(Some(ValueWord { jentry, start }))
+}
+
 /// The entry of the value of the first accepted key among `count` pairs, `None` if no key is
 /// accepted. `InvalidEOF` if an entry word that is read is cut off, `InvalidJsonb` if a key of the
 /// name's length or the value runs past the end.
@@ -176,16 +223,8 @@ pub fn find_value<F: Fn(&[u8], &[u8]) -> bool>(
     ensures whole { HasParts bytes.now count → IsOk result }
     ensures refused { IfErr result IsRefusal }
 {
-    // The payloads come after all entry words.
-    if bytes.len() < 4 + 8 * count {
-        read_cut_keys(bytes, count, name.len(), reads)?;
-        return Ok(None);
-    }
-    let Some(key) = matching_key(bytes, count, name.as_bytes(), eq_func, reads)? else {
+    let Some(value) = find_word(bytes, count, name, eq_func, reads)? else {
         return Ok(None);
     };
-    let wanted = count + key.pair;
-    let start = skip_parts(bytes, count, key, wanted, reads);
-    let jentry = entry_within(bytes, wanted, reads);
-    Ok(Some(Entry::of_word(bytes, start, jentry)?))
+    Ok(Some(Entry::of_word(bytes, value.start, value.jentry)?))
 }

@@ -34,6 +34,7 @@ impl<'a> Node<'a> {
     ghost use Rattle.jsonb.specs.Words.{Tree, compact, kind_of_tree, node_tree, HoldsNoScalar};
     ghost use Rattle.jsonb.specs.Words.{IsContainer, MadeIfFit, CanBeStored, container_of};
     ghost use Rattle.jsonb.specs.Words.{node_view, item_of, item_document, owned_bytes};
+    ghost use Rattle.jsonb.specs.Words.{Doc, IsSignedZero};
 
     /// The array or object as a document. `None` if the value is a scalar.
     pub fn as_document(&self) -> Option<Document<'a>>
@@ -48,11 +49,14 @@ impl<'a> Node<'a> {
     }
 
     /// The value as a document of its own: the bytes of an array or object, or the document of the
-    /// scalar, with the payload that it has in its document. `InvalidJsonb`, before any allocation,
-    /// if the payload of a scalar exceeds 268,435,455 bytes, which no payload in a document does;
-    /// `OutOfMemory` if an allocation fails.
+    /// scalar, with the payload that it has in its document. It means the value, but for a signed
+    /// zero made from a number, which is stored as the unsigned one. `InvalidJsonb`, before any
+    /// allocation, if the payload of a scalar exceeds 268,435,455 bytes, which no payload in a
+    /// document does; `OutOfMemory` if an allocation fails.
     pub fn to_owned(&self, alloc: Global) -> Result<OwnedJsonb, Error>
         ensures ok { IfOk result (λ owned. owned_bytes owned ≡ item_document (node_view self.now)) }
+        ensures means { CanBeStored (node_view self.now) → (IsSignedZero (node_view self.now) → ⊥)
+            → Doc (item_document (node_view self.now)) (node_tree self.now) }
         ensures limits { MadeIfFit (CanBeStored (node_view self.now)) result }
     {
         OwnedJsonb::from_item(alloc, JsonbItem::from(*self))

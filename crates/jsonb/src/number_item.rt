@@ -18,6 +18,7 @@ pub struct NumberItem<'a> {
 
 impl<'a> NumberItem<'a> {
     ghost use Rattle.std.specs.Prelude.{IfOk, IfErr, OnErr, None};
+    ghost use Rattle.std.specs.Option.{option_copied};
     ghost use Rattle.jsonb.specs.ItemView.{number};
     ghost use Rattle.jsonb.specs.Words.{Number, NumCode, number_source, number_of_item, IsHeld};
     ghost use Rattle.jsonb.specs.Words.{payload_bytes, number_bytes, Tree, NUMBER_TAG, number_item};
@@ -71,6 +72,13 @@ impl<'a> NumberItem<'a> {
         ensures { result ≡ number_of_item self.now }
     {
         self.number
+    }
+
+    /// The payload bytes that it was made from. `None` if it was made from a number.
+    pub fn as_bytes(&self) -> Option<&'a [u8]>
+        ensures { option_copied result ≡ number_source self.now }
+    {
+        self.payload
     }
 
     /// The payload to store: the given bytes, or the encoded number if there are none.

@@ -30,7 +30,7 @@ impl OwnedJsonb {
     ghost use Rattle.jsonb.specs.Words.{result_bytes};
     ghost use Rattle.jsonb.specs.Words.{IsDocumentWithin, IsDocument, raw_bytes, item_document};
     ghost use Rattle.jsonb.specs.Words.{CanBeStored, document_bytes, item_view, IsTree, IsPlain};
-    ghost use Rattle.jsonb.specs.Words.{Fits, IsReadAgain, IsTextOf};
+    ghost use Rattle.jsonb.specs.Words.{Doc, Fits, IsReadAgain, IsSignedZero, IsTextOf, ItemMeans};
 
     /// Takes these bytes, unchecked.
     pub fn new(bytes: Vec<u8>) -> Self
@@ -49,11 +49,15 @@ impl OwnedJsonb {
 
     /// The bytes of the item: those of `Raw` copied and those of `Owned` moved, both unchecked; for
     /// every other item the document of the scalar, in which a number or extension value given as
-    /// bytes keeps these bytes. `InvalidJsonb`, before any allocation, if the scalar's payload
-    /// exceeds 268,435,455 bytes; `OutOfMemory` if an allocation fails.
+    /// bytes keeps these bytes. It means what the item means, but for a signed zero given as a
+    /// number, which is stored as the unsigned one. `InvalidJsonb`, before any allocation, if the
+    /// scalar's payload exceeds 268,435,455 bytes; `OutOfMemory` if an allocation fails.
     pub fn from_item(alloc: Global, item: JsonbItem) -> Result<OwnedJsonb, Error>
         ensures ok { IfOk result
             (λ owned. owned_bytes owned ≡ item_document (item_view item.entry)) }
+        ensures means { (t : Tree) → ItemMeans (item_view item.entry) t
+            → CanBeStored (item_view item.entry) → (IsSignedZero (item_view item.entry) → ⊥)
+            → Doc (item_document (item_view item.entry)) t }
         ensures limits { MadeIfFit (CanBeStored (item_view item.entry)) result }
     {
         match item {

@@ -12,4 +12,4 @@ lists the calls.
 ";
 
 /// What `--version` prints.
-pub const VERSION: &str = "jsonb_probe 0.8.0\n";
+pub const VERSION: &str = "jsonb_probe 0.9.0\n";

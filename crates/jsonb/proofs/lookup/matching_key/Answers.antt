@@ -1,6 +1,6 @@
 use Rattle.std.proofs.Common.{rules, ◌≡◌, Err, length}
 use Rattle.std.specs.Fn.{FnReturnsAtPair}
-use Rattle.jsonb.specs.Parts.{IsPassedAt, key_unread}
+use Rattle.jsonb.specs.Parts.{IsPassedAt}
 use Rattle.jsonb.proofs.PartLaws.{key_of_other_length, key_known, part_past, part_read}
 use Rattle.jsonb.proofs.lookup.matching_key.Goals as goal
 use Rattle.jsonb.proofs.lookup.matching_key.Goals.{then-size-name+in_ok-key+else-eq_func}
@@ -11,9 +11,14 @@ pub returns-in_err-key-clause-found : goal.returns-in_err-key-clause-found
 returns-in_err-key-clause-found g c =
     let refused : c.from_residual.result ≡ Err c.in_err-key.field-0.0 =
     search rules in
-    rw refused (key_unread c.loop-pair.pair c.loop-pair-test.true c.loop-pair.invariant.passed
-    (key_known _ _ _ _ _ c.loop-pair.start c.entry_within-jentry.ensures.value (search rules)
-    c.loop-pair.invariant.start _ (part_past _ _ _ _ c.in_err-key.ensures.value)))
+    rw refused record {
+      pair = c.loop-pair.pair;
+      among = c.loop-pair-test.true;
+      earlier = c.loop-pair.invariant.passed;
+      unread = key_known _ _ _ _ _ c.loop-pair.start c.entry_within-jentry.ensures.value
+          (search rules) c.loop-pair.invariant.start _
+          (part_past _ _ _ _ c.in_err-key.ensures.value);
+    }
 
 pub returns-then-eq_func-clause-found : goal.returns-then-eq_func-clause-found
 returns-then-eq_func-clause-found g c = (
