@@ -1,5 +1,7 @@
 pub mod DocumentLaws
+pub mod KeepingLaws
 pub mod LeastLaws
+pub mod MemberLaws
 pub mod NumberLaws
 pub mod OneValueLaws
 pub mod RestLaws

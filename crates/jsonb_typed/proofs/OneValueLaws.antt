@@ -13,11 +13,14 @@ use Rattle.jsonb_value.specs.declared.number.Number.TheVariants.{Int64, UInt64, 
 use Rattle.jsonb_value.specs.declared.number.Number.TheVariants.{Decimal128}
 use Rattle.jsonb_typed.specs.Numbers.{IsNumberAt}
 use Rattle.jsonb_typed.specs.TypeValues.{StandsIn, ValueOf}
+use Rattle.jsonb_typed.specs.Scalars.{ScalarOf, Stands}
 use Rattle.jsonb_typed.specs.Types.{IsNumber}
 use Rattle.jsonb_typed.specs.declared.lattice.LeastType.{LeastType}
 use Rattle.jsonb_typed.specs.declared.lattice.LeastType.TheVariants as types
 use Rattle.jsonb_typed.specs.declared.numbers.Fit.{Fit}
 use Rattle.jsonb_typed.specs.declared.numbers.Fit.TheVariants.{Exact, ByValue}
+use Rattle.jsonb_typed.specs.declared.scalar.ScalarType.{ScalarType}
+use Rattle.jsonb_typed.specs.declared.scalar.ScalarType.TheVariants as scalars
 use Rattle.jsonb_typed.proofs.NumberLaws.{one_equal}
 
 value_of_wide : (b : Bool) (scale : ℕ) (v : ℤ) (x : Number)
@@ -75,19 +78,23 @@ one_number fit scale v w (trees.extension e) first second = absurd first
 one_number fit scale v w (trees.array ts) first second = absurd first
 one_number fit scale v w (trees.object ps) first second = absurd first
 
+one_scalar : (fit : Fit) (type : ScalarType) (v w : ScalarOf type) (t : Tree)
+    → Stands fit type v t → Stands fit type w t → v ≡ w
+one_scalar fit scalars.Boolean v w t first second = let same = sym first ∙ second in cc
+one_scalar fit scalars.Int64 v w t first second = one_number fit 0 v w t first.1 second.1
+one_scalar fit scalars.UInt64 v w t first second =
+    let same = one_number fit 0 (pos v) (pos w) t first.1 second.1 in cc
+one_scalar fit (scalars.Decimal scale) v w t first second =
+    one_number fit scale v w t first.1 second.1
+one_scalar fit scalars.Text v w t first second = let same = sym first ∙ second in cc
+one_scalar fit scalars.Date v w t first second = let same = sym first ∙ second in cc
+one_scalar fit scalars.Timestamp v w t first second = let same = sym first ∙ second in cc
+one_scalar fit scalars.ZonedTimestamp v w t first second = let same = sym first ∙ second in cc
+one_scalar fit scalars.Interval v w t first second = let same = sym first ∙ second in cc
+one_scalar fit scalars.Binary v w t first second = let same = sym first ∙ second in cc
+
 pub one_value : (fit : Fit) (type : LeastType) (v w : ValueOf type) (t : Tree)
     → StandsIn fit type v t → StandsIn fit type w t → v ≡ w
 one_value fit types.Nothing v w t first second = absurd first
-one_value fit types.Boolean v w t first second = let same = sym first ∙ second in cc
-one_value fit types.Int64 v w t first second = one_number fit 0 v w t first.1 second.1
-one_value fit types.UInt64 v w t first second =
-    let same = one_number fit 0 (pos v) (pos w) t first.1 second.1 in cc
-one_value fit (types.Decimal scale) v w t first second =
-    one_number fit scale v w t first.1 second.1
-one_value fit types.Text v w t first second = let same = sym first ∙ second in cc
-one_value fit types.Date v w t first second = let same = sym first ∙ second in cc
-one_value fit types.Timestamp v w t first second = let same = sym first ∙ second in cc
-one_value fit types.ZonedTimestamp v w t first second = let same = sym first ∙ second in cc
-one_value fit types.Interval v w t first second = let same = sym first ∙ second in cc
-one_value fit types.Binary v w t first second = let same = sym first ∙ second in cc
+one_value fit (types.Of type) v w t first second = one_scalar fit type v w t first second
 one_value fit types.Mixed v w t first second = absurd first

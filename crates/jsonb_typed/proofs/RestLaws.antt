@@ -12,10 +12,13 @@ use Rattle.jsonb_functions.specs.declared.path.Step.{Step}
 use Rattle.typed_vector.specs.Cells.{Cell, absent, other, value}
 use Rattle.jsonb_typed.specs.Cells.{IsCellAt, IsCellOf}
 use Rattle.jsonb_typed.specs.LeastTypes.{IsFirstHeld, IsHeld, IsHeldAt, IsValueOf}
+use Rattle.jsonb_typed.specs.Scalars.{IsScalar, ScalarOf, Stands}
 use Rattle.jsonb_typed.specs.TypeValues.{LeavesNull, StandsIn, ValueOf}
 use Rattle.jsonb_typed.specs.declared.lattice.LeastType.{LeastType}
 use Rattle.jsonb_typed.specs.declared.lattice.LeastType.TheVariants as types
 use Rattle.jsonb_typed.specs.declared.numbers.Fit.{Fit}
+use Rattle.jsonb_typed.specs.declared.scalar.ScalarType.{ScalarType}
+use Rattle.jsonb_typed.specs.declared.scalar.ScalarType.TheVariants as scalars
 
 -- The first that holds all does hold all.
 pub first_holds : (fit : Fit) (path : List Step) (rows : List Document)
@@ -27,20 +30,25 @@ first_holds fit path rows (type ∷ candidates) found (inl (held, is)) known =
 first_holds fit path rows (type ∷ candidates) found (inr (not_held, later)) known =
     first_holds fit path rows candidates found later known
 
+-- A member that is a value of the type has one that stands for it.
+scalar_stands : (fit : Fit) (type : ScalarType) (t : Tree) → IsScalar fit type t
+    → (v : ScalarOf type) × Stands fit type v t
+scalar_stands fit scalars.Boolean t is = is
+scalar_stands fit scalars.Int64 t is = is
+scalar_stands fit scalars.UInt64 t is = is
+scalar_stands fit (scalars.Decimal scale) t is = is
+scalar_stands fit scalars.Text t is = is
+scalar_stands fit scalars.Date t is = is
+scalar_stands fit scalars.Timestamp t is = is
+scalar_stands fit scalars.ZonedTimestamp t is = is
+scalar_stands fit scalars.Interval t is = is
+scalar_stands fit scalars.Binary t is = is
+
 -- A member that is held and not null has a value that stands for it.
 value_stands : (fit : Fit) (found : LeastType) (t : Tree) → (found ≡ types.Mixed → ⊥)
     → IsValueOf fit found t → (v : ValueOf found) × StandsIn fit found v t
 value_stands fit types.Nothing t known is = absurd is
-value_stands fit types.Boolean t known is = is
-value_stands fit types.Int64 t known is = is
-value_stands fit types.UInt64 t known is = is
-value_stands fit (types.Decimal scale) t known is = is
-value_stands fit types.Text t known is = is
-value_stands fit types.Date t known is = is
-value_stands fit types.Timestamp t known is = is
-value_stands fit types.ZonedTimestamp t known is = is
-value_stands fit types.Interval t known is = is
-value_stands fit types.Binary t known is = is
+value_stands fit (types.Of type) t known is = scalar_stands fit type t is
 value_stands fit types.Mixed t known is = absurd (known refl)
 
 -- So what a row keeps beside its value is null.

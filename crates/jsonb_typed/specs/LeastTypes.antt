@@ -1,12 +1,8 @@
 -- The least type of columns that holds all members.
-use Rattle.std.specs.Prelude.{◌≡◌, ◌⊎◌, ⊤, ℕ, max, Bool, List, [], ◌∷◌, All, Option, None, Some, ℤ}
+use Rattle.std.specs.Prelude.{◌≡◌, ◌⊎◌, ⊤, ℕ, max, List, [], ◌∷◌, All, Option, None, Some}
 use Rattle.jsonb_value.specs.Order.{fraction_of}
 use Rattle.jsonb_value.specs.Tree as trees
 use Rattle.jsonb_value.specs.Tree.{Tree}
-use Rattle.jsonb_value.specs.declared.extension.Date.{Date}
-use Rattle.jsonb_value.specs.declared.extension.Interval.{Interval}
-use Rattle.jsonb_value.specs.declared.extension.Timestamp.{Timestamp}
-use Rattle.jsonb_value.specs.declared.extension.TimestampTz.{TimestampTz}
 use Rattle.jsonb.specs.declared.document.Document.{Document}
 use Rattle.jsonb.specs.Document.{document_tree}
 use Rattle.jsonb_functions.specs.declared.path.Step.{Step}
@@ -14,22 +10,14 @@ use Rattle.jsonb_functions.specs.Found.{found_at}
 use Rattle.jsonb_typed.specs.declared.lattice.LeastType.{LeastType}
 use Rattle.jsonb_typed.specs.declared.lattice.LeastType.TheVariants as types
 use Rattle.jsonb_typed.specs.declared.numbers.Fit.{Fit}
-use Rattle.jsonb_typed.specs.Types.{IsBinary, IsDecimal, IsInt64, IsText, IsUInt64}
+use Rattle.jsonb_typed.specs.declared.scalar.ScalarType.TheVariants as scalars
+use Rattle.jsonb_typed.specs.Scalars.{IsScalar}
 
--- Some value of the type stands for the member.
+-- Some value of the type stands for the member; of the first type none does, and each member is of
+-- mixed type.
 abbrev pub IsValueOf : Fit → LeastType → Tree → Type 0
 IsValueOf fit types.Nothing t = ⊥
-IsValueOf fit types.Boolean t = (v : Bool) × (t ≡ trees.boolean v)
-IsValueOf fit types.Int64 t = (v : ℤ) × IsInt64 fit v t
-IsValueOf fit types.UInt64 t = (n : ℕ) × IsUInt64 fit n t
-IsValueOf fit (types.Decimal scale) t = (v : ℤ) × IsDecimal fit scale v t
-IsValueOf fit types.Text t = (s : List ℕ) × IsText s t
-IsValueOf fit types.Date t = (d : Date) × (t ≡ trees.extension (trees.date d))
-IsValueOf fit types.Timestamp t = (s : Timestamp) × (t ≡ trees.extension (trees.timestamp s))
-IsValueOf fit types.ZonedTimestamp t =
-    (s : TimestampTz) × (t ≡ trees.extension (trees.timestamp_tz s))
-IsValueOf fit types.Interval t = (i : Interval) × (t ≡ trees.extension (trees.interval i))
-IsValueOf fit types.Binary t = (s : List ℕ) × IsBinary s t
+IsValueOf fit (types.Of type) t = IsScalar fit type t
 IsValueOf fit types.Mixed t = ⊤
 
 -- There is no member, or it is null, or a value of the type.
@@ -63,6 +51,7 @@ greatest_scale path (row ∷ rows) =
 -- The types in their order, with decimals of one scale.
 abbrev pub types_in_order : ℕ → List LeastType
 types_in_order scale =
-    types.Nothing ∷ (types.Boolean ∷ (types.Int64 ∷ (types.UInt64 ∷ (types.Decimal scale
-    ∷ (types.Text ∷ (types.Date ∷ (types.Timestamp ∷ (types.ZonedTimestamp ∷ (types.Interval
-    ∷ (types.Binary ∷ []))))))))))
+    types.Nothing ∷ (types.Of scalars.Boolean ∷ (types.Of scalars.Int64 ∷ (types.Of scalars.UInt64
+    ∷ (types.Of (scalars.Decimal scale) ∷ (types.Of scalars.Text ∷ (types.Of scalars.Date
+    ∷ (types.Of scalars.Timestamp ∷ (types.Of scalars.ZonedTimestamp ∷ (types.Of scalars.Interval
+    ∷ (types.Of scalars.Binary ∷ []))))))))))

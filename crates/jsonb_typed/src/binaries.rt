@@ -3,8 +3,8 @@
 ghost use Rattle.std.specs.Prelude.{◌≡◌, ◌∷◌, ◌++◌, [], ℕ, List, OnOk, OnErr, IfOk, IfErr};
 ghost use Rattle.std.specs.Prelude.{MatchOption, option_map};
 ghost use Rattle.std.specs.List.{AllZip};
-ghost use Rattle.jsonb_typed.specs.Words.{Cell, HoldsNoScalar, IsBinary, IsCellAt, IsCellOf};
-ghost use Rattle.jsonb_typed.specs.Words.{node_tree};
+ghost use Rattle.jsonb_typed.specs.Words.{Cell, HasCell, HoldsNoScalar, IsBinary, IsCellAt};
+ghost use Rattle.jsonb_typed.specs.Words.{IsCellOf, MadeIfFit, node_tree};
 
 use crate::keeping::{document_of, opened};
 use crate::member::member_of;
@@ -32,9 +32,10 @@ pub fn extract_binary(
     Ok(column)
 }
 
-/// Appends the member of one more row; `None` if the row has no such member. After an error, which
-/// is `OutOfMemory`, the column is as before. It is so refused also if the member is to be kept,
-/// and the document that is made of it does not fit the format or is not read again as the member.
+/// Appends the member of one more row; `None` if the row has no such member. After an error the
+/// column is as before. `InvalidJsonb`, before any allocation, exactly if the member is to be kept
+/// and has no document of its own, as every member of a document has: a payload exceeds 268,435,455
+/// bytes, or it is a signed zero that was made from a number. `OutOfMemory` if an allocation fails.
 #[tactic(auto, using(crate::proofs::DocumentLaws::some_bytes))]
 pub fn push_binary(
     alloc: Global,
@@ -44,14 +45,13 @@ pub fn push_binary(
     ensures pushed { OnOk result ((c : Cell (List ℕ)) × ((column.new ≡ column.old ++ c ∷ [])
         × IsCellOf IsBinary (option_map node_tree member.entry) c)) }
     ensures kept { OnErr result (column.new ≡ column.old) }
-    ensures memory { IfErr result (λ e. e ≡ Error.OutOfMemory) }
+    ensures limits { MadeIfFit (HasCell IsBinary member.entry) result }
 {
     let Some(member) = member else {
         column.push_absent()?;
         return Ok(());
     };
-    let member = opened(member);
-    match binary_of(member) {
+    match binary_of(opened(member)) {
         Some(bytes) => column.push_binary(bytes)?,
         None => {
             let document = document_of(alloc, member)?;

@@ -3,8 +3,8 @@
 ghost use Rattle.std.specs.Prelude.{◌≡◌, ◌∷◌, ◌++◌, [], OnOk, OnErr, IfOk, IfErr, option_map};
 ghost use Rattle.std.specs.Prelude.{◌↔◌, IsTrue};
 ghost use Rattle.std.specs.List.{AllZip};
-ghost use Rattle.jsonb_typed.specs.Words.{Cell, IsCellAt, IsCellOf, IsCellOfRow, IsDocument};
-ghost use Rattle.jsonb_typed.specs.Words.{node_tree, rest_cell};
+ghost use Rattle.jsonb_typed.specs.Words.{Cell, HasCell, IsCellAt, IsCellOf, IsCellOfRow};
+ghost use Rattle.jsonb_typed.specs.Words.{IsDocument, MadeIfFit, node_tree, rest_cell};
 
 use crate::column_type::ColumnType;
 use crate::keeping::{document_of, opened};
@@ -34,9 +34,10 @@ pub fn extract<T: ColumnType>(
     Ok(column)
 }
 
-/// Appends the member of one more row; `None` if the row has no such member. After an error, which
-/// is `OutOfMemory`, the column is as before. It is so refused also if the member is to be kept,
-/// and the document that is made of it does not fit the format or is not read again as the member.
+/// Appends the member of one more row; `None` if the row has no such member. After an error the
+/// column is as before. `InvalidJsonb`, before any allocation, exactly if the member is to be kept
+/// and has no document of its own, as every member of a document has: a payload exceeds 268,435,455
+/// bytes, or it is a signed zero that was made from a number. `OutOfMemory` if an allocation fails.
 #[tactic(auto, using(crate::proofs::DocumentLaws::some_bytes))]
 pub fn push_member<T: ColumnType>(
     alloc: Global,
@@ -47,14 +48,13 @@ pub fn push_member<T: ColumnType>(
     ensures pushed { OnOk result ((c : Cell T.Value) × ((column.new ≡ column.old ++ c ∷ [])
         × IsCellOf (T.stands column_type.now) (option_map node_tree member.entry) c)) }
     ensures kept { OnErr result (column.new ≡ column.old) }
-    ensures memory { IfErr result (λ e. e ≡ Error.OutOfMemory) }
+    ensures limits { MadeIfFit (HasCell (T.stands column_type.now) member.entry) result }
 {
     let Some(member) = member else {
         column.push_absent()?;
         return Ok(());
     };
-    let member = opened(member);
-    match column_type.value_of(member) {
+    match column_type.value_of(opened(member)) {
         Some(value) => column.push_value(value)?,
         None => {
             let document = document_of(alloc, member)?;

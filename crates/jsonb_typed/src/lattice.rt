@@ -1,18 +1,14 @@
 //! The least type of columns that holds the members of all rows.
 
-ghost use Rattle.std.specs.Prelude.{◌≡◌, ◌↔◌, All, ℕ, List, IsTrue, option_map};
-ghost use Rattle.jsonb_typed.specs.Words.{HoldsNoScalar, IsBinary, IsFirstHeld, IsHeld, IsHeldAt};
-ghost use Rattle.jsonb_typed.specs.Words.{IsText, IsValueOf, greatest_scale, member_scale};
-ghost use Rattle.jsonb_typed.specs.Words.{node_tree, types_in_order};
+ghost use Rattle.std.specs.Prelude.{◌≡◌, ◌↔◌, All, IsTrue, option_map};
+ghost use Rattle.jsonb_typed.specs.Words.{HoldsNoScalar, IsFirstHeld, IsHeld, IsHeldAt, IsValueOf};
+ghost use Rattle.jsonb_typed.specs.Words.{greatest_scale, member_scale, node_tree};
+ghost use Rattle.jsonb_typed.specs.Words.{types_in_order};
 
-use crate::binaries::binary_of;
-use crate::column_type::ColumnType;
 use crate::keeping::opened;
 use crate::member::member_of;
 use crate::numbers::{Fit, scale_of};
-use crate::types::{
-    Boolean, Dates, Decimal, Int64, Intervals, Timestamps, UInt64, ZonedTimestamps,
-};
+use crate::scalar::{ScalarType, is_scalar};
 use jsonb::{Document, Node};
 use jsonb_functions::Step;
 
@@ -21,16 +17,8 @@ use jsonb_functions::Step;
 pub enum LeastType {
     /// Each member is null.
     Nothing,
-    Boolean,
-    Int64,
-    UInt64,
-    Decimal(u8),
-    Text,
-    Date,
-    Timestamp,
-    ZonedTimestamp,
-    Interval,
-    Binary,
+    /// Each member that is not null is a value of this type.
+    Of(ScalarType),
     /// No type above holds all members.
     Mixed,
 }
@@ -46,16 +34,16 @@ pub fn least_type(rows: &[Document<'_>], path: &[Step<'_>], fit: Fit) -> LeastTy
 {
     let candidates = [
         LeastType::Nothing,
-        LeastType::Boolean,
-        LeastType::Int64,
-        LeastType::UInt64,
-        LeastType::Decimal(greatest_scale(rows, path)),
-        LeastType::Text,
-        LeastType::Date,
-        LeastType::Timestamp,
-        LeastType::ZonedTimestamp,
-        LeastType::Interval,
-        LeastType::Binary,
+        LeastType::Of(ScalarType::Boolean),
+        LeastType::Of(ScalarType::Int64),
+        LeastType::Of(ScalarType::UInt64),
+        LeastType::Of(ScalarType::Decimal(greatest_scale(rows, path))),
+        LeastType::Of(ScalarType::Text),
+        LeastType::Of(ScalarType::Date),
+        LeastType::Of(ScalarType::Timestamp),
+        LeastType::Of(ScalarType::ZonedTimestamp),
+        LeastType::Of(ScalarType::Interval),
+        LeastType::Of(ScalarType::Binary),
     ];
     first_held(rows, path, fit, &candidates)
 }
@@ -137,44 +125,7 @@ fn is_value_of(member: Node<'_>, fit: Fit, candidate: LeastType) -> bool
 {
     match candidate {
         LeastType::Nothing => false,
-        LeastType::Boolean => is_value(member, &Boolean),
-        LeastType::Int64 => is_value(member, &Int64 { fit }),
-        LeastType::UInt64 => is_value(member, &UInt64 { fit }),
-        LeastType::Decimal(scale) => is_value(member, &Decimal { scale, fit }),
-        LeastType::Text => is_text(member),
-        LeastType::Date => is_value(member, &Dates),
-        LeastType::Timestamp => is_value(member, &Timestamps),
-        LeastType::ZonedTimestamp => is_value(member, &ZonedTimestamps),
-        LeastType::Interval => is_value(member, &Intervals),
-        LeastType::Binary => is_binary(member),
+        LeastType::Of(of) => is_scalar(member, of, fit),
         LeastType::Mixed => true,
     }
-}
-
-// Whether a value of the type stands for a member.
-fn is_value<T: ColumnType>(member: Node<'_>, column_type: &T) -> bool
-    requires { HoldsNoScalar member }
-    ensures { IsTrue result
-        ↔ ((v : T.Value) × T.stands column_type.now v (node_tree member.entry)) }
-{
-    matches!(column_type.value_of(member), Some(_))
-}
-
-// Whether a member is a text.
-fn is_text(member: Node<'_>) -> bool
-    requires { HoldsNoScalar member }
-    ensures { IsTrue result ↔ ((s : List ℕ) × IsText s (node_tree member.entry)) }
-{
-    match member {
-        Node::String(_) => true,
-        _ => false,
-    }
-}
-
-// Whether a member is a binary value.
-fn is_binary(member: Node<'_>) -> bool
-    requires { HoldsNoScalar member }
-    ensures { IsTrue result ↔ ((s : List ℕ) × IsBinary s (node_tree member.entry)) }
-{
-    matches!(binary_of(member), Some(_))
 }

@@ -11,6 +11,7 @@ mod laws;
 mod member;
 mod names;
 mod numbers;
+mod scalar;
 mod survey;
 mod texts;
 mod types;
@@ -24,6 +25,7 @@ pub use laws::least_laws;
 pub use member::member_of;
 pub use names::{parse_type, type_text};
 pub use numbers::{Fit, value_at_scale};
+pub use scalar::{ScalarType, is_scalar, split_type, type_bytes};
 pub use survey::{Scales, Survey};
 pub use texts::{extract_texts, push_text};
 pub use types::{

@@ -2,10 +2,11 @@
 
 ghost use Rattle.std.specs.Prelude.{◌≡◌, IfNone, IfOk, IfSome, string_bytes};
 ghost use Rattle.jsonb_typed.specs.Words.{IsScale, IsType, LeastType, after_first, before_first};
-ghost use Rattle.jsonb_typed.specs.Words.{ends_word, scale_of_digits, type_named, type_text};
-ghost use Rattle.jsonb_typed.specs.Words.{type_word};
+ghost use Rattle.jsonb_typed.specs.Words.{ends_word, scalar_type_named, scalar_type_word};
+ghost use Rattle.jsonb_typed.specs.Words.{scale_of_digits, type_named, type_text, type_word};
 
 use crate::lattice::LeastType;
+use crate::scalar::ScalarType;
 use std::alloc::{AllocError, Global};
 
 /// The type that a text names: `decimal` and the digits after the point, as `decimal 2`, or one of
@@ -18,7 +19,7 @@ pub fn parse_type(text: &str) -> Option<LeastType>
     let (name, rest) = split_word(text);
     if name == "decimal" {
         let scale = parse_scale(rest)?;
-        return Some(LeastType::Decimal(scale));
+        return Some(LeastType::Of(ScalarType::Decimal(scale)));
     }
     type_named(name)
 }
@@ -28,7 +29,7 @@ pub fn type_text(alloc: Global, column_type: LeastType) -> Result<String, AllocE
     ensures { IfOk result (λ text. string_bytes text ≡ type_text column_type) }
 {
     match column_type {
-        LeastType::Decimal(scale) => format!(in alloc; "decimal {scale}"),
+        LeastType::Of(ScalarType::Decimal(scale)) => format!(in alloc; "decimal {scale}"),
         other => String::from_str(alloc, type_word(other)),
     }
 }
@@ -56,26 +57,35 @@ fn type_named(name: &str) -> Option<LeastType>
 {
     if name == "nothing" {
         Some(LeastType::Nothing)
-    } else if name == "boolean" {
-        Some(LeastType::Boolean)
-    } else if name == "int64" {
-        Some(LeastType::Int64)
-    } else if name == "uint64" {
-        Some(LeastType::UInt64)
-    } else if name == "text" {
-        Some(LeastType::Text)
-    } else if name == "date" {
-        Some(LeastType::Date)
-    } else if name == "timestamp" {
-        Some(LeastType::Timestamp)
-    } else if name == "timestamp_tz" {
-        Some(LeastType::ZonedTimestamp)
-    } else if name == "interval" {
-        Some(LeastType::Interval)
-    } else if name == "binary" {
-        Some(LeastType::Binary)
     } else if name == "mixed" {
         Some(LeastType::Mixed)
+    } else {
+        Some(LeastType::Of(scalar_type_named(name)?))
+    }
+}
+
+// The type of scalars of this word, but decimals.
+fn scalar_type_named(name: &str) -> Option<ScalarType>
+    ensures { result ≡ scalar_type_named name.now }
+{
+    if name == "boolean" {
+        Some(ScalarType::Boolean)
+    } else if name == "int64" {
+        Some(ScalarType::Int64)
+    } else if name == "uint64" {
+        Some(ScalarType::UInt64)
+    } else if name == "text" {
+        Some(ScalarType::Text)
+    } else if name == "date" {
+        Some(ScalarType::Date)
+    } else if name == "timestamp" {
+        Some(ScalarType::Timestamp)
+    } else if name == "timestamp_tz" {
+        Some(ScalarType::ZonedTimestamp)
+    } else if name == "interval" {
+        Some(ScalarType::Interval)
+    } else if name == "binary" {
+        Some(ScalarType::Binary)
     } else {
         None
     }
@@ -87,16 +97,25 @@ fn type_word(column_type: LeastType) -> &'static str
 {
     match column_type {
         LeastType::Nothing => "nothing",
-        LeastType::Boolean => "boolean",
-        LeastType::Int64 => "int64",
-        LeastType::UInt64 => "uint64",
-        LeastType::Decimal(_) => "decimal",
-        LeastType::Text => "text",
-        LeastType::Date => "date",
-        LeastType::Timestamp => "timestamp",
-        LeastType::ZonedTimestamp => "timestamp_tz",
-        LeastType::Interval => "interval",
-        LeastType::Binary => "binary",
+        LeastType::Of(of) => scalar_type_word(of),
         LeastType::Mixed => "mixed",
+    }
+}
+
+// The word of a type of scalars.
+fn scalar_type_word(of: ScalarType) -> &'static str
+    ensures { result.now ≡ scalar_type_word of }
+{
+    match of {
+        ScalarType::Boolean => "boolean",
+        ScalarType::Int64 => "int64",
+        ScalarType::UInt64 => "uint64",
+        ScalarType::Decimal(_) => "decimal",
+        ScalarType::Text => "text",
+        ScalarType::Date => "date",
+        ScalarType::Timestamp => "timestamp",
+        ScalarType::ZonedTimestamp => "timestamp_tz",
+        ScalarType::Interval => "interval",
+        ScalarType::Binary => "binary",
     }
 }

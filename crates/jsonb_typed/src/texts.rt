@@ -3,7 +3,8 @@
 ghost use Rattle.std.specs.Prelude.{◌≡◌, ◌∷◌, ◌++◌, [], ℕ, List, OnOk, OnErr, IfOk, IfErr};
 ghost use Rattle.std.specs.Prelude.{option_map};
 ghost use Rattle.std.specs.List.{AllZip};
-ghost use Rattle.jsonb_typed.specs.Words.{Cell, IsCellAt, IsCellOf, IsText, node_tree};
+ghost use Rattle.jsonb_typed.specs.Words.{Cell, HasCell, IsCellAt, IsCellOf, IsText, MadeIfFit};
+ghost use Rattle.jsonb_typed.specs.Words.{node_tree};
 
 use crate::keeping::{document_of, opened};
 use crate::member::member_of;
@@ -30,15 +31,16 @@ pub fn extract_texts(
     Ok(column)
 }
 
-/// Appends the member of one more row; `None` if the row has no such member. After an error, which
-/// is `OutOfMemory`, the column is as before. It is so refused also if the member is to be kept,
-/// and the document that is made of it does not fit the format or is not read again as the member.
+/// Appends the member of one more row; `None` if the row has no such member. After an error the
+/// column is as before. `InvalidJsonb`, before any allocation, exactly if the member is to be kept
+/// and has no document of its own, as every member of a document has: a payload exceeds 268,435,455
+/// bytes, or it is a signed zero that was made from a number. `OutOfMemory` if an allocation fails.
 #[tactic(auto, using(crate::proofs::DocumentLaws::some_bytes))]
 pub fn push_text(alloc: Global, column: &mut Texts, member: Option<Node<'_>>) -> Result<(), Error>
     ensures pushed { OnOk result ((c : Cell (List ℕ)) × ((column.new ≡ column.old ++ c ∷ [])
         × IsCellOf IsText (option_map node_tree member.entry) c)) }
     ensures kept { OnErr result (column.new ≡ column.old) }
-    ensures memory { IfErr result (λ e. e ≡ Error.OutOfMemory) }
+    ensures limits { MadeIfFit (HasCell IsText member.entry) result }
 {
     let Some(member) = member else {
         column.push_absent()?;
@@ -46,8 +48,8 @@ pub fn push_text(alloc: Global, column: &mut Texts, member: Option<Node<'_>>) ->
     };
     match opened(member) {
         Node::String(text) => column.push_text(text)?,
-        other => {
-            let document = document_of(alloc, other)?;
+        _ => {
+            let document = document_of(alloc, member)?;
             column.push_other(document.as_bytes())?;
         }
     }

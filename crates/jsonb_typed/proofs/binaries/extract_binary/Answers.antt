@@ -1,8 +1,9 @@
-use Rattle.std.proofs.Common.{subst}
+use Rattle.std.proofs.Common.{◌≡◌, Err, rules, subst}
 use Rattle.std.specs.Prelude.{Option}
 use Rattle.jsonb_value.specs.Tree.{Tree}
 use Rattle.jsonb_typed.specs.Cells.{IsCellAt, IsCellOf}
 use Rattle.jsonb_typed.specs.Types.{IsBinary}
+use Rattle.jsonb_typed.proofs.KeepingLaws.{only_memory}
 use Rattle.jsonb_typed.proofs.RowLaws.{more_rows}
 use Rattle.jsonb_typed.proofs.binaries.extract_binary.Goals as goal
 
@@ -13,4 +14,12 @@ loop-row-preserved c =
     more_rows (IsCellAt IsBinary c.args.path.now) c.args.rows.now c.loop-row.row-index
     c.loop-row.column c.push_binary.new.column pushed.0 c.row-item.result c.loop-row-test.true
     c.row-item.is pushed.1.0 c.loop-row.invariant
-    (subst (λ (m : Option Tree). IsCellOf IsBinary m pushed.0) c.member_of.ensures pushed.1.1)
+    (subst (λ (m : Option Tree). IsCellOf IsBinary m pushed.0) c.member_of.ensures.value pushed.1.1)
+
+-- The member of a document is refused for memory alone.
+pub returns-in_err-push_binary-clause-memory : goal.returns-in_err-push_binary-clause-memory
+returns-in_err-push_binary-clause-memory c =
+    let e = c.in_err-push_binary.field-0.0 in
+    let refused : c.push_binary.result ≡ Err e = search rules in
+    let known = only_memory IsBinary c.member_of.result c.push_binary.result e
+    c.member_of.ensures.document c.push_binary.ensures.limits refused in search rules

@@ -13,6 +13,6 @@ returns-in-Some-clause-counted c =
         cell_of_document c.args.path.now c.args.row.now row c.in-Some.ensures.bytes,
         c.add_member.ensures
             ∙ ap (λ (m : Option Tree). with_cell c.args.self.now (member_cell m))
-            c.member_of.ensures,
+            c.member_of.ensures.value,
       ),
     )

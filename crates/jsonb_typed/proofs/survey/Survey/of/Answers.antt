@@ -10,7 +10,7 @@ use Rattle.jsonb_typed.proofs.survey.Survey.of.Goals as goal
 pub loop-row-preserved : goal.loop-row-preserved
 loop-row-preserved c =
     c.add_member.ensures
-    ∙ ap (λ (m : Option Tree). with_cell c.loop-row.survey (member_cell m)) c.member_of.ensures
+    ∙ ap (λ (m : Option Tree). with_cell c.loop-row.survey (member_cell m)) c.member_of.ensures.value
     ∙ ap (λ (s : Survey). with_cell s (cell_at c.args.path.now c.row-item.result))
     c.loop-row.invariant
     ∙ survey_more c.args.path.now c.args.rows.now c.loop-row.row-index c.row-item.result

@@ -1,7 +1,7 @@
 use Rattle.std.proofs.Common.{rules, refl}
 use Rattle.jsonb.specs.Node.{node_tree}
 use Rattle.jsonb_typed.specs.Types.{IsText}
-use Rattle.jsonb_typed.proofs.lattice.is_text.Goals as goal
+use Rattle.jsonb_typed.proofs.scalar.is_text.Goals as goal
 
 pub returns-in-String : goal.returns-in-String
 returns-in-String c =
