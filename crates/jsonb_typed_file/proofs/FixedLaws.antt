@@ -1,12 +1,12 @@
 -- How many bytes the values of a column take.
 use Rattle.std.proofs.Common.{◌≡◌, ℕ, ◌+◌, ◌-◌, ◌*◌, ◌<◌, ◌≤◌, List, length, take, drop, arith}
 use Rattle.std.proofs.lemmas.List.{length-drop, take_all}
-use Rattle.jsonb_typed_file.specs.declared.types.StoredType.{StoredType}
-use Rattle.jsonb_typed_file.specs.declared.types.StoredType.TheVariants as types
+use Rattle.jsonb_typed.specs.declared.scalar.ScalarType.{ScalarType}
+use Rattle.jsonb_typed.specs.declared.scalar.ScalarType.TheVariants as types
 use Rattle.jsonb_typed_file.specs.Values.{number_size, value_size}
 
 -- The value of a row is within the numbers of all rows.
-pub value_within : (type : StoredType) (rows index : ℕ) → index < rows
+pub value_within : (type : ScalarType) (rows index : ℕ) → index < rows
     → value_size type * index + value_size type ≤ number_size type rows
 value_within types.Boolean rows index low = omega (arith, low)
 value_within types.Int64 rows index low = omega (arith, low)
@@ -20,7 +20,7 @@ value_within types.Interval rows index low = omega (arith, low)
 value_within types.Binary rows index low = omega (arith, low)
 
 -- No value takes more than 16 bytes.
-pub values_few : (type : StoredType) (rows : ℕ) → value_size type * rows ≤ 16 * rows
+pub values_few : (type : ScalarType) (rows : ℕ) → value_size type * rows ≤ 16 * rows
 values_few types.Boolean rows = omega arith
 values_few types.Int64 rows = omega arith
 values_few types.UInt64 rows = omega arith

@@ -9,15 +9,16 @@ use Rattle.std.proofs.Math.Seq.{drop-append_seam, take-append_seam}
 use Rattle.std.proofs.lemmas.List.{append-nil, length-append}
 use Rattle.std.proofs.lemmas.List.Elements.{All-head, All-tail}
 use Rattle.std.proofs.lemmas.Nat.{from_be_bytes-to_be_bytes_4, from_be_bytes-to_be_bytes_8}
-use Rattle.jsonb_column.specs.Storage.{row_bytes}
+use Rattle.jsonb.specs.StoredRow.{row_bytes}
 use Rattle.jsonb_typed_file.specs.declared.error.FileError.{FileError}
 use Rattle.jsonb_typed_file.specs.declared.error.FileError.TheVariants as errors
-use Rattle.jsonb_typed_file.specs.declared.types.StoredType.{StoredType}
-use Rattle.jsonb_typed_file.specs.declared.types.StoredType.TheVariants as types
+use Rattle.jsonb_typed.specs.declared.scalar.ScalarType.{ScalarType}
+use Rattle.jsonb_typed.specs.declared.scalar.ScalarType.TheVariants as types
 use Rattle.jsonb_typed_file.specs.Layout.{Contents, IsColumn, IsLayout, Parts, column_bytes}
-use Rattle.jsonb_typed_file.specs.Layout.{columns_bytes, file_bytes, header, type_bytes}
+use Rattle.jsonb_typed_file.specs.Layout.{columns_bytes, file_bytes, header}
 use Rattle.jsonb_typed_file.specs.Layout.{EndsEarly, HasOtherVersion, HasTrailingData, IsCutOff}
 use Rattle.jsonb_typed_file.specs.Layout.{magic}
+use Rattle.jsonb_typed.specs.Scalars.{type_bytes}
 
 -- Equal concatenations whose first parts have equal lengths have equal parts.
 pub same_parts : (a b x y : List ℕ) → length a ≡ length b → a ++ x ≡ b ++ y → (a ≡ b) × (x ≡ y)
@@ -64,7 +65,7 @@ after_head p later bytes h x column written short split =
     same_row h (head p) x _ short column.head (sym split ∙ written ∙ column_parts p later)
 
 -- The type of a code and a scale.
-abbrev type_of_code : ℕ → ℕ → StoredType
+abbrev type_of_code : ℕ → ℕ → ScalarType
 type_of_code code scale =
     if code == 0 then types.Boolean
     else if code == 1 then types.Int64
@@ -78,11 +79,11 @@ type_of_code code scale =
     else types.Binary
 
 -- The type that two bytes name.
-abbrev type_named : List ℕ → StoredType
+abbrev type_named : List ℕ → ScalarType
 type_named (code ∷ scale ∷ xs) = type_of_code code scale
 type_named xs = types.Binary
 
-type_named-type_bytes : (t : StoredType) (xs : List ℕ) → type_named (type_bytes t ++ xs) ≡ t
+type_named-type_bytes : (t : ScalarType) (xs : List ℕ) → type_named (type_bytes t ++ xs) ≡ t
 type_named-type_bytes types.Boolean xs = refl
 type_named-type_bytes types.Int64 xs = refl
 type_named-type_bytes types.UInt64 xs = refl
@@ -94,7 +95,7 @@ type_named-type_bytes types.ZonedTimestamp xs = refl
 type_named-type_bytes types.Interval xs = refl
 type_named-type_bytes types.Binary xs = refl
 
-pub length-type_bytes : (t : StoredType) → length (type_bytes t) ≡ 2
+pub length-type_bytes : (t : ScalarType) → length (type_bytes t) ≡ 2
 length-type_bytes types.Boolean = refl
 length-type_bytes types.Int64 = refl
 length-type_bytes types.UInt64 = refl
@@ -106,7 +107,7 @@ length-type_bytes types.ZonedTimestamp = refl
 length-type_bytes types.Interval = refl
 length-type_bytes types.Binary = refl
 
-pub same_head : (t u : StoredType) (x y : List ℕ) → type_bytes t ++ x ≡ type_bytes u ++ y
+pub same_head : (t u : ScalarType) (x y : List ℕ) → type_bytes t ++ x ≡ type_bytes u ++ y
     → (t ≡ u) × (x ≡ y)
 same_head t u x y same = (
   sym (type_named-type_bytes t x) ∙ ap type_named same ∙ type_named-type_bytes u y,

@@ -16,8 +16,8 @@ use Rattle.jsonb_value.specs.Tree.{number, text, timestamp, timestamp_tz}
 use Rattle.jsonb_codec.specs.Depth.{IsDocumentWithin}
 use Rattle.jsonb_codec.specs.Doc.{IsDocument}
 use Rattle.jsonb.specs.Document.{tree_in}
-use Rattle.jsonb_typed_file.specs.declared.types.StoredType.{StoredType}
-use Rattle.jsonb_typed_file.specs.declared.types.StoredType.TheVariants as types
+use Rattle.jsonb_typed.specs.declared.scalar.ScalarType.{ScalarType}
+use Rattle.jsonb_typed.specs.declared.scalar.ScalarType.TheVariants as types
 use Rattle.jsonb_typed_file.specs.File.{AscendNames, HaveRows, HaveTexts, IsFile, IsRest}
 use Rattle.jsonb_typed_file.specs.File.{LengthsFit, NestWithin, row_count}
 use Rattle.jsonb_typed_file.specs.Layout.{Contents, Parts}
@@ -28,7 +28,7 @@ use Rattle.jsonb_typed_file.specs.Values.{HasRows, IsText, IsWithin, cell_at}
 use Rattle.jsonb_typed_file.specs.Values.{is_set, number_at, number_size, string_at, value_tree}
 
 -- The bytes that are cut out are among those of a column.
-pub numbers_within : (t : StoredType) (rows index : ℕ) → index < rows
+pub numbers_within : (t : ScalarType) (rows index : ℕ) → index < rows
     → ((number_size t 0 ≤ number_size t index)
     × (number_size t index - number_size t 0 ≤ number_size t (index + 1)))
     × (number_size t (index + 1) ≤ number_size t rows)
@@ -151,7 +151,7 @@ interval_of months days micros = Some (extension (interval (record {
 })))
 
 -- The value of the row.
-value_alone : (t : StoredType) (numbers texts : List ℕ) (index : ℕ)
+value_alone : (t : ScalarType) (numbers texts : List ℕ) (index : ℕ)
     → value_tree t
     (cut (number_size t index - number_size t 0) (number_size t (index + 1)) numbers) texts 0
     ≡ value_tree t numbers texts index
@@ -236,7 +236,7 @@ cut_length start end bytes within =
     length-take-le (end - start) (drop start bytes)
     (omega (arith, within, length-drop start bytes))
 
-numbers_alone : (t : StoredType) (rows index : ℕ) (numbers : List ℕ) → index < rows
+numbers_alone : (t : ScalarType) (rows index : ℕ) (numbers : List ℕ) → index < rows
     → length numbers ≡ number_size t rows
     → length (cut (number_size t index - number_size t 0) (number_size t (index + 1)) numbers)
     ≡ number_size t 1
@@ -245,7 +245,7 @@ numbers_alone t rows index numbers low size =
     (subst (λ n. number_size t (index + 1) ≤ n) (sym size) (numbers_within t rows index low).1)
     ∙ sizes t index
   where
-    sizes : (t : StoredType) (index : ℕ)
+    sizes : (t : ScalarType) (index : ℕ)
         → number_size t (index + 1) - (number_size t index - number_size t 0) ≡ number_size t 1
     sizes types.Boolean index = omega arith
     sizes types.Int64 index = omega arith
@@ -317,7 +317,7 @@ names_alone before [] index names = tt
 names_alone before (p ∷ ps) index names = (names.0, names_alone (Some p.name) ps index names.1)
 
 -- The texts of the columns.
-text_alone : (t : StoredType) (numbers texts : List ℕ) (index : ℕ) → IsText t numbers texts index
+text_alone : (t : ScalarType) (numbers texts : List ℕ) (index : ℕ) → IsText t numbers texts index
     → IsText t (cut (number_size t index - number_size t 0) (number_size t (index + 1)) numbers)
     texts 0
 text_alone types.Boolean numbers texts index is = tt

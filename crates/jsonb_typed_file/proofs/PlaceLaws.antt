@@ -6,12 +6,13 @@ use Rattle.std.specs.Int.{w64, to_be_bytes}
 use Rattle.std.specs.List.{AllZip}
 use Rattle.std.proofs.Math.Seq.{drop-append_seam, take-append_seam}
 use Rattle.std.proofs.lemmas.List.{append-nil, length-append}
-use Rattle.jsonb_column.specs.Storage.{row_bytes}
+use Rattle.jsonb.specs.StoredRow.{row_bytes}
 use Rattle.jsonb_typed_file.specs.declared.buffers.Buffers.{Buffers}
 use Rattle.jsonb_typed_file.specs.declared.places.ColumnPlaces.{ColumnPlaces}
 use Rattle.jsonb_typed_file.specs.declared.places.SectionPlace.{SectionPlace}
 use Rattle.jsonb_typed_file.specs.Layout.{Contents, IsLayout, Parts, column_bytes, columns_bytes}
-use Rattle.jsonb_typed_file.specs.Layout.{header, type_bytes}
+use Rattle.jsonb_typed_file.specs.Layout.{header}
+use Rattle.jsonb_typed.specs.Scalars.{type_bytes}
 use Rattle.jsonb_typed_file.specs.Places.{IsColumnAt, LiesAt}
 use Rattle.jsonb_typed_file.specs.Views.{buffers_view}
 use Rattle.jsonb_typed_file.proofs.FormLaws.{later_is}

@@ -2,9 +2,9 @@
 use Rattle.std.specs.Prelude.{◌≡◌, ◌≢◌, ◌<◌, ◌^◌, ℕ, List, [], ◌∷◌, ◌++◌, All, codes, length}
 use Rattle.std.specs.Int.{w32, to_be_bytes}
 use Rattle.std.specs.Str.{IsUtf8}
-use Rattle.jsonb_column.specs.Storage.{row_bytes}
-use Rattle.jsonb_typed_file.specs.declared.types.StoredType.{StoredType}
-use Rattle.jsonb_typed_file.specs.declared.types.StoredType.TheVariants as types
+use Rattle.jsonb.specs.StoredRow.{row_bytes}
+use Rattle.jsonb_typed.specs.declared.scalar.ScalarType.{ScalarType}
+use Rattle.jsonb_typed.specs.Scalars.{type_bytes}
 
 -- The first bytes of each file.
 abbrev pub magic : List ℕ
@@ -14,23 +14,10 @@ magic = codes "KOHITYPE"
 abbrev pub header : ℕ → List ℕ
 header n = magic ++ (to_be_bytes w32 1 ++ to_be_bytes w32 n)
 
--- The code of a type, and the scale of decimals.
-abbrev pub type_bytes : StoredType → List ℕ
-type_bytes types.Boolean = 0 ∷ 0 ∷ []
-type_bytes types.Int64 = 1 ∷ 0 ∷ []
-type_bytes types.UInt64 = 2 ∷ 0 ∷ []
-type_bytes (types.Decimal scale) = 3 ∷ scale ∷ []
-type_bytes types.Text = 4 ∷ 0 ∷ []
-type_bytes types.Date = 5 ∷ 0 ∷ []
-type_bytes types.Timestamp = 6 ∷ 0 ∷ []
-type_bytes types.ZonedTimestamp = 7 ∷ 0 ∷ []
-type_bytes types.Interval = 8 ∷ 0 ∷ []
-type_bytes types.Binary = 9 ∷ 0 ∷ []
-
 -- A column as it is stored.
 pub record Parts : Type 0 where
   pub name : List ℕ
-  pub type : StoredType
+  pub type : ScalarType
   pub flags : List ℕ
   pub numbers : List ℕ
   pub texts : List ℕ

@@ -12,8 +12,8 @@ use Rattle.jsonb_value.specs.declared.extension.Timestamp.{Timestamp}
 use Rattle.jsonb_value.specs.declared.extension.TimestampTz.{TimestampTz}
 use Rattle.jsonb_value.specs.Tree.{Extension, Tree, binary, boolean, date, extension, interval}
 use Rattle.jsonb_value.specs.Tree.{number, text, timestamp, timestamp_tz}
-use Rattle.jsonb_typed_file.specs.declared.types.StoredType.{StoredType}
-use Rattle.jsonb_typed_file.specs.declared.types.StoredType.TheVariants as types
+use Rattle.jsonb_typed.specs.declared.scalar.ScalarType.{ScalarType}
+use Rattle.jsonb_typed.specs.declared.scalar.ScalarType.TheVariants as types
 use Rattle.jsonb_typed_file.specs.Layout.{Parts}
 
 -- The number in so many bytes, the highest first, at an index.
@@ -33,7 +33,7 @@ IsWithin offsets bytes index =
     × (number_at 8 (index + 1) offsets ≤ length bytes)
 
 -- How many bytes a value takes in the numbers of a column; of texts and binary values, an offset.
-abbrev pub value_size : StoredType → ℕ
+abbrev pub value_size : ScalarType → ℕ
 value_size types.Boolean = 1
 value_size types.Int64 = 8
 value_size types.UInt64 = 8
@@ -69,7 +69,7 @@ interval_in bytes = record {
 }
 
 -- The extension value in the first bytes, of a type whose values all take as many.
-abbrev pub extension_in : StoredType → List ℕ → Option Extension
+abbrev pub extension_in : ScalarType → List ℕ → Option Extension
 extension_in types.Date bytes = Some (date (date_in bytes))
 extension_in types.Timestamp bytes = Some (timestamp (timestamp_in bytes))
 extension_in types.ZonedTimestamp bytes = Some (timestamp_tz (zoned_timestamp_in bytes))
@@ -77,7 +77,7 @@ extension_in types.Interval bytes = Some (interval (interval_in bytes))
 extension_in type bytes = None
 
 -- The value in the first bytes, of a type whose values all take as many.
-abbrev pub fixed_value : StoredType → List ℕ → Option Tree
+abbrev pub fixed_value : ScalarType → List ℕ → Option Tree
 fixed_value types.Boolean bytes = Some (boolean (not (get_or bytes 0 0 == 0)))
 fixed_value types.Int64 bytes =
     option_map number (number_of 0 (cast_signed w64 (big_number 8 bytes)))
@@ -87,7 +87,7 @@ fixed_value (types.Decimal scale) bytes =
 fixed_value type bytes = option_map extension (extension_in type bytes)
 
 -- The value of a row in the buffers of a column of the type.
-abbrev pub value_tree : StoredType → List ℕ → List ℕ → ℕ → Option Tree
+abbrev pub value_tree : ScalarType → List ℕ → List ℕ → ℕ → Option Tree
 value_tree types.Text numbers texts index = Some (text (string_at numbers texts index))
 value_tree types.Binary numbers texts index =
     Some (extension (binary (string_at numbers texts index)))
@@ -108,13 +108,13 @@ abbrev pub cell_within : ℕ → Parts → ℕ → Option Tree
 cell_within rows p index = if nat_lt index rows then cell_at p index else None
 
 -- How many bytes the numbers of so many rows take: of texts and binary values one offset more.
-abbrev pub number_size : StoredType → ℕ → ℕ
+abbrev pub number_size : ScalarType → ℕ → ℕ
 number_size types.Text rows = 8 * (rows + 1)
 number_size types.Binary rows = 8 * (rows + 1)
 number_size type rows = value_size type * rows
 
 -- Only a column of texts or binary values has bytes of them.
-abbrev pub HasTexts : StoredType → List ℕ → Type 0
+abbrev pub HasTexts : ScalarType → List ℕ → Type 0
 HasTexts types.Text texts = ⊤
 HasTexts types.Binary texts = ⊤
 HasTexts type texts = texts ≡ []
@@ -126,7 +126,7 @@ pub record HasRows (rows : ℕ) (p : Parts) : Type 0 where
   pub texts : HasTexts p.type p.texts
 
 -- The text of a row is UTF-8 within the bytes, or its binary value is within them.
-abbrev pub IsText : StoredType → List ℕ → List ℕ → ℕ → Type 0
+abbrev pub IsText : ScalarType → List ℕ → List ℕ → ℕ → Type 0
 IsText types.Text numbers texts index =
     IsWithin numbers texts index × IsUtf8 (string_at numbers texts index)
 IsText types.Binary numbers texts index = IsWithin numbers texts index

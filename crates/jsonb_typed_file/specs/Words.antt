@@ -1,13 +1,14 @@
 -- The names that the clauses of this crate cite, passed on from one place.
 pub use Rattle.jsonb_value.specs.Json.Numeral.{number_of}
 pub use Rattle.jsonb_value.specs.Tree.{number}
-pub use Rattle.jsonb_column.specs.Storage.{row_bytes}
+pub use Rattle.jsonb.specs.StoredRow.{row_bytes}
+pub use Rattle.jsonb_typed.specs.Scalars.{type_bytes}
+pub use Rattle.jsonb_typed.specs.declared.scalar.ScalarType.{ScalarType}
 pub use Rattle.jsonb_typed_file.specs.Layout.{Contents, HasOtherVersion, IsColumn, IsLayout, Parts}
 pub use Rattle.jsonb_typed_file.specs.Layout.{column_bytes, columns_bytes, header}
-pub use Rattle.jsonb_typed_file.specs.Layout.{magic, type_bytes, EndsEarly, HasNoMagic}
+pub use Rattle.jsonb_typed_file.specs.Layout.{magic, EndsEarly, HasNoMagic}
 pub use Rattle.jsonb_typed_file.specs.Layout.{HasTrailingData, IsCutOff}
 pub use Rattle.jsonb_typed_file.specs.Views.{buffers_view, layout_view}
-pub use Rattle.jsonb_typed_file.specs.declared.types.StoredType.{StoredType}
 pub use Rattle.jsonb_typed_file.specs.Values.{AreTexts, Column, HasRows, HasTexts, IsChecked}
 pub use Rattle.jsonb_typed_file.specs.Values.{IsText, IsWithin}
 pub use Rattle.jsonb_typed_file.specs.Values.{cell_at, cell_within, is_set}

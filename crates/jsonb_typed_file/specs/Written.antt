@@ -9,34 +9,18 @@ use Rattle.jsonb_codec.specs.Canon.{Fits, canon}
 use Rattle.jsonb.specs.declared.document.Document.{Document}
 use Rattle.jsonb.specs.Document.{document_tree}
 use Rattle.jsonb.specs.Node.{value_of_key}
-use Rattle.jsonb_typed.specs.declared.lattice.LeastType.{LeastType}
-use Rattle.jsonb_typed.specs.declared.lattice.LeastType.TheVariants as members
 use Rattle.jsonb_typed.specs.declared.numbers.Fit.TheVariants.{Exact}
-use Rattle.jsonb_typed.specs.LeastTypes.{IsValueOf}
-use Rattle.jsonb_typed_file.specs.declared.types.StoredType.{StoredType}
-use Rattle.jsonb_typed_file.specs.declared.types.StoredType.TheVariants as types
+use Rattle.jsonb_typed.specs.Scalars.{IsScalar}
+use Rattle.jsonb_typed.specs.declared.scalar.ScalarType.{ScalarType}
 use Rattle.jsonb_typed_file.specs.declared.write.ColumnPlan.{ColumnPlan}
 use Rattle.jsonb_typed_file.specs.File.{IsFile, row_count}
 use Rattle.jsonb_typed_file.specs.Layout.{Contents, Parts}
 use Rattle.jsonb_typed_file.specs.Rows.{row_tree}
 use Rattle.jsonb_typed_file.specs.Values.{cell_at}
 
--- The type of columns in memory that a stored type is.
-abbrev pub member_type : StoredType → LeastType
-member_type types.Boolean = members.Boolean
-member_type types.Int64 = members.Int64
-member_type types.UInt64 = members.UInt64
-member_type (types.Decimal scale) = members.Decimal scale
-member_type types.Text = members.Text
-member_type types.Date = members.Date
-member_type types.Timestamp = members.Timestamp
-member_type types.ZonedTimestamp = members.ZonedTimestamp
-member_type types.Interval = members.Interval
-member_type types.Binary = members.Binary
-
 -- The member is a value of the type, with its kind and its digits.
-abbrev pub IsStored : StoredType → Tree → Type 0
-IsStored type t = IsValueOf Exact (member_type type) t
+abbrev pub IsStored : ScalarType → Tree → Type 0
+IsStored type t = IsScalar Exact type t
 
 -- The tree of a truth value, a number, a text or an extension value.
 abbrev pub scalar_tree : Tree → Option Tree
@@ -47,7 +31,7 @@ scalar_tree (extension e) = Some (extension e)
 scalar_tree t = None
 
 -- A column has the member if that is a value of its type, and otherwise no value.
-abbrev pub IsCell : StoredType → Option Tree → Option Tree → Type 0
+abbrev pub IsCell : ScalarType → Option Tree → Option Tree → Type 0
 IsCell type None cell = cell ≡ None
 IsCell type (Some t) cell =
     (IsStored type t × (cell ≡ Some t)) ⊎ ((IsStored type t → ⊥) × (cell ≡ None))

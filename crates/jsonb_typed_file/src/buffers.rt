@@ -10,14 +10,14 @@ ghost use Rattle.jsonb_typed_file.specs.OneRow.{column_of_row, flags_of_row};
 use crate::column::StoredValue;
 use crate::fixed::{fixed_value, value_size};
 use crate::strings::Strings;
-use crate::types::StoredType;
 use jsonb::ExtensionValue;
+use jsonb_typed::ScalarType;
 
 /// A column's name, its type and its buffers.
 #[derive(Clone, Copy, Debug)]
 pub struct Buffers<'a> {
     pub name: &'a str,
-    pub column_type: StoredType,
+    pub column_type: ScalarType,
     pub flags: &'a [u8],
     pub numbers: &'a [u8],
     pub texts: &'a [u8],
@@ -48,11 +48,11 @@ impl<'a> Buffers<'a> {
             ≡ value_tree self.now.column_type self.now.numbers.now self.now.texts.now index }
     {
         match self.column_type {
-            StoredType::Text => match self.text(index) {
+            ScalarType::Text => match self.text(index) {
                 Some(text) => Some(StoredValue::Text(text)),
                 None => None,
             },
-            StoredType::Binary => match self.bytes(index) {
+            ScalarType::Binary => match self.bytes(index) {
                 Some(bytes) => Some(StoredValue::Extension(ExtensionValue::Binary(bytes))),
                 None => None,
             },
@@ -67,8 +67,8 @@ impl<'a> Buffers<'a> {
     fn text(&self, index: usize) -> Option<&'a str>
         requires { 8 * (index + 2) ≤ length self.now.numbers.now }
         ensures { MatchOption result
-            (IsText StoredType.Text self.now.numbers.now self.now.texts.now index → ⊥)
-            (λ text. IsText StoredType.Text self.now.numbers.now self.now.texts.now index
+            (IsText ScalarType.Text self.now.numbers.now self.now.texts.now index → ⊥)
+            (λ text. IsText ScalarType.Text self.now.numbers.now self.now.texts.now index
             × (text.now ≡ string_at self.now.numbers.now self.now.texts.now index)) }
     {
         str::from_utf8(self.bytes(index)?).ok()
@@ -97,8 +97,8 @@ impl<'a> Buffers<'a> {
             ↔ IsText self.now.column_type self.now.numbers.now self.now.texts.now index }
     {
         match self.column_type {
-            StoredType::Text => self.text(index).is_some(),
-            StoredType::Binary => self.bytes(index).is_some(),
+            ScalarType::Text => self.text(index).is_some(),
+            ScalarType::Binary => self.bytes(index).is_some(),
             _ => true,
         }
     }
@@ -119,7 +119,7 @@ impl<'a> Buffers<'a> {
         ensures { IsTrue result ↔ AreTexts rows (buffers_view self.now) }
     {
         match self.column_type {
-            StoredType::Text | StoredType::Binary => self.all_texts(rows),
+            ScalarType::Text | ScalarType::Binary => self.all_texts(rows),
             _ => true,
         }
     }
@@ -180,22 +180,22 @@ fn flags_of_row(flags: &[u8], index: usize) -> &'static [u8]
 
 // How many bytes the numbers of so many rows take.
 #[tactic(auto, using(crate::proofs::FixedLaws::values_few))]
-fn number_size(column_type: StoredType, rows: usize) -> usize
+fn number_size(column_type: ScalarType, rows: usize) -> usize
     requires { rows < 2 ^ 60 - 1 }
     ensures { result ≡ number_size column_type rows }
 {
     match column_type {
-        StoredType::Text | StoredType::Binary => 8 * (rows + 1),
+        ScalarType::Text | ScalarType::Binary => 8 * (rows + 1),
         _ => value_size(column_type) * rows,
     }
 }
 
 // Whether there are no bytes of texts but in a column of texts or binary values.
-fn has_texts(column_type: StoredType, texts: &[u8]) -> bool
+fn has_texts(column_type: ScalarType, texts: &[u8]) -> bool
     ensures { IsTrue result ↔ HasTexts column_type texts.now }
 {
     match column_type {
-        StoredType::Text | StoredType::Binary => true,
+        ScalarType::Text | ScalarType::Binary => true,
         _ => texts.is_empty(),
     }
 }

@@ -5,8 +5,8 @@ ghost use Rattle.jsonb_typed_file.specs.Words.{Column, IsChecked, buffers_view, 
 ghost use Rattle.jsonb_typed_file.specs.Words.{value_view};
 
 use crate::buffers::Buffers;
-use crate::types::StoredType;
 use jsonb::{ExtensionValue, Number};
+use jsonb_typed::ScalarType;
 use std::marker::Model;
 
 /// A checked column of a file: its name, its type and its buffers, which borrow the bytes of the
@@ -63,7 +63,7 @@ impl<'a> StoredColumn<'a> {
     }
 
     /// The type of the values.
-    pub fn column_type(&self) -> StoredType
+    pub fn column_type(&self) -> ScalarType
         ensures { result ≡ self.now.parts.type }
     {
         self.buffers.column_type

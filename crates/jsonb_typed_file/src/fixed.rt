@@ -8,37 +8,36 @@ ghost use Rattle.jsonb_typed_file.specs.Words.{interval_in, number, number_of, t
 ghost use Rattle.jsonb_typed_file.specs.Words.{value_size, value_view, zoned_timestamp_in};
 
 use crate::column::StoredValue;
-use crate::types::StoredType;
 use byteorder::{BigEndian, ByteOrder};
 use jsonb::{Date, ExtensionValue, Interval, Number, Timestamp, TimestampTz};
-use jsonb_typed::{Fit, value_at_scale};
+use jsonb_typed::{Fit, ScalarType, value_at_scale};
 use std::alloc::AllocError;
 
 // How many bytes a value takes in the numbers of a column, or an offset.
-pub(crate) fn value_size(column_type: StoredType) -> usize
+pub(crate) fn value_size(column_type: ScalarType) -> usize
     ensures size { result ≡ value_size column_type }
     ensures few { result ≤ 16 }
 {
     match column_type {
-        StoredType::Boolean => 1,
-        StoredType::Date => 4,
-        StoredType::Int64 | StoredType::UInt64 | StoredType::Timestamp => 8,
-        StoredType::Text | StoredType::Binary => 8,
-        StoredType::ZonedTimestamp => 12,
-        StoredType::Decimal(_) | StoredType::Interval => 16,
+        ScalarType::Boolean => 1,
+        ScalarType::Date => 4,
+        ScalarType::Int64 | ScalarType::UInt64 | ScalarType::Timestamp => 8,
+        ScalarType::Text | ScalarType::Binary => 8,
+        ScalarType::ZonedTimestamp => 12,
+        ScalarType::Decimal(_) | ScalarType::Interval => 16,
     }
 }
 
 // The value in the first bytes, of a type whose values all take as many.
-pub(crate) fn fixed_value<'a>(column_type: StoredType, bytes: &[u8]) -> Option<StoredValue<'a>>
+pub(crate) fn fixed_value<'a>(column_type: ScalarType, bytes: &[u8]) -> Option<StoredValue<'a>>
     requires { value_size column_type ≤ length bytes.now }
     ensures { option_map value_view result ≡ fixed_value column_type bytes.now }
 {
     match column_type {
-        StoredType::Boolean => Some(StoredValue::Boolean(bytes[0] != 0)),
-        StoredType::Int64 => number(0, i128::from(BigEndian::read_i64(bytes))),
-        StoredType::UInt64 => number(0, i128::from(BigEndian::read_u64(bytes))),
-        StoredType::Decimal(scale) => number(scale, decimal_in(bytes)),
+        ScalarType::Boolean => Some(StoredValue::Boolean(bytes[0] != 0)),
+        ScalarType::Int64 => number(0, i128::from(BigEndian::read_i64(bytes))),
+        ScalarType::UInt64 => number(0, i128::from(BigEndian::read_u64(bytes))),
+        ScalarType::Decimal(scale) => number(scale, decimal_in(bytes)),
         _ => Some(StoredValue::Extension(extension_in(column_type, bytes)?)),
     }
 }
@@ -51,15 +50,15 @@ fn number<'a>(scale: u8, value: i128) -> Option<StoredValue<'a>>
 }
 
 // The extension value in the first bytes, of a type whose values all take as many.
-fn extension_in<'a>(column_type: StoredType, bytes: &[u8]) -> Option<ExtensionValue<'a>>
+fn extension_in<'a>(column_type: ScalarType, bytes: &[u8]) -> Option<ExtensionValue<'a>>
     requires { value_size column_type ≤ length bytes.now }
     ensures { option_map extension_of result ≡ extension_in column_type bytes.now }
 {
     match column_type {
-        StoredType::Date => Some(ExtensionValue::Date(date_in(bytes))),
-        StoredType::Timestamp => Some(ExtensionValue::Timestamp(timestamp_in(bytes))),
-        StoredType::ZonedTimestamp => Some(ExtensionValue::TimestampTz(zoned_timestamp_in(bytes))),
-        StoredType::Interval => Some(ExtensionValue::Interval(interval_in(bytes))),
+        ScalarType::Date => Some(ExtensionValue::Date(date_in(bytes))),
+        ScalarType::Timestamp => Some(ExtensionValue::Timestamp(timestamp_in(bytes))),
+        ScalarType::ZonedTimestamp => Some(ExtensionValue::TimestampTz(zoned_timestamp_in(bytes))),
+        ScalarType::Interval => Some(ExtensionValue::Interval(interval_in(bytes))),
         _ => None,
     }
 }
@@ -136,7 +135,7 @@ fn i64_after(bytes: &[u8], count: usize) -> i64
 // Appends a value of the type, or zeros if there is none.
 pub(crate) fn append_fixed(
     numbers: &mut Vec<u8>,
-    column_type: StoredType,
+    column_type: ScalarType,
     value: Option<StoredValue<'_>>,
 ) -> Result<(), AllocError> {
     match value {
@@ -150,11 +149,11 @@ pub(crate) fn append_fixed(
 // Appends a number without its point, at the scale of the type.
 fn append_number(
     numbers: &mut Vec<u8>,
-    column_type: StoredType,
+    column_type: ScalarType,
     number: Number,
 ) -> Result<(), AllocError> {
     let scale = match column_type {
-        StoredType::Decimal(scale) => scale,
+        ScalarType::Decimal(scale) => scale,
         _ => 0,
     };
     let value = value_at_scale(number, scale, Fit::Exact).unwrap_or(0);

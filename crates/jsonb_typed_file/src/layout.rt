@@ -11,8 +11,8 @@ use crate::buffers::Buffers;
 use crate::error::FileError;
 use crate::header::split_header;
 use crate::strings::Strings;
-use crate::types::split_type;
-use jsonb_column::split_row;
+use jsonb::split_row;
+use jsonb_typed::split_type;
 use std::alloc::Global;
 
 /// The sections of a file.

@@ -16,12 +16,10 @@ mod places;
 mod row;
 mod stored;
 mod strings;
-mod types;
 mod write;
 
 pub use column::{StoredColumn, StoredValue};
 pub use error::{FileError, WriteError};
 pub use file::TypedFile;
 pub use places::{ColumnPlaces, SectionPlace, column_places};
-pub use types::{StoredType, split_type, type_bytes};
 pub use write::{ColumnPlan, write_file};

@@ -12,7 +12,7 @@ ghost use Rattle.jsonb_typed_file.specs.Words.{row_count};
 use crate::buffers::Buffers;
 use crate::error::FileError;
 use crate::file::read_sized;
-use crate::types::StoredType;
+use jsonb_typed::ScalarType;
 use std::alloc::{AllocError, Global};
 
 /// Where bytes lie in a file.
@@ -30,7 +30,7 @@ pub struct ColumnPlaces {
     /// The number of rows of the file.
     pub rows: usize,
     /// The type of the values.
-    pub column_type: StoredType,
+    pub column_type: ScalarType,
     /// The key of the members that are kept in the column.
     pub name: SectionPlace,
     /// The flags, which say which rows have a value.

@@ -12,10 +12,9 @@ use crate::fixed::append_fixed;
 use crate::form::is_above;
 use crate::header::append_header;
 use crate::stored::cell_of;
-use crate::types::{StoredType, type_bytes};
-use jsonb::{Document, Error, ExtensionValue};
-use jsonb_column::append_row;
+use jsonb::{Document, Error, ExtensionValue, append_row};
 use jsonb_functions::{Kept, pick};
+use jsonb_typed::{ScalarType, type_bytes};
 use std::alloc::{AllocError, Global};
 
 /// A column to be written. A member with this key is kept in the column if the type holds its value
@@ -25,7 +24,7 @@ pub struct ColumnPlan<'a> {
     /// The key.
     pub name: &'a str,
     /// The type.
-    pub column_type: StoredType,
+    pub column_type: ScalarType,
 }
 
 /// The bytes of a file of these rows, with a column for each plan. A member is kept in the column
@@ -91,7 +90,7 @@ struct Filling {
 
 impl Filling {
     // The buffers of no rows.
-    fn new(alloc: Global, column_type: StoredType) -> Result<Self, AllocError> {
+    fn new(alloc: Global, column_type: ScalarType) -> Result<Self, AllocError> {
         let mut numbers = Vec::new(alloc);
         if holds_texts(column_type) {
             numbers.extend_from_slice(&[0; 8])?;
@@ -107,7 +106,7 @@ impl Filling {
     fn push(
         &mut self,
         index: usize,
-        column_type: StoredType,
+        column_type: ScalarType,
         value: Option<StoredValue<'_>>,
     ) -> Result<(), AllocError> {
         self.push_flag(index, value.is_some())?;
@@ -133,8 +132,8 @@ impl Filling {
 }
 
 // Whether the values of a column are texts or binary values.
-fn holds_texts(column_type: StoredType) -> bool {
-    matches!(column_type, StoredType::Text | StoredType::Binary)
+fn holds_texts(column_type: ScalarType) -> bool {
+    matches!(column_type, ScalarType::Text | ScalarType::Binary)
 }
 
 // The bytes of a text or a binary value; none of any other.

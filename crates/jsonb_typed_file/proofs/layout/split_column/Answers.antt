@@ -1,6 +1,6 @@
 use Rattle.std.proofs.Common.{◌++◌, sym, subst, ◌∙◌}
 use Rattle.std.specs.Str.{IsUtf8}
-use Rattle.jsonb_column.specs.Storage.{row_bytes}
+use Rattle.jsonb.specs.StoredRow.{row_bytes}
 use Rattle.jsonb_typed_file.proofs.LayoutLaws.{after_head, goes_behind, no_true, same_head}
 use Rattle.jsonb_typed_file.proofs.LayoutLaws.{same_row}
 use Rattle.jsonb_typed_file.proofs.layout.split_column.Goals as goal
