@@ -88,15 +88,6 @@ extern "C" {
         count: usize,
         times: usize,
     ) -> usize;
-    fn measured_column(
-        stored: *const u8,
-        length: usize,
-        keys: *const u8,
-        keys_length: usize,
-        name: *const u8,
-        name_length: usize,
-        step: usize,
-    ) -> usize;
 }
 
 unsafe extern "C" {
@@ -776,79 +767,8 @@ fn objects_as_json() -> serde_json::Value {
     serde_json::Value::Array((0..10_000).map(object).collect())
 }
 
-// A column of 100,000 rows of ten keys: read and checked, sorted, searched for each of its rows,
-// and one selection. The crate's side is a vector of views. Its load builds each value: that is its
-// check.
-fn column() {
-    let row = |i: usize| {
-        let pairs = (0..10).map(|k| {
-            (
-                format!("key{k:02}"),
-                Value::Number(Number::UInt64(((i * 7919 + k * i) % 100_003) as u64)),
-            )
-        });
-        Value::Object(pairs.collect::<BTreeMap<_, _>>())
-    };
-    let stored = |documents: &[Vec<u8>]| {
-        documents
-            .iter()
-            .flat_map(|d| [&(d.len() as u64).to_be_bytes(), d.as_slice()].concat())
-            .collect::<Vec<u8>>()
-    };
-    let documents: Vec<Vec<u8>> = (0..100_000).map(|i| encoded(&row(i))).collect();
-    let rows = stored(&documents);
-    let wanted = Number::UInt64(7919);
-    let value = stored(&[encoded(&Value::Number(wanted.clone()))]);
-    let ours = |keys: &[u8], step| unsafe {
-        measured_column(
-            rows.as_ptr(),
-            rows.len(),
-            keys.as_ptr(),
-            keys.len(),
-            "key00".as_ptr(),
-            5,
-            step,
-        )
-    };
-    let load = || documents.iter().filter(|d| api::decode(d).is_ok()).count();
-    let sorted = || {
-        let mut all: Vec<RawJsonb> = documents.iter().map(|d| RawJsonb::new(d)).collect();
-        all.sort();
-        all
-    };
-    let order = sorted();
-    let search = || {
-        documents
-            .iter()
-            .map(|key| {
-                let key = RawJsonb::new(key);
-                let from = order.partition_point(|row| *row < key);
-                order[from..].partition_point(|row| *row <= key)
-            })
-            .sum()
-    };
-    let select = || {
-        documents
-            .iter()
-            .filter(|d| api::has_number(d, "key00", &wanted))
-            .count()
-    };
-    assert_eq!(ours(&value, 3), select());
-    let (loaded, theirs) = fastest(|| ours(&[], 0), load);
-    report("column", "load", rows.len(), loaded, theirs);
-    // Our calls read the rows first, and the keys where there are some: what they take beyond that
-    // is the step's alone.
-    let (selected, theirs) = fastest(|| ours(&value, 3), select);
-    report("column", "select", rows.len(), selected - loaded, theirs);
-    let (ordered, theirs) = fastest(|| ours(&value, 1), || sorted().len());
-    report("column", "sort", rows.len(), ordered - loaded, theirs);
-    let (with_keys, _) = fastest(|| ours(&rows, 1), || 0);
-    let (searched, theirs) = fastest(|| ours(&rows, 2), search);
-    report("column", "search", rows.len(), searched - with_keys, theirs);
-}
-
 fn main() {
-    let parts: [(&str, fn()); 10] = [
+    let parts: [(&str, fn()); 9] = [
         ("documents", documents),
         ("look_ups", look_ups),
         ("sorts", sorts),
@@ -858,7 +778,6 @@ fn main() {
         ("texts", texts),
         ("kinds_of_text", kinds_of_text),
         ("sizes", sizes),
-        ("column", column),
     ];
     let wanted: Vec<String> = std::env::args().skip(1).collect();
     for (name, part) in parts {

@@ -55,7 +55,6 @@ SPEEDS = [
     ("services parse", "read a text as services send them (serde_json)"),
     ("objects print", "print a document (serde_json)"),
     ("objects text", "the same of a checked `Document`"),
-    ("column load", "read a stored column of 100,000 rows"),
 ]
 
 # The texts of texts.py, and what they hold.
@@ -146,8 +145,6 @@ def tables(found):
              ["`to_string` of a `Document`, the same", cell(found["objects text"])]]
     kinds = [[name] + [cell(found[f"{row} parse{side}"]) for side in SIDES]
              for row, name in KINDS]
-    column = [[call, cell(found[f"column {call}"])]
-              for call in ["load", "sort", "search", "select"]]
     return "\n".join([
         table(["", "numbers", "objects", "an object of 3,000", "1,000 deep"], documents),
         table(["look-up of the", "first", "middle", "last"], look_ups),
@@ -160,7 +157,6 @@ def tables(found):
         table(["texts, against serde_json", ""], texts),
         table(["reading texts, against", "serde_json, which keeps all digits",
                "serde_json without that", "simdjson"], kinds),
-        table(["a column of 100,000 rows", ""], column),
     ])
 
 

@@ -1,6 +1,6 @@
 """Takes members of a million rows in Python: by `Column.extract`, and row by row.
 
-    PYTHONPATH=bindings/python/src KOHIBLAD_LIBRARY=libkohiblad.so.0.8 \
+    PYTHONPATH=bindings/python/src KOHIBLAD_LIBRARY=libkohiblad.so.0.9 \
         python3 bench/typed/columns.py [ROWS]
 
 Prints, for each way, the least time of the processor of five rounds, in milliseconds. The rows are

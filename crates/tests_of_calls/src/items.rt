@@ -30,7 +30,9 @@ fn assert_stored(
 #[test]
 fn a_number_by_value(rt: HostRuntime) -> Result<(), Fail> {
     let minus = NumberItem::from_number(Number::Int64(-100));
-    assert!(rt; minus.as_number() == Number::Int64(-100));
+    assert!(rt; minus.as_number() == Number::Int64(-100) && minus.as_bytes().is_none());
+    let given = NumberItem::from_bytes(&[0x40, 0x9c])?;
+    assert!(rt; given.as_bytes() == Some(&[0x40, 0x9c][..]));
     let document = b"\x20\0\0\0\x20\0\0\x02\x40\x9c";
     assert_stored(&rt, rt.alloc(), JsonbItem::Number(minus), document)
 }

@@ -44,5 +44,3 @@ mod typed_rest;
 mod typed_zones;
 #[cfg(test)]
 mod written_files;
-#[cfg(test)]
-mod zones;

@@ -1,8 +1,11 @@
-//! The plain look-up compared with the counted one, and a closure that accepts all keys.
+//! The plain look-up compared with the counted one, a closure that accepts all keys, and look-ups in
+//! a prefix.
 
 ghost use Rattle.std.specs.Prelude.{length, option_map, IsOkAnd, nat_eq};
 ghost use Rattle.jsonb.specs.Words.{pointwise, Tree, Doc, raw_bytes, item_view, find, IsItemFound};
 
+use jsonb::constants::{CONTAINER_TAG, STRING_TAG};
+use jsonb::layer::{Entry, Progress, find_index_in_prefix, find_key_in_prefix};
 use jsonb::{Error, JsonbItem, Number, NumberItem, RawJsonb, Reads};
 use std::test::Fail;
 
@@ -72,4 +75,64 @@ fn keys_of_other_lengths_are_passed_over(rt: HostRuntime) {
     let one = JsonbItem::Number(NumberItem::from_number(Number::UInt64(1)));
     assert!(rt; first_of_length(raw, "zz") == Ok(Some(one)));
     assert!(rt; first_of_length(raw, "a") == Ok(None));
+}
+
+// The end that a look-up needs next in so many bytes of `OBJECT`.
+fn end_needed(at_hand: usize, name: &str) -> Option<usize> {
+    match find_key_in_prefix(&OBJECT[..at_hand], OBJECT.len(), name) {
+        Ok(Progress::Needs(end)) => Some(end),
+        _ => None,
+    }
+}
+
+#[test]
+fn key_in_a_prefix(rt: HostRuntime) {
+    for at_hand in 0..=OBJECT.len() {
+        let end = match at_hand {
+            0..=3 => Some(4),
+            4..=19 => Some(20),
+            20..=23 => Some(24),
+            _ => None,
+        };
+        assert!(rt; end_needed(at_hand, "ab") == end, "{at_hand} bytes");
+        assert!(rt; end_needed(at_hand, "zz") == end, "{at_hand} bytes");
+    }
+    let found = find_key_in_prefix(&OBJECT[..24], OBJECT.len(), "ab");
+    let Ok(Progress::Found(entry)) = found else {
+        assert!(rt; false, "not found");
+        return;
+    };
+    assert!(rt; entry.type_code == CONTAINER_TAG && entry.start == 26 && entry.length == 10);
+    let none = find_key_in_prefix(&OBJECT[..24], OBJECT.len(), "zz");
+    assert!(rt; matches!(none, Ok(Progress::Absent)));
+    // Of other bytes, the value runs past the end.
+    let cut = find_key_in_prefix(&OBJECT[..24], OBJECT.len() - 1, "ab");
+    assert!(rt; matches!(cut, Err(Error::InvalidJsonb)));
+}
+
+#[test]
+fn index_in_a_prefix(rt: HostRuntime) {
+    // The array [null,"ab"].
+    let array = b"\x80\0\0\x02\0\0\0\0\x10\0\0\x02ab";
+    let first = find_index_in_prefix(&array[..8], array.len(), 0);
+    assert!(rt;
+        matches!(
+            first,
+            Ok(Progress::Found(Entry {
+                type_code: 0,
+                start: 12,
+                length: 0
+            }))
+        )
+    );
+    let second = find_index_in_prefix(&array[..8], array.len(), 1);
+    assert!(rt; matches!(second, Ok(Progress::Needs(12))));
+    let second = find_index_in_prefix(&array[..12], array.len(), 1);
+    let Ok(Progress::Found(entry)) = second else {
+        assert!(rt; false, "not found");
+        return;
+    };
+    assert!(rt; entry.type_code == STRING_TAG && entry.start == 12 && entry.length == 2);
+    let third = find_index_in_prefix(&array[..4], array.len(), 2);
+    assert!(rt; matches!(third, Ok(Progress::Absent)));
 }

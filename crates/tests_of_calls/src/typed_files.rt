@@ -1,8 +1,7 @@
 // A file of two rows and two columns, written by hand as the format says.
 use jsonb::Number;
-use jsonb_typed_file::{
-    FileError, SectionPlace, StoredType, StoredValue, TypedFile, column_places,
-};
+use jsonb_typed::ScalarType;
+use jsonb_typed_file::{FileError, SectionPlace, StoredValue, TypedFile, column_places};
 use std::alloc::{AllocError, Global};
 use std::test::Fail;
 
@@ -80,7 +79,7 @@ fn shows_rows_and_columns(rt: HostRuntime) -> Result<(), Fail> {
     assert_eq!(rt; rest.as_bytes(), b"\x40\0\0\0".as_slice());
     assert_eq!(rt; file.rest(2).is_none(), true);
     let at = file.column("at").ok_or("no column")?;
-    assert_eq!(rt; at.column_type(), StoredType::Int64);
+    assert_eq!(rt; at.column_type(), ScalarType::Int64);
     assert_eq!(rt; at.value(0), Some(StoredValue::Number(Number::Int64(-5))));
     assert_eq!(rt; at.value(1), None);
     let city = file.column("city").ok_or("no column")?;

@@ -1,6 +1,19 @@
-// The offsets that Arrow wants for the rest of a column.
+// The rest of a column: the offsets that Arrow wants for it, and what it does not keep.
+use jsonb::{Error, Node, Number, NumberItem};
+use jsonb_typed::push_text;
 use std::test::Fail;
-use typed_vector::Typed;
+use typed_vector::{Texts, Typed};
+
+#[test]
+fn a_signed_zero_given_as_a_number_is_not_kept(rt: HostRuntime) -> Result<(), Fail> {
+    let mut column = Texts::new(rt.alloc())?;
+    let given = Node::Number(NumberItem::from_number(Number::Int64(0)));
+    let refused = push_text(rt.alloc(), &mut column, Some(given));
+    assert!(rt; refused == Err(Error::InvalidJsonb));
+    let stored = Node::Number(NumberItem::from_bytes(&[0x40, 0])?);
+    push_text(rt.alloc(), &mut column, Some(stored))?;
+    Ok(())
+}
 
 #[test]
 fn offsets_of_all_rows(rt: HostRuntime) -> Result<(), Fail> {

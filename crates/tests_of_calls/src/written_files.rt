@@ -3,7 +3,8 @@ use jsonb::{
     Date, Decimal64, Encoder, ExtensionValue, Interval, Number, OwnedJsonb, Timestamp, TimestampTz,
     Value,
 };
-use jsonb_typed_file::{ColumnPlan, StoredType, StoredValue, TypedFile, WriteError, write_file};
+use jsonb_typed::ScalarType;
+use jsonb_typed_file::{ColumnPlan, StoredValue, TypedFile, WriteError, write_file};
 use std::alloc::Global;
 use std::collections::BTreeMap;
 use std::test::Fail;
@@ -19,42 +20,42 @@ const TEXTS: &[&str] = &[
 const PLANS: &[ColumnPlan<'static>] = &[
     ColumnPlan {
         name: "at",
-        column_type: StoredType::Int64,
+        column_type: ScalarType::Int64,
     },
     ColumnPlan {
         name: "city",
-        column_type: StoredType::Text,
+        column_type: ScalarType::Text,
     },
     ColumnPlan {
         name: "ok",
-        column_type: StoredType::Boolean,
+        column_type: ScalarType::Boolean,
     },
     ColumnPlan {
         name: "price",
-        column_type: StoredType::Decimal(2),
+        column_type: ScalarType::Decimal(2),
     },
 ];
 
 const EXTENSION_PLANS: &[ColumnPlan<'static>] = &[
     ColumnPlan {
         name: "bytes",
-        column_type: StoredType::Binary,
+        column_type: ScalarType::Binary,
     },
     ColumnPlan {
         name: "day",
-        column_type: StoredType::Date,
+        column_type: ScalarType::Date,
     },
     ColumnPlan {
         name: "span",
-        column_type: StoredType::Interval,
+        column_type: ScalarType::Interval,
     },
     ColumnPlan {
         name: "time",
-        column_type: StoredType::Timestamp,
+        column_type: ScalarType::Timestamp,
     },
     ColumnPlan {
         name: "zoned",
-        column_type: StoredType::ZonedTimestamp,
+        column_type: ScalarType::ZonedTimestamp,
     },
 ];
 
