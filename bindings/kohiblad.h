@@ -88,7 +88,7 @@
 #include <stdint.h>
 
 /* The version that this header describes: millions, thousands and ones. */
-#define KOHIBLAD_VERSION 8000
+#define KOHIBLAD_VERSION 9000
 
 /* The stack that is enough, in bytes: see STACK above. These were measured, on x86-64. */
 #define KOHIBLAD_LEVEL_STACK 1024
@@ -560,6 +560,32 @@ static inline struct kohiblad_place kohiblad_find_key(const uint8_t *bytes, size
 static inline struct kohiblad_place kohiblad_find_index(const uint8_t *bytes, size_t size,
     size_t number) KOHIBLAD_INLINE("kohiblad_find_index");
 
+/* The place of the value of a key in `size` bytes that begin with `prefix`, for a caller that
+ * fetches a long value piece by piece. It is that in all bytes, and the payload may be past the
+ * prefix. If more bytes have to be at hand, INVALID_EOF with their end as `length`: the header,
+ * then all entry words, then all keys. So a caller that fetches what is needed asks three times at
+ * most. INVALID_UTF8 if the name is not UTF-8; NONE if the object has no such key, or the bytes are
+ * not an object. Of bytes that are not a document, INVALID_EOF with the `length` 0 if the header or
+ * an entry word that is read is cut off by their end; INVALID_JSONB if the header is of no kind, or
+ * a key of the name's length or the value runs past it. The payload is not read. A `size` below the
+ * length of the prefix counts as that length. */
+static inline struct kohiblad_place kohiblad_find_key_in_prefix(const uint8_t *prefix,
+    size_t prefix_size, size_t size, const uint8_t *name, size_t name_size)
+    KOHIBLAD_INLINE("kohiblad_find_key_in_prefix");
+
+/* The place of the item at an index, counted from 0, of an array in `size` bytes that begin with
+ * `prefix`, for a caller that fetches a long value piece by piece. It is that in all bytes, and the
+ * payload may be past the prefix. If more bytes have to be at hand, INVALID_EOF with their end as
+ * `length`: the header, then the entry words up to the item's own. So a caller that fetches what is
+ * needed asks twice at most. NONE if the index is not below the number of items, or the bytes are
+ * not an array. Of bytes that are not a document, INVALID_EOF with the `length` 0 if the header or
+ * an entry word that is read is cut off by their end; INVALID_JSONB if the header is of no kind, or
+ * the item runs past it. The payload is not read. A `size` below the length of the prefix counts as
+ * that length. */
+static inline struct kohiblad_place kohiblad_find_index_in_prefix(const uint8_t *prefix,
+    size_t prefix_size, size_t size, size_t index)
+    KOHIBLAD_INLINE("kohiblad_find_index_in_prefix");
+
 /* Puts the cursor before the first child of an array or object. NONE if the bytes are neither;
  * INVALID_EOF if the header is cut off, or of an object the entry word of a key; INVALID_JSONB if
  * the header is of no kind. If the status is not OK, the cursor is unchanged. No other word is
@@ -777,6 +803,76 @@ static inline kohiblad_double kohiblad_decimal_double(struct kohiblad_decimal de
     /* A double has 53 bits, so the last 11 are rounded. */
     out.value = kohiblad_times_power(decimal.high < 0 ? -(double)head : (double)head, exponent);
     if (head & 0x7ff) out.error = kohiblad_times_power(1024, exponent);
+    return out;
+}
+
+/* DATES AS TEXTS: JSON has no dates, so rows that were read from JSON have texts in their place.
+ * This makes values of them, with no call of the library. */
+
+/* The whole number that so many digits are; -1 if one of them is none. */
+static inline int32_t kohiblad_digits(const uint8_t *text, size_t count) {
+    int32_t number = 0;
+    for (size_t i = 0; i < count; i++) {
+        if (text[i] < '0' || text[i] > '9') return -1;
+        number = 10 * number + (text[i] - '0');
+    }
+    return number;
+}
+
+/* Whether ten bytes are a date, and its days from 1970-01-01. */
+static inline bool kohiblad_days_of_text(const uint8_t *text, int64_t *days) {
+    static const uint8_t most[] = { 31, 28, 31, 30, 31, 30, 31, 31, 30, 31, 30, 31 };
+    int32_t year = kohiblad_digits(text, 4), month = kohiblad_digits(text + 5, 2);
+    int32_t day = kohiblad_digits(text + 8, 2);
+    bool is_leap = year % 4 == 0 && (year % 100 != 0 || year % 400 == 0);
+    if (text[4] != '-' || text[7] != '-' || year < 0 || month < 1 || month > 12) return false;
+    if (day < 1 || day > most[month - 1] + (month == 2 && is_leap)) return false;
+    /* Years that begin in March end with the leap day. 400 years of 146,097 days are added, so that
+     * no number is negative; the year 0 begins so 719,468 days before 1970-01-01. */
+    int64_t years = year + 400 - (month < 3), months = (month + 9) % 12;
+    *days = 365 * years + years / 4 - years / 100 + years / 400 + (153 * months + 2) / 5 + day - 1 -
+        719468 - 146097;
+    return true;
+}
+
+/* The date or timestamp that a text of RFC 3339, a profile of ISO 8601, is, as
+ * kohiblad_as_extension returns it and kohiblad_of_extension takes it: a date is as 2026-11-29, a
+ * timestamp as 2026-11-29T12:30:00 with as many digits after a point as one likes, and one with a
+ * zone has Z or an offset as +02:00 after it; t, z and a blank for T are read too. OTHER_KIND if no
+ * value is exactly what the text says, as for a leap second or digits past the microseconds. */
+static inline struct kohiblad_extension_value kohiblad_extension_of_text(const uint8_t *text,
+    size_t size) {
+    const struct kohiblad_extension_value none = { KOHIBLAD_OTHER_KIND, 0, 0, 0, 0, 0, 0, 0 };
+    struct kohiblad_extension_value out = { KOHIBLAD_OK, KOHIBLAD_DATE, 0, 0, 0, 0, 0, 0 };
+    int64_t micros = 0, unit = 100000;
+    if (size < 10 || !kohiblad_days_of_text(text, &out.value)) return none;
+    if (size == 10) return out;
+    if (size < 19 || (text[10] != 'T' && text[10] != 't' && text[10] != ' ')) return none;
+    int32_t hour = kohiblad_digits(text + 11, 2), minute = kohiblad_digits(text + 14, 2);
+    int32_t second = kohiblad_digits(text + 17, 2);
+    if (hour < 0 || hour > 23 || minute < 0 || minute > 59 || second < 0 || second > 59 ||
+        text[13] != ':' || text[16] != ':')
+        return none;
+    size_t at = 19;
+    if (at < size && text[at] == '.') {
+        const size_t point = at++;
+        for (; at < size && text[at] >= '0' && text[at] <= '9'; at++, unit /= 10) {
+            if (unit == 0 && text[at] != '0') return none;
+            micros += (text[at] - '0') * unit;
+        }
+        if (at == point + 1) return none;
+    }
+    out.tag = at == size ? KOHIBLAD_TIMESTAMP : KOHIBLAD_TIMESTAMP_TZ;
+    if (size - at == 6 && (text[at] == '+' || text[at] == '-') && text[at + 3] == ':') {
+        int32_t hours = kohiblad_digits(text + at + 1, 2);
+        int32_t minutes = kohiblad_digits(text + at + 4, 2);
+        if (hours < 0 || hours > 23 || minutes < 0 || minutes > 59) return none;
+        out.seconds = (text[at] == '-' ? -60 : 60) * (60 * hours + minutes);
+    } else if (at < size && (size - at != 1 || (text[at] != 'Z' && text[at] != 'z'))) {
+        return none;
+    }
+    out.value = out.value * 86400 + 3600 * hour + 60 * minute + second - out.seconds;
+    out.value = out.value * 1000000 + micros;
     return out;
 }
 
@@ -1652,6 +1748,12 @@ struct kohiblad_place kohiblad_export_find_key(const uint8_t *bytes, size_t size
     const uint8_t *name, size_t name_size) KOHIBLAD_EXPORT("kohiblad_find_key");
 struct kohiblad_place kohiblad_export_find_index(const uint8_t *bytes, size_t size, size_t number)
     KOHIBLAD_EXPORT("kohiblad_find_index");
+struct kohiblad_place kohiblad_export_find_key_in_prefix(const uint8_t *prefix, size_t prefix_size,
+    size_t size, const uint8_t *name, size_t name_size)
+    KOHIBLAD_EXPORT("kohiblad_find_key_in_prefix");
+struct kohiblad_place kohiblad_export_find_index_in_prefix(const uint8_t *prefix,
+    size_t prefix_size, size_t size, size_t index)
+    KOHIBLAD_EXPORT("kohiblad_find_index_in_prefix");
 uint32_t kohiblad_export_begin(const uint8_t *bytes, size_t size, struct kohiblad_cursor *cursor)
     KOHIBLAD_EXPORT("kohiblad_begin");
 uint32_t kohiblad_export_next(const uint8_t *bytes, size_t size, struct kohiblad_cursor *cursor,
@@ -2017,6 +2119,15 @@ static inline struct kohiblad_place kohiblad_find_key(const uint8_t *bytes, size
 static inline struct kohiblad_place kohiblad_find_index(const uint8_t *bytes, size_t size,
     size_t number) {
     return kohiblad_export_find_index(kohiblad_in(bytes), size, number);
+}
+static inline struct kohiblad_place kohiblad_find_key_in_prefix(const uint8_t *prefix,
+    size_t prefix_size, size_t size, const uint8_t *name, size_t name_size) {
+    return kohiblad_export_find_key_in_prefix(kohiblad_in(prefix), prefix_size, size,
+        kohiblad_in(name), name_size);
+}
+static inline struct kohiblad_place kohiblad_find_index_in_prefix(const uint8_t *prefix,
+    size_t prefix_size, size_t size, size_t index) {
+    return kohiblad_export_find_index_in_prefix(kohiblad_in(prefix), prefix_size, size, index);
 }
 static inline uint32_t kohiblad_begin(const uint8_t *bytes, size_t size,
     struct kohiblad_cursor *cursor) {

@@ -1,6 +1,6 @@
 /* The exports, for cffi's cdef: tools/pages makes this file of kohiblad.h. */
 
-#define KOHIBLAD_VERSION 8000
+#define KOHIBLAD_VERSION 9000
 
 enum kohiblad_exponents { KOHIBLAD_EXPONENTS_FORBIDDEN = 0, KOHIBLAD_EXPONENTS_ALLOWED = 1 };
 
@@ -289,6 +289,10 @@ uint32_t kohiblad_get_key(const uint8_t *bytes, size_t size, const uint8_t *name
 struct kohiblad_place kohiblad_find_key(const uint8_t *bytes, size_t size, const uint8_t *name,
     size_t name_size);
 struct kohiblad_place kohiblad_find_index(const uint8_t *bytes, size_t size, size_t number);
+struct kohiblad_place kohiblad_find_key_in_prefix(const uint8_t *prefix, size_t prefix_size,
+    size_t size, const uint8_t *name, size_t name_size);
+struct kohiblad_place kohiblad_find_index_in_prefix(const uint8_t *prefix, size_t prefix_size,
+    size_t size, size_t index);
 uint32_t kohiblad_begin(const uint8_t *bytes, size_t size, struct kohiblad_cursor *cursor);
 uint32_t kohiblad_next(const uint8_t *bytes, size_t size, struct kohiblad_cursor *cursor,
     struct kohiblad_place *key, struct kohiblad_place *value);

@@ -143,6 +143,8 @@ static void *work(void *unused) {
         status |= kohiblad_as_string(in, in_size).status != KOHIBLAD_OTHER_KIND;
         status |= kohiblad_as_boolean(in, in_size).status != KOHIBLAD_OTHER_KIND;
         (void)kohiblad_find_key(in, in_size, in, 1);
+        (void)kohiblad_find_key_in_prefix(in, in_size, in_size, in, 1);
+        (void)kohiblad_find_index_in_prefix(in, in_size, in_size, 0);
         (void)kohiblad_get_key(in, in_size, in, 1, out, room, &length);
         (void)kohiblad_get_index(in, in_size, 0, out, room, &length);
     } else if (!strcmp(name, "print"))

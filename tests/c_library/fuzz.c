@@ -48,6 +48,39 @@ static bool word_at(struct block b, size_t at, uint32_t *word) {
     return true;
 }
 
+/* A look-up in a prefix of random length, which is made as long as it is asked for each time,
+ * beside the look-ups in all bytes. */
+static void look_in_prefix(struct block b, bool is, struct block name, size_t index) {
+    bool by_key = below(2);
+    struct kohiblad_place place, all;
+    size_t at_hand = below(b.size + 1), asked = 0;
+    for (;; asked++) {
+        /* A block of its own, so that a read past the prefix is found. */
+        struct block prefix = copy_of(b.at, at_hand);
+        place = by_key
+            ? kohiblad_find_key_in_prefix(prefix.at, at_hand, b.size, name.at, name.size)
+            : kohiblad_find_index_in_prefix(prefix.at, at_hand, b.size, index);
+        drop(prefix);
+        if (place.status != KOHIBLAD_INVALID_EOF || place.length == 0) break;
+        assert(place.type == 0 && place.offset == 0);
+        assert(at_hand < place.length && place.length <= b.size);
+        at_hand = place.length;
+    }
+    assert(asked <= (by_key ? 3 : 2));
+    if (by_key) {
+        all = kohiblad_find_key(b.at, b.size, name.at, name.size);
+        /* The payload, which only the look-up in all bytes reads, may be no value's. */
+        if (!is && place.status == KOHIBLAD_OK && all.status != KOHIBLAD_OK) return;
+    } else if (kohiblad_kind(b.at, b.size).kind == KOHIBLAD_ARRAY) {
+        all = kohiblad_find_index(b.at, b.size, index);
+    } else {
+        assert(place.status != KOHIBLAD_OK);
+        return;
+    }
+    assert(place.status == all.status && place.type == all.type);
+    assert(place.offset == all.offset && place.length == all.length);
+}
+
 /* Each child beside kohiblad_find_index, and the places by the format's words. */
 static long walk(struct block b) {
     struct kohiblad_cursor cursor = { 7, 7, 7 }, before;
@@ -1299,6 +1332,10 @@ int main(int argc, char **argv) {
         if (is) assert((status == KOHIBLAD_NONE) == !is_member);
         place = kohiblad_find_key(b.at, b.size, name.at, name.size);
         if (place.status == KOHIBLAD_OK) assert(place.offset + place.length <= b.size);
+        /* The rounds go on as without it: few of them find all that main looks for. */
+        uint64_t kept = state;
+        look_in_prefix(b, is, name, index);
+        state = kept;
         ANSWER(status, out, length,
                kohiblad_get_key(b.at, b.size, name.at, name.size, out.at, out.size, &length));
         if (status == KOHIBLAD_OK) found++;

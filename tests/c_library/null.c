@@ -19,6 +19,14 @@ int main(void) {
     assert(kohiblad_get_key(null, sizeof null, NULL, 0, NULL, 0, &length) == KOHIBLAD_NONE);
     assert(kohiblad_find_key(NULL, 0, NULL, 0).status == KOHIBLAD_INVALID_EOF);
     assert(kohiblad_find_index(NULL, 0, 0).status == KOHIBLAD_INVALID_EOF);
+    assert(kohiblad_find_key_in_prefix(NULL, 0, 0, NULL, 0).status == KOHIBLAD_INVALID_EOF);
+    assert(kohiblad_find_key_in_prefix(NULL, 0, 0, NULL, 0).length == 0);
+    assert(kohiblad_find_key_in_prefix(NULL, 0, 9, NULL, 0).status == KOHIBLAD_INVALID_EOF);
+    assert(kohiblad_find_key_in_prefix(NULL, 0, 9, NULL, 0).length == 4);
+    assert(kohiblad_find_key_in_prefix(null, sizeof null, 0, NULL, 0).status == KOHIBLAD_NONE);
+    assert(kohiblad_find_index_in_prefix(NULL, 0, 0, 0).length == 0);
+    assert(kohiblad_find_index_in_prefix(NULL, 0, SIZE_MAX, SIZE_MAX).length == 4);
+    assert(kohiblad_find_index_in_prefix(null, sizeof null, 0, 0).status == KOHIBLAD_NONE);
     assert(kohiblad_get_index(NULL, 0, 0, NULL, 0, &length) == KOHIBLAD_INVALID_EOF);
     assert(kohiblad_get_member(NULL, 0, 0, NULL, 0, &key_length, NULL, 0, &length)
            == KOHIBLAD_INVALID_EOF);

@@ -15,7 +15,8 @@ use Rattle.jsonb.specs.StoredEntries.{entry_item}
 use Rattle.jsonb.proofs.KindLaws.{header_at-object}
 use Rattle.jsonb.proofs.LookupLaws.{find_entry-first, find_entry-none, tree_found}
 use Rattle.jsonb.proofs.StoredEntryLaws.{IsObjectOfEntries-Payload, members_at}
-use Rattle.kohiblad.specs.Places.{is_name, part_in, value_place, IsPlaceFound, IsValuePlace}
+use Rattle.jsonb.specs.Prefix.{is_name}
+use Rattle.kohiblad.specs.Places.{part_in, value_place, IsPlaceFound, IsValuePlace}
 use Rattle.kohiblad.proofs.Lookups.{counted}
 use Rattle.kohiblad.proofs.PlaceLaws.{value_stored}
 

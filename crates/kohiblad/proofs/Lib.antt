@@ -19,6 +19,7 @@ pub mod OverRowsLaws
 pub mod PartLaws
 pub mod PathCallLaws
 pub mod PlaceLaws
+pub mod PrefixLaws
 pub mod EditRooms
 pub mod JoinedRooms
 pub mod PayloadRooms

@@ -1,60 +1,40 @@
 -- The result of a look-up, with the closure's results in another form, and the position in it.
-use Rattle.std.proofs.Common.{◌≡◌, ℕ, zero, suc, ◌+◌, ◌-◌, ◌*◌, ◌<◌, ◌≤◌, Bool}
-use Rattle.std.proofs.Common.{true, false, List, length, Option, None, Some, IfSome}
-use Rattle.std.proofs.Common.{option_map, Result, Ok, Err, IsOkAnd, IfOk, refl, ap, subst, sym}
+use Rattle.std.proofs.Common.{◌≡◌, ℕ, ◌+◌, ◌-◌, ◌*◌, ◌<◌, ◌≤◌, Bool}
+use Rattle.std.proofs.Common.{List, length, Option, None, Some, IfSome}
+use Rattle.std.proofs.Common.{option_map, Result, Ok, Err, IfOk, refl, ap, subst, sym}
 use Rattle.std.proofs.Common.{◌∙◌, arith}
 use Rattle.std.proofs.lemmas.Bool.{eqb-true, le-leb}
 use Rattle.std.proofs.lemmas.Bool.Decides.{nat_tests}
 use Rattle.jsonb_value.specs.declared.error.Error.{Error}
 use Rattle.jsonb_codec.specs.declared.constants.TheConstants.{OBJECT_CONTAINER_TAG}
-use Rattle.jsonb_codec.specs.JEntry.{jentry_at, jentry_in}
+use Rattle.jsonb_codec.specs.JEntry.{jentry_at}
 use Rattle.jsonb_codec.specs.WordBytes.{header_at}
 use Rattle.jsonb_codec.specs.declared.jentry.JEntry.{JEntry}
-use Rattle.jsonb_codec.proofs.RoomLaws.{word_at-inside}
 use Rattle.jsonb.specs.declared.entries.Entry.{Entry}
 use Rattle.jsonb.specs.declared.lookup.FoundValue.{FoundValue}
-use Rattle.jsonb.specs.Entries.{payloads_end}
 use Rattle.jsonb.specs.ItemView.{ItemView}
 use Rattle.jsonb.specs.Lookup as lookup
 use Rattle.jsonb.specs.Lookup.{LooksUpBytes, no_header, other_header, unread, all_passed}
 use Rattle.jsonb.specs.Lookup.{one_accepted}
-use Rattle.jsonb.specs.Parts.{key_of_size, length_before, length_in, part_length, PassedBefore}
-use Rattle.jsonb.specs.Parts.{IsAccepted, IsPlaceOf, IsUnreadable, key_unread, value_unread}
+use Rattle.jsonb.specs.Parts.{length_before}
+use Rattle.jsonb.specs.Parts.{IsPlaceOf, IsUnreadable, key_unread, value_unread}
 use Rattle.jsonb.specs.Steps.{◌>>=◌}
 use Rattle.jsonb.specs.Walk.{count_if, count_under}
-use Rattle.kohiblad.specs.Places.{is_name, part_in, value_place, IsPlaceFound}
+use Rattle.jsonb.proofs.AnswerLaws.{accepted, passed_before}
+use Rattle.jsonb.proofs.PartLaws.{ends_there}
+use Rattle.jsonb.specs.Prefix.{is_name}
+use Rattle.kohiblad.specs.Places.{part_in, value_place, IsPlaceFound}
 use Rattle.kohiblad.proofs.PlaceLaws.{part_from}
 
 module _ (answers others : List ℕ → Bool → Type 0)
     (imply : (key : List ℕ) (b : Bool) → answers key b → others key b) (size : ℕ)
     (bytes : List ℕ) where
-  passed_by : (r : Result (Option (List ℕ)) Error)
-      → IsOkAnd r (λ asked. IfSome asked (λ key. answers key false))
-      → IsOkAnd r (λ asked. IfSome asked (λ key. others key false))
-  passed_by (Ok None) h = h
-  passed_by (Ok (Some key)) h = imply key false h
-  passed_by (Err e) h = h
-
-  passed_before : (n pair : ℕ) → PassedBefore answers size bytes n pair
-      → PassedBefore others size bytes n pair
-  passed_before n pair before = λ k low. passed_by (key_of_size size bytes n k) (before k low)
-
-  accepted : (n pair : ℕ) → IsAccepted answers size bytes n pair
-      → IsAccepted others size bytes n pair
-  accepted n pair h =
-      record {
-        among = h.among;
-        key = h.key;
-        there = h.there;
-        accepted = imply h.key true h.accepted;
-        earlier = passed_before n pair h.earlier;
-      }
-
   unreadable : (n : ℕ) (e : Error) → IsUnreadable answers size bytes n e
       → IsUnreadable others size bytes n e
   unreadable n e (key_unread pair among before is) =
-      key_unread pair among (passed_before n pair before) is
-  unreadable n e (value_unread pair key is) = value_unread pair (accepted n pair key) is
+      key_unread pair among (passed_before answers others imply size bytes n pair before) is
+  unreadable n e (value_unread pair key is) =
+      value_unread pair (accepted answers others imply size bytes n pair key) is
 
   pub LooksUpBytes-weaker : (r : Result (Option ItemView) Error) (reads : ℕ)
       → LooksUpBytes answers size bytes r reads → LooksUpBytes others size bytes r reads
@@ -62,9 +42,10 @@ module _ (answers others : List ℕ → Bool → Type 0)
   LooksUpBytes-weaker r reads (other_header count is one) = other_header count is one
   LooksUpBytes-weaker r reads (unread n e count past is) = unread n e count (unreadable n e past) is
   LooksUpBytes-weaker r reads (all_passed n count none is cost) =
-      all_passed n count (passed_before n n none) is cost
+      all_passed n count (passed_before answers others imply size bytes n n none) is cost
   LooksUpBytes-weaker r reads (one_accepted n pair entry count key there is cost) =
-      one_accepted n pair entry count (accepted n pair key) there is cost
+      one_accepted n pair entry count (accepted answers others imply size bytes n pair key) there is
+      cost
 
 pub counted : (bytes : List ℕ) (header : ℕ × ℕ) → header_at bytes 0 ≡ Ok header
     → lookup.count_in_header bytes ≡ header.1
@@ -88,23 +69,6 @@ module _ (bytes : List ℕ) where
   word_there : (word : ℕ) (e : JEntry) → jentry_at bytes word ≡ Ok e → word + 4 ≤ length bytes
   word_there word e read = grind (arith, nat_tests)
 
-  ends_there : (n part base word start : ℕ) → 4 + 4 * (part + n) ≤ length bytes
-      → word ≡ 4 + 4 * part → start ≡ base + length_before bytes part
-      → payloads_end bytes n word start ≡ Ok (base + length_before bytes (part + n))
-  unfolding part_length
-  ends_there zero part base word start fits at from =
-      let same : part ≡ part + zero = omega arith in
-      ap (λ (s : ℕ). Ok s) from ∙ ap (λ (p : ℕ). Ok (base + length_before bytes p)) same
-  ends_there (suc n) part base word start fits at from =
-      let read = ap jentry_in (word_at-inside bytes word (omega arith)) in
-      let size = ap (λ (w : ℕ). length_in (jentry_at bytes w)) (sym at) ∙ ap length_in read in
-      let number : suc part + n ≡ part + suc n = omega arith in
-      ap (λ (r : Result JEntry Error). r
-      >>= (λ (e : JEntry). payloads_end bytes n (word + 4) (start + e.length))) read
-      ∙ ends_there n (suc part) base (word + 4) _ (omega arith) (omega arith)
-      (omega (arith, size, from))
-      ∙ ap (λ (p : ℕ). Ok (base + length_before bytes p)) number
-
   -- the part of an object with a place
   part_placed : (n : ℕ) → count_under bytes OBJECT_CONTAINER_TAG ≡ Ok (Some n) → (part : ℕ)
       → part < 2 * n → (entry : Entry) → IsPlaceOf bytes n part entry
@@ -119,7 +83,7 @@ module _ (bytes : List ℕ) where
       let inside = le-leb (entry.start + entry.length) (length bytes) is.inside in
       let word = is.entry in
       part_from bytes _ (object_header bytes n count) part among entry.start
-      (ends_there part 0 (4 + 4 * (2 * n)) 4 (4 + 4 * (2 * n)) (omega (arith, fits)) (omega arith)
+      (ends_there bytes part 0 (4 + 4 * (2 * n)) 4 (4 + 4 * (2 * n)) (omega (arith, fits)) (omega arith)
       (omega (arith, none)) ∙ ap (λ (s : ℕ). Ok s) same)
       ∙ rw (word, inside) refl
 

@@ -21,7 +21,7 @@ use Rattle.jsonb.specs.Parts.{length_in}
 use Rattle.jsonb.specs.StoredEntries.{IsArrayOfEntries, IsObjectOfEntries}
 use Rattle.jsonb.specs.Steps.{◌>>=◌}
 use Rattle.jsonb.proofs.EntryLaws.{IsLess, cut_later, left_after-get, length-placed_from}
-use Rattle.jsonb.proofs.EntryLaws.{skipped}
+use Rattle.jsonb.proofs.EntryLaws.{skip_cut, skipped}
 use Rattle.jsonb.proofs.KindLaws.{container_cases, header_at-Scalar, header_at-array}
 use Rattle.jsonb.proofs.KindLaws.{header_at-object}
 use Rattle.jsonb.proofs.Places.{At, At-all, At-left, At-right, At-after_word, take-At, within-At}
@@ -31,7 +31,7 @@ use Rattle.jsonb.proofs.StoredEntryLaws.{IsObjectOfEntries-Payload}
 use Rattle.jsonb.proofs.StoredEntryLaws.{first_entry, items_at, length-key_codes, members_at}
 use Rattle.jsonb.proofs.StorageLaws.{length-code_entries}
 use Rattle.jsonb.specs.declared.entries.Entry.{Entry}
-use Rattle.kohiblad.specs.Children.{some_entry}
+use Rattle.jsonb.specs.Prefix.{some_entry}
 use Rattle.kohiblad.specs.Places.{all_entries, item_part, member_places, member_there}
 use Rattle.kohiblad.specs.Places.{member_under, part_in, place_of_item}
 use Rattle.kohiblad.specs.Places.{IsItemPlace, IsPartPlace, AreMemberPlaces}
@@ -73,6 +73,16 @@ module _ (bytes : List ℕ) (header : ℕ × ℕ) (is : header_at bytes 0 ≡ Ok
         (skipped bytes k n k 4 (4 + 4 * n) less v ends))
         ∙ ap (λ (l : ℕ). slice_get (placed_from bytes l (4 + 4 * k) v) 0) some)
         ∙ one_part (placed_at bytes (4 + 4 * k) v)
+
+    -- It is read where that is, or cannot be read.
+    pub part_read : part_in bytes k
+        ≡ some_entry (payloads_end bytes k 4 (4 + 4 * n) >>= placed_at bytes (4 + 4 * k))
+    part_read = by (payloads_end bytes k 4 (4 + 4 * n)) refl where
+      by : (r : Result ℕ Error) → payloads_end bytes k 4 (4 + 4 * n) ≡ r
+          → part_in bytes k ≡ some_entry (r >>= placed_at bytes (4 + 4 * k))
+      by (Ok v) ends = part_from v ends
+      by (Err e) ends = listed ∙ ap option_transpose
+          (cut_later bytes k n 4 (4 + 4 * n) e among (skip_cut bytes k n k 4 (4 + 4 * n) less e ends))
 
 -- The part to which a cursor over all entries comes.
 module _ (bytes : List ℕ) (number : ℕ) (run : Run) (is : run_in bytes ≡ Ok run) where

@@ -15,7 +15,8 @@ use Rattle.jsonb_typed_file.specs.declared.error.FileError.TheVariants as errors
 use Rattle.jsonb_typed_file.specs.declared.places.ColumnPlaces.{ColumnPlaces}
 use Rattle.jsonb_typed_file.specs.File.{LengthsFit, row_count}
 use Rattle.jsonb_typed_file.specs.Layout.{Contents, HasNoMagic, HasOtherVersion, HasTrailingData}
-use Rattle.jsonb_typed_file.specs.Layout.{IsCutOff, IsLayout, Parts, type_bytes}
+use Rattle.jsonb_typed_file.specs.Layout.{IsCutOff, IsLayout, Parts}
+use Rattle.jsonb_typed.specs.Scalars.{type_bytes}
 use Rattle.jsonb_typed_file.specs.OneRow.{IsRowInForm, IsRowOf, IsRowWithin}
 use Rattle.jsonb_typed_file.specs.Places.{IsColumnAt}
 use Rattle.jsonb_typed_file.specs.Rows.{IsMade, row_tree}

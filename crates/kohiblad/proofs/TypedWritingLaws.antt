@@ -12,9 +12,9 @@ use Rattle.jsonb.specs.declared.document.Document.{Document}
 use Rattle.jsonb.specs.Document.{document_bytes}
 use Rattle.jsonb_typed_file.specs.declared.error.WriteError.{WriteError}
 use Rattle.jsonb_typed_file.specs.declared.error.WriteError.TheVariants as errors
-use Rattle.jsonb_typed_file.specs.declared.types.StoredType.{StoredType}
+use Rattle.jsonb_typed.specs.declared.scalar.ScalarType.{ScalarType}
 use Rattle.jsonb_typed_file.specs.declared.write.ColumnPlan.{ColumnPlan}
-use Rattle.jsonb_typed_file.specs.Layout.{type_bytes}
+use Rattle.jsonb_typed.specs.Scalars.{type_bytes}
 use Rattle.jsonb_typed_file.specs.Written.{AllFit, AscendPlans}
 use Rattle.jsonb_typed_file.proofs.LayoutLaws.{same_head}
 use Rattle.kohiblad.specs.Results.{AreWithin}
@@ -135,7 +135,7 @@ left_plans names types left types_left plans others so_far are =
 pub no_type : (names : List (List ℕ)) (types : List ℕ) (left later : List (List ℕ))
     (name types_left : List ℕ) (plans : List ColumnPlan)
     → PlannedSoFar names types left types_left plans → left ≡ name ∷ later
-    → ((type : StoredType) (others : List ℕ) → types_left ≡ type_bytes type ++ others → ⊥)
+    → ((type : ScalarType) (others : List ℕ) → types_left ≡ type_bytes type ++ others → ⊥)
     → (others : List ColumnPlan) → ArePlans names types others → ⊥
 no_type names types left later name types_left plans so_far split none others are =
     let (rest, (names_are, types_are)) = left_plans names types left types_left plans others
@@ -196,7 +196,7 @@ rows_refused depth rows plans e (inr is) =
 pub no_type_left : (names : List (List ℕ)) (types : List ℕ) (left : List (Bor (List ℕ)))
     (types_left : List ℕ) (plans : List ColumnPlan) → 1 ≤ length left
     → PlannedSoFar names types (map (λ name. name.now) left) types_left plans
-    → ((type : StoredType) (others : List ℕ) → types_left ≡ type_bytes type ++ others → ⊥)
+    → ((type : ScalarType) (others : List ℕ) → types_left ≡ type_bytes type ++ others → ⊥)
     → (others : List ColumnPlan) → ArePlans names types others → ⊥
 no_type_left names types [] types_left plans some so_far none others are =
     absurd (omega (arith, some))

@@ -32,7 +32,8 @@ use Rattle.jsonb_functions.specs.PathPlaces.{HoldsFound, path_place_in, whole_pl
 use Rattle.jsonb_functions.proofs.PathPlaceLaws.{place_holds}
 use Rattle.kohiblad.specs.declared.taken_texts.BytesType.{BytesType}
 use Rattle.kohiblad.specs.declared.taken_texts.BytesType.TheVariants as bytes_types
-use Rattle.kohiblad.specs.Places.{IsValuePlace, is_name}
+use Rattle.jsonb.specs.Prefix.{is_name}
+use Rattle.kohiblad.specs.Places.{IsValuePlace}
 use Rattle.kohiblad.specs.Taking.{HoldsScalars, IsSomeTaken, IsTakenCell, IsTakenUnchecked}
 use Rattle.kohiblad.specs.Taking.{IsDate, IsInt128, IsInterval, IsTimestamp, IsTruth}
 use Rattle.kohiblad.specs.Taking.{IsZonedTimestamp}

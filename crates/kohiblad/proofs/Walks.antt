@@ -18,7 +18,8 @@ use Rattle.kohiblad.specs.declared.children.ChildLayout.{ChildLayout}
 use Rattle.kohiblad.specs.Children.{child_among, child_at_cursor, child_of, cursor_after}
 use Rattle.kohiblad.specs.Children.{cursor_among, cursor_at, end_of, first_value, key_end}
 use Rattle.kohiblad.specs.Children.{key_offset, layout_in, layout_under, numbered_among}
-use Rattle.kohiblad.specs.Children.{numbered_child, part_at_cursor, payload_start, some_entry}
+use Rattle.jsonb.specs.Prefix.{some_entry}
+use Rattle.kohiblad.specs.Children.{numbered_child, part_at_cursor, payload_start}
 use Rattle.kohiblad.specs.Children.{value_answer}
 use Rattle.kohiblad.specs.Places.{part_in}
 use Rattle.kohiblad.specs.Status.{code}

@@ -8,6 +8,7 @@ use Rattle.jsonb_codec.specs.declared.constants.TheConstants.{OBJECT_CONTAINER_T
 use Rattle.jsonb_codec.specs.WordBytes.{header_at}
 use Rattle.jsonb.specs.Entry.{IsEntryIn, placed_at}
 use Rattle.jsonb.specs.Entries.{payloads_end}
+use Rattle.jsonb.specs.Prefix.{some_entry}
 use Rattle.jsonb.specs.Steps.{◌>>=◌}
 use Rattle.jsonb.specs.declared.entries.Entry.{Entry}
 use Rattle.kohiblad.specs.declared.children.Child.{Child}
@@ -80,11 +81,6 @@ numbered_among bytes index (Some layout) =
 -- The child at an index.
 abbrev pub numbered_child : List ℕ → ℕ → Result (Option Child) Error
 numbered_child bytes index = layout_in bytes >>= numbered_among bytes index
-
--- An entry that was read, or the error.
-abbrev pub some_entry : Result Entry Error → Result (Option Entry) Error
-some_entry (Ok entry) = Ok (Some entry)
-some_entry (Err e) = Err e
 
 -- The entry of a part whose payload is said to begin at `start`.
 abbrev pub part_at_cursor : List ℕ → ℕ → ℕ → Result (Option Entry) Error

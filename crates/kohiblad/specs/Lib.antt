@@ -2,6 +2,7 @@ pub mod Status
 pub mod TextFaults
 pub mod Results
 pub mod Places
+pub mod Prefix
 pub mod Parts
 pub mod Rows
 pub mod SortOrder

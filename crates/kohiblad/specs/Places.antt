@@ -1,9 +1,8 @@
 -- The positions of the parts of an array or object, and the results of calls on them as C receives
 -- them.
-use Rattle.std.specs.Prelude.{◌≡◌, ◌<◌, ℕ, ◌+◌, ◌-◌, ◌==◌, nat_eq, nat_le, if◌then◌else◌}
-use Rattle.std.specs.Prelude.{Bool, ◌⊎◌, List, ◌++◌, length, slice_get, Option, Some, None}
+use Rattle.std.specs.Prelude.{◌≡◌, ◌<◌, ℕ, ◌+◌, ◌-◌, ◌==◌, nat_le, if◌then◌else◌}
+use Rattle.std.specs.Prelude.{◌⊎◌, List, ◌++◌, length, slice_get, Option, Some, None}
 use Rattle.std.specs.Prelude.{option_map, Result, Ok, Err, IfOk, IfSome}
-use Rattle.std.specs.Cmp.Lexicographic.{pointwise}
 use Rattle.std.specs.Map.{keys_of, values_of}
 use Rattle.std.specs.Option.{option_transpose, option_zip}
 use Rattle.jsonb_value.specs.declared.error.Error.{Error}
@@ -17,6 +16,7 @@ use Rattle.jsonb.specs.Entry.{IsEntryIn, entry_there, Code}
 use Rattle.jsonb.specs.Entries.{entries_in}
 use Rattle.jsonb.specs.ItemView.{ItemView}
 use Rattle.jsonb.specs.Lookup.{LooksUpBytes}
+use Rattle.jsonb.specs.Prefix.{is_name}
 use Rattle.jsonb.specs.Steps.{◌>>=◌}
 use Rattle.jsonb.specs.StoredEntries.{IsArrayOfEntries, IsObjectOfEntries, find_entry}
 use Rattle.jsonb.specs.declared.entries.Entry.{Entry}
@@ -64,10 +64,6 @@ abbrev pub value_place : List ℕ → ℕ → Result (Option ItemView) Error
 value_place bytes reads (Ok (Some x)) = part_in bytes (reads - 2)
 value_place bytes reads (Ok None) = Ok None
 value_place bytes reads (Err e) = Err e
-
--- The key equals the name.
-abbrev pub is_name : List ℕ → List ℕ → Bool
-is_name name = pointwise nat_eq name
 
 -- The position is that of the value that a look-up of the name finds in these bytes.
 pub record IsPlaceFound (name bytes : List ℕ) (found : Result (Option Entry) Error) :

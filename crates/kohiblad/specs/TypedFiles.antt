@@ -8,7 +8,8 @@ use Rattle.jsonb_typed_file.specs.declared.error.FileError.TheVariants as errors
 use Rattle.jsonb_typed_file.specs.declared.places.ColumnPlaces.{ColumnPlaces}
 use Rattle.jsonb_typed_file.specs.File.{IsFile, IsFileWithin, LengthsFit, NestWithin, row_count}
 use Rattle.jsonb_typed_file.specs.Layout.{Contents, HasNoMagic, HasOtherVersion, HasTrailingData}
-use Rattle.jsonb_typed_file.specs.Layout.{IsCutOff, IsLayout, Parts, type_bytes}
+use Rattle.jsonb_typed_file.specs.Layout.{IsCutOff, IsLayout, Parts}
+use Rattle.jsonb_typed.specs.Scalars.{type_bytes}
 use Rattle.jsonb_typed_file.specs.OneRow.{IsRowInForm, IsRowWithin}
 use Rattle.jsonb_typed_file.specs.Places.{LiesAt}
 use Rattle.jsonb_typed_file.specs.Rows.{row_tree}

@@ -11,7 +11,7 @@ use Rattle.jsonb.specs.Document.{document_bytes}
 use Rattle.jsonb_typed_file.specs.declared.error.WriteError.{WriteError}
 use Rattle.jsonb_typed_file.specs.declared.error.WriteError.TheVariants as errors
 use Rattle.jsonb_typed_file.specs.declared.write.ColumnPlan.{ColumnPlan}
-use Rattle.jsonb_typed_file.specs.Layout.{type_bytes}
+use Rattle.jsonb_typed.specs.Scalars.{type_bytes}
 use Rattle.jsonb_typed_file.specs.Written.{AllFit, AscendPlans, IsFileOf}
 use Rattle.kohiblad.specs.Names.{names_in}
 use Rattle.kohiblad.specs.Results.{AreWithin}

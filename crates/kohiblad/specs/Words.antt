@@ -54,6 +54,7 @@ pub use Rattle.kohiblad.specs.Places.{AreBothInside, AreMemberPlaces, IsInside, 
 pub use Rattle.kohiblad.specs.Places.{IsMemberHandedOver, IsPartPlace, IsPlaceFound}
 pub use Rattle.kohiblad.specs.Places.{IsPlaceHandedOver, IsValuePlace, entry_document}
 pub use Rattle.kohiblad.specs.Places.{member_places, part_in, place_answer, place_of_item}
+pub use Rattle.kohiblad.specs.Prefix.{IsIndexSought, IsKeySought, prefix_answer}
 pub use Rattle.kohiblad.specs.Results.{AreWithin, BuildsArray, BuildsObject, IsMember}
 pub use Rattle.kohiblad.specs.Results.{IsOneOfRows, are_pairs, are_rows}
 pub use Rattle.kohiblad.specs.Rows.{are_offsets, row_pairs, rows, rows_from}

@@ -8,7 +8,7 @@ use jsonb::{Error, OwnedJsonb};
 use jsonb_codec::constants::SCALAR_CONTAINER_TAG;
 
 /// The version number: a million per major, a thousand per minor and one per patch version.
-const VERSION: u32 = 8000;
+const VERSION: u32 = 9000;
 
 /// The status of success.
 pub const OK: u32 = 0;
@@ -59,7 +59,7 @@ pub const PAYLOAD_LIMIT: usize = 1 << 28;
 /// version.
 #[unsafe(no_mangle)]
 pub extern "C" fn kohiblad_version() -> u32
-    ensures { result ≡ 8000 }
+    ensures { result ≡ 9000 }
 {
     VERSION
 }

@@ -41,6 +41,7 @@ mod paths;
 mod picking;
 mod placed_members;
 mod places;
+mod prefix;
 mod row_paths;
 mod row_walk;
 mod rows;

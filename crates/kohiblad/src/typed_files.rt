@@ -10,7 +10,8 @@ use crate::answer::{
     hand_over, hand_over_made, refuse,
 };
 use jsonb::Error;
-use jsonb_typed_file::{ColumnPlaces, FileError, TypedFile, column_places, type_bytes};
+use jsonb_typed::type_bytes;
+use jsonb_typed_file::{ColumnPlaces, FileError, TypedFile, column_places};
 use std::alloc::{AllocError, Global};
 
 /// The number of rows and of columns of a file of typed columns. They are 0 if the status is not

@@ -13,7 +13,8 @@ use crate::checked::checked;
 use crate::names::read_names;
 use crate::rows::Rows;
 use jsonb::{Document, Error, is_document_within};
-use jsonb_typed_file::{ColumnPlan, WriteError, split_type, write_file};
+use jsonb_typed::split_type;
+use jsonb_typed_file::{ColumnPlan, WriteError, write_file};
 use std::alloc::{AllocError, Global};
 
 /// Writes rows as a file of typed columns, and copies it to `out`. `names` is the document of an
