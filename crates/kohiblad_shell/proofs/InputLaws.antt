@@ -17,8 +17,8 @@ use Rattle.std.proofs.KnownBytes.{Consumes-trans}
 use Rattle.std.proofs.Math.Seq.{drop-append_seam}
 use Rattle.std.proofs.lemmas.Nat.{from_be_bytes-to_be_bytes_8}
 use Rattle.answer_lines.proofs.Output.{Known}
-use Rattle.jsonb_column.specs.Storage.{row_bytes}
-use Rattle.jsonb_column.proofs.StorageLaws.{length-row_bytes}
+use Rattle.jsonb.specs.StoredRow.{row_bytes}
+use Rattle.jsonb.proofs.StoredRowLaws.{length-row_bytes}
 use Rattle.kohiblad_shell.specs.declared.input.Form.TheVariants.{Documents}
 use Rattle.kohiblad_shell.specs.declared.input.Found.TheVariants.{Row, Cut}
 use Rattle.kohiblad_shell.specs.Inputs.{AppendsHeld, AppendsHeldLine, IsNextLine, ReadsLine}

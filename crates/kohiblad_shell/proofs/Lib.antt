@@ -2,7 +2,7 @@ pub mod InputLaws
 pub mod RunLaws
 pub mod SurveyLaws
 pub mod ValueLaws
-pub mod ShowLaws
+pub mod EscapeLaws
 pub mod SortLaws
 pub mod KeyLaws
 pub mod RemovalLaws

@@ -13,7 +13,7 @@ use Rattle.std.specs.List.Sorted.{ties}
 use Rattle.std.proofs.Math.Seq.{drop-append_seam, take-append_seam}
 use Rattle.std.proofs.lemmas.Nat.{from_be_bytes-to_be_bytes_8}
 use Rattle.answer_lines.proofs.Output.{Known}
-use Rattle.jsonb_column.specs.Storage.{row_bytes}
+use Rattle.jsonb.specs.StoredRow.{row_bytes}
 use Rattle.kohiblad_shell.specs.declared.sort.Keyed.{Keyed}
 use Rattle.kohiblad_shell.specs.declared.sorted_run.LastKey.{LastKey}
 use Rattle.kohiblad_shell.specs.declared.sorted_run.RunHead.{RunHead}

@@ -10,10 +10,12 @@ use Rattle.jsonb_value.specs.Text.{compact, decimal_text, extension_text}
 use Rattle.jsonb_value.specs.Tree as trees
 use Rattle.jsonb_value.specs.Tree.{Tree}
 use Rattle.jsonb_functions.specs.Selected.{selected, first_tree}
-use Rattle.jsonb_typed.specs.TypeValues.{StandsIn, ValueOf}
+use Rattle.jsonb_typed.specs.Scalars.{ScalarOf, Stands}
 use Rattle.jsonb_typed.specs.declared.lattice.LeastType.{LeastType}
 use Rattle.jsonb_typed.specs.declared.lattice.LeastType.TheVariants as types
 use Rattle.jsonb_typed.specs.declared.numbers.Fit.TheVariants.{ByValue}
+use Rattle.jsonb_typed.specs.declared.scalar.ScalarType.{ScalarType}
+use Rattle.jsonb_typed.specs.declared.scalar.ScalarType.TheVariants as scalars
 use Rattle.kohiblad_shell.specs.declared.extract.TypedPath.{TypedPath}
 use Rattle.kohiblad_shell.specs.declared.outcome.Reason.TheVariants.{NotOfType}
 use Rattle.kohiblad_shell.specs.declared.outcome.LineFault.{LineFault}
@@ -39,20 +41,18 @@ doubled text = flat_map (λ byte. cond (byte == 34) (34 ∷ (34 ∷ [])) (byte �
 abbrev pub csv_text : List ℕ → List ℕ
 csv_text text = cond (is_quoted text) (34 ∷ (doubled text ++ 34 ∷ [])) text
 
--- The field of a value in a column of a type. Of two types nothing is a value.
-abbrev pub value_text : (type : LeastType) → ValueOf type → List ℕ
-value_text types.Nothing v = []
-value_text types.Boolean v = compact (trees.boolean v)
-value_text types.Int64 v = signed_decimal v
-value_text types.UInt64 n = decimal n
-value_text (types.Decimal scale) v = decimal_text scale v
-value_text types.Text s = csv_text s
-value_text types.Date d = extension_text (trees.date d)
-value_text types.Timestamp t = extension_text (trees.timestamp t)
-value_text types.ZonedTimestamp t = extension_text (trees.timestamp_tz t)
-value_text types.Interval i = extension_text (trees.interval i)
-value_text types.Binary bytes = csv_text (extension_text (trees.binary bytes))
-value_text types.Mixed v = []
+-- The field of a value in a column of a type.
+abbrev pub value_text : (type : ScalarType) → ScalarOf type → List ℕ
+value_text scalars.Boolean v = compact (trees.boolean v)
+value_text scalars.Int64 v = signed_decimal v
+value_text scalars.UInt64 n = decimal n
+value_text (scalars.Decimal scale) v = decimal_text scale v
+value_text scalars.Text s = csv_text s
+value_text scalars.Date d = extension_text (trees.date d)
+value_text scalars.Timestamp t = extension_text (trees.timestamp t)
+value_text scalars.ZonedTimestamp t = extension_text (trees.timestamp_tz t)
+value_text scalars.Interval i = extension_text (trees.interval i)
+value_text scalars.Binary bytes = csv_text (extension_text (trees.binary bytes))
 
 -- The field is the text of a value that stands for the tree; there is none if no value does.
 abbrev pub IsFieldBy : {V : Type 0} → (V → Tree → Type 0) → (V → List ℕ) → Tree
@@ -60,12 +60,17 @@ abbrev pub IsFieldBy : {V : Type 0} → (V → Tree → Type 0) → (V → List 
 IsFieldBy {V = V} Stands text t None = (v : V) → Stands v t → ⊥
 IsFieldBy {V = V} Stands text t (Some field) = (v : V) × (Stands v t × (field ≡ text v))
 
--- The same for a type, in whose columns numbers stand by their values. Each tree is of mixed type,
--- and its field is its compact text.
+-- The same for a type, in whose columns numbers stand by their values.
+abbrev pub IsScalarField : ScalarType → Tree → Option (List ℕ) → Type 0
+IsScalarField type t field =
+    IsFieldBy {V = ScalarOf type} (Stands ByValue type) (value_text type) t field
+
+-- The same for the type of a column. Of the first type nothing is a value. Each tree is of mixed
+-- type, and its field is its compact text.
 abbrev pub IsFieldOf : LeastType → Tree → Option (List ℕ) → Type 0
+IsFieldOf types.Nothing t field = field ≡ None
+IsFieldOf (types.Of type) t field = IsScalarField type t field
 IsFieldOf types.Mixed t field = field ≡ Some (csv_text (compact t))
-IsFieldOf type t field =
-    IsFieldBy {V = ValueOf type} (StandsIn ByValue type) (value_text type) t field
 
 -- The same of what a path leads to: the field is empty if that is nothing, or null.
 abbrev pub IsField : LeastType → Option Tree → Option (List ℕ) → Type 0

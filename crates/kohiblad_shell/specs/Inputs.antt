@@ -4,7 +4,7 @@ use Rattle.std.specs.Prelude.{Bool, true, false, Option, Some, None, OnSome, ⊤
 use Rattle.std.specs.Io.KnownBytes.{Consumes, IsAtEnd, Keeps}
 use Rattle.answer_lines.specs.Lines.{IsLine}
 use Rattle.jsonb.specs.Texts.{display_text}
-use Rattle.jsonb_column.specs.Storage.{row_bytes}
+use Rattle.jsonb.specs.StoredRow.{row_bytes}
 use Rattle.kohiblad_shell.specs.declared.input.Form.{Form}
 use Rattle.kohiblad_shell.specs.declared.input.Form.TheVariants.{Lines, Documents}
 use Rattle.kohiblad_shell.specs.declared.input.Found.{Found}

@@ -15,9 +15,6 @@ pub mod Rows
 pub mod Removals
 pub mod Ranges
 pub mod Extracts
-pub mod Titles
-pub mod PartLines
-pub mod Shows
 pub mod Operations
 pub mod Surveys
 pub mod Arguments

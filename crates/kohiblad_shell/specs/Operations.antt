@@ -10,7 +10,7 @@ use Rattle.jsonb_value.specs.Tree.{Tree, text}
 use Rattle.jsonb_codec.specs.Canon.{canon, Fits}
 use Rattle.jsonb.specs.Document.{document_tree, tree_in}
 use Rattle.hex.specs.Hex.{encode_lower}
-use Rattle.jsonb_column.specs.Storage.{row_bytes}
+use Rattle.jsonb.specs.StoredRow.{row_bytes}
 use Rattle.jsonb_functions.specs.Contains.{contains_whole}
 use Rattle.jsonb_functions.specs.Edited.{edited_whole, create}
 use Rattle.jsonb_functions.specs.Patched.{patched}
@@ -44,7 +44,6 @@ use Rattle.kohiblad_shell.specs.Inputs.{framed, made_row}
 use Rattle.kohiblad_shell.specs.Ranges.{is_in_range}
 use Rattle.kohiblad_shell.specs.Removals.{IsRemoved}
 use Rattle.kohiblad_shell.specs.Rows.{IsRow, IsRowFault}
-use Rattle.kohiblad_shell.specs.Shows.{shown_lines}
 use Rattle.kohiblad_shell.specs.Sorts.{key_and_line}
 
 -- The text of a string; none of every other value.
@@ -85,7 +84,8 @@ abbrev pub document_line : TextLayout → Tree → List ℕ
 document_line Compact t = row_line t
 document_line Pretty t = pretty t ++ 10 ∷ []
 
--- What an operation writes for a row and its document, if it makes no value.
+-- What an operation writes for a row and its document, if it makes no value and the bytes are not
+-- shown.
 abbrev pub row_lines : Operation → Form → List ℕ → List ℕ → List ℕ
 row_lines Check form row bytes = []
 row_lines Canonical form row bytes = []
@@ -107,7 +107,7 @@ row_lines (Key paths) form row bytes =
 row_lines (Sort paths) form row bytes =
     key_and_line (row_key paths.now (tree_in bytes)) (framed form row)
 row_lines (Extract columns) form row bytes = []
-row_lines (Show look) form row bytes = shown_lines look bytes
+row_lines (Show look) form row bytes = []
 
 -- The changed value.
 abbrev pub changed : Change → Tree → Tree
@@ -127,7 +127,8 @@ IsCanonicalRow Documents t outcome = IsMade Documents t outcome
 IsCanonicalRow (Lines reading) t (Ok lines) = lines ≡ row_line t
 IsCanonicalRow (Lines reading) t (Err fault) = ⊥
 
--- What an operation gives for a row and its document.
+-- What an operation gives for a row and its document. Of the lines that show the bytes nothing is
+-- said.
 abbrev pub IsRowAnswer : Operation → Form → List ℕ → List ℕ → Outcome → Type 0
 IsRowAnswer (operations.Change change) form row bytes outcome =
     IsMade form (changed change (tree_in bytes)) outcome
@@ -135,6 +136,8 @@ IsRowAnswer (Remove paths) form row bytes outcome = IsRemoved form paths.now byt
 IsRowAnswer (Extract columns) form row bytes outcome =
     IsExtracted columns.now (tree_in bytes) outcome
 IsRowAnswer Canonical form row bytes outcome = IsCanonicalRow form (tree_in bytes) outcome
+IsRowAnswer (Show look) form row bytes (Ok lines) = ⊤
+IsRowAnswer (Show look) form row bytes (Err fault) = ⊥
 IsRowAnswer operation form row bytes (Ok lines) = lines ≡ row_lines operation form row bytes
 IsRowAnswer operation form row bytes (Err fault) = ⊥
 

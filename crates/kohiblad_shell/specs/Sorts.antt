@@ -4,7 +4,7 @@ use Rattle.std.specs.Prelude.{IsPermutation, IsSorted, flat_map, nat_eq, reverse
 use Rattle.std.specs.Cmp.Lexicographic.{pointwise, slice_cmp}
 use Rattle.std.specs.List.Sorted.{IsStable}
 use Rattle.std.specs.Ordering.{nat_cmp, on}
-use Rattle.jsonb_column.specs.Storage.{row_bytes}
+use Rattle.jsonb.specs.StoredRow.{row_bytes}
 use Rattle.kohiblad_shell.specs.declared.sort.Arrangement.{Arrangement}
 use Rattle.kohiblad_shell.specs.declared.sort.Keyed.{Keyed}
 

@@ -42,7 +42,8 @@ pub use Rattle.kohiblad_shell.specs.Rows.{AreExpected, IsNotJson, IsParsed}
 pub use Rattle.kohiblad_shell.specs.Rows.{IsRefusedLine, IsRefusedRow, IsRow}
 pub use Rattle.kohiblad_shell.specs.Rows.{line_reason, unanswered_of}
 pub use Rattle.kohiblad_shell.specs.Extracts.{IsCsvLine, IsField, IsFieldAt, IsFieldBy}
-pub use Rattle.kohiblad_shell.specs.Extracts.{IsFieldOf, IsTypedLine, column_words, csv_text}
+pub use Rattle.kohiblad_shell.specs.Extracts.{IsFieldOf, IsScalarField, IsTypedLine}
+pub use Rattle.kohiblad_shell.specs.Extracts.{column_words, csv_text}
 pub use Rattle.kohiblad_shell.specs.Extracts.{doubled, ends_field, is_quoted, value_text}
 pub use Rattle.kohiblad_shell.specs.Ranges.{is_in_range, is_tree_in}
 pub use Rattle.kohiblad_shell.specs.Removals.{IsRemoved, begins_path, path_count, without}
@@ -55,34 +56,12 @@ pub use Rattle.kohiblad_shell.specs.Surveys.{scale_lines, survey_lines, time_cou
 pub use Rattle.kohiblad_shell.specs.Surveys.{with_document}
 pub use Rattle.kohiblad_shell.specs.declared.input.Form.TheVariants.{Documents}
 pub use Rattle.kohiblad_shell.specs.declared.outcome.Unanswered.TheVariants.{OutOfMemory, Wrong}
-pub use Rattle.kohiblad_shell.specs.Titles.{container_name}
-pub use Rattle.kohiblad_shell.specs.Titles.{extension_kind, extension_name, grouped_digits}
-pub use Rattle.kohiblad_shell.specs.Titles.{grouped_number}
-pub use Rattle.kohiblad_shell.specs.Titles.{header_title, is_old_form, opaque_name}
-pub use Rattle.kohiblad_shell.specs.Titles.{kind_before, old_mark, quoted_key, scalar_document}
-pub use Rattle.kohiblad_shell.specs.Titles.{scalar_text, scalar_title, shortened}
-pub use Rattle.kohiblad_shell.specs.Titles.{shown_text, value_title}
-pub use Rattle.kohiblad_shell.specs.PartLines.{blanks, color_code, cut_line, cut_text, ended}
-pub use Rattle.kohiblad_shell.specs.PartLines.{entry_column, first_line, grouped_bytes, head_line}
-pub use Rattle.kohiblad_shell.specs.PartLines.{head_text, heading}
-pub use Rattle.kohiblad_shell.specs.PartLines.{is_blank, later_line, line_columns, line_count}
-pub use Rattle.kohiblad_shell.specs.PartLines.{more_lines, on_left, painted, part_lines}
-pub use Rattle.kohiblad_shell.specs.PartLines.{place_column, sheet_for, shown_bytes, view_of}
-pub use Rattle.kohiblad_shell.specs.Shows.{branch, child_lines, color_of, entry_word}
-pub use Rattle.kohiblad_shell.specs.Shows.{inside_lines, inside_of, is_scalar, items_lines}
-pub use Rattle.kohiblad_shell.specs.Shows.{key_lines, members_lines, nested_lines, own_bytes}
-pub use Rattle.kohiblad_shell.specs.Shows.{own_lines, scalar_lines, shown_lines, spot_of, stem}
-pub use Rattle.kohiblad_shell.specs.Shows.{whole_spot}
-pub use Rattle.jsonb.specs.Entries.{item_run, key_run, value_run}
-pub use Rattle.jsonb.specs.Entry.{IsEntryIn}
-pub use Rattle.jsonb_functions.specs.PathPlaces.{header_or_none, read_entries, run_entries}
-pub use Rattle.jsonb_codec.specs.WordBytes.{header_at}
 pub use Rattle.hex.specs.Hex.{encode_lower}
 pub use Rattle.jsonb_value.specs.ExtCode.{extension_of}
 pub use Rattle.jsonb_value.specs.Text.{compact, extension_text, number_text}
 pub use Rattle.jsonb_typed.specs.Types.{IsBinary, IsText}
-pub use Rattle.jsonb_typed.specs.declared.lattice.LeastType.{LeastType}
-pub use Rattle.jsonb.specs.Document.{document_bytes, document_tree, tree_in}
+pub use Rattle.jsonb_typed.specs.declared.scalar.ScalarType.{ScalarType}
+pub use Rattle.jsonb.specs.Document.{document_bytes, document_tree}
 pub use Rattle.jsonb.specs.Node.{HoldsNoScalar, node_tree}
 pub use Rattle.kohiblad_shell.specs.Operations.{IsCanonicalRow, IsResultOf}
 pub use Rattle.kohiblad_shell.specs.Operations.{IsRowAnswer, changed, document_line, kept_row}

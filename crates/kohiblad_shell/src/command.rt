@@ -1,8 +1,7 @@
-//! Which operation a command is.
+//! The commands, and which operation each of them is.
 
 ghost use Rattle.std.specs.Prelude.{◌≡◌};
-ghost use Rattle.kohiblad_shell.specs.Commands.{keys_operation, operation_of, path_operation};
-ghost use Rattle.kohiblad_shell.specs.Commands.{plain_operation, value_operation};
+ghost use Rattle.kohiblad_shell.specs.Commands.{operation_of};
 
 use crate::extract::TypedPath;
 use crate::operation::{Change, Operation, Style, TextLayout};
@@ -11,7 +10,34 @@ use crate::range::ValueRange;
 use jsonb::Document;
 use jsonb_functions::{Selector, Step};
 
-/// What a command is given besides its name, its files and the form of its rows.
+/// A command.
+#[derive(Clone, Copy)]
+pub enum Command {
+    Check,
+    Fault,
+    Canonical,
+    Get,
+    Select,
+    Filter,
+    Count,
+    Survey,
+    Extract,
+    Contains,
+    Set,
+    Remove,
+    Merge,
+    Pick,
+    StripNulls,
+    Range,
+    Sort,
+    MergeSorted,
+    Keys,
+    Encode,
+    Decode,
+    Show,
+}
+
+/// What a command is given besides its files and the form of its rows.
 #[derive(Clone, Copy)]
 pub enum Operands<'a> {
     /// Nothing.
@@ -38,84 +64,37 @@ pub enum Operands<'a> {
     Look(Look),
 }
 
-/// The operation of the command of this name. `None` if no command of this name is given such
-/// operands.
-pub fn operation_of<'a>(name: &str, operands: Operands<'a>) -> Option<Operation<'a>>
-    ensures { result ≡ operation_of name.now operands.entry }
+/// The operation of a command. `fault` writes what `check` reports, `count` counts the rows that
+/// `filter` writes, and both commands that sort keep each row with its key. `None` if the command is
+/// not given such operands.
+pub fn operation_of<'a>(command: Command, operands: Operands<'a>) -> Option<Operation<'a>>
+    ensures { result ≡ operation_of command operands.entry }
 {
-    match operands {
-        Operands::Nothing => plain_operation(name),
-        Operands::Layout(layout) if name == "decode" => Some(Operation::Decode(layout)),
-        Operands::Path(path, style) => path_operation(name, path, style),
-        Operands::Value(value) => value_operation(name, value),
-        Operands::Names(names) if name == "pick" => Some(Operation::Change(Change::Pick(names))),
-        Operands::Keys(paths) => keys_operation(name, paths),
-        Operands::Steps(path, value) if name == "set" => {
+    match (command, operands) {
+        (Command::Check | Command::Fault, Operands::Nothing) => Some(Operation::Check),
+        (Command::Canonical, Operands::Nothing) => Some(Operation::Canonical),
+        (Command::StripNulls, Operands::Nothing) => Some(Operation::Change(Change::StripNulls)),
+        (Command::Encode, Operands::Nothing) => Some(Operation::Encode),
+        (Command::Decode, Operands::Layout(layout)) => Some(Operation::Decode(layout)),
+        (Command::Show, Operands::Look(look)) => Some(Operation::Show(look)),
+        (Command::Get, Operands::Path(path, style)) => Some(Operation::Get(path, style)),
+        (Command::Select, Operands::Path(path, style)) => Some(Operation::Select(path, style)),
+        (Command::Filter | Command::Count, Operands::Path(path, _)) => {
+            Some(Operation::Filter(path))
+        }
+        (Command::Contains, Operands::Value(value)) => Some(Operation::Contains(value)),
+        (Command::Merge, Operands::Value(value)) => Some(Operation::Change(Change::Merge(value))),
+        (Command::Pick, Operands::Names(names)) => Some(Operation::Change(Change::Pick(names))),
+        (Command::Set, Operands::Steps(path, value)) => {
             Some(Operation::Change(Change::Set(path, value)))
         }
-        Operands::Removed(paths) if name == "remove" => Some(Operation::Remove(paths)),
-        Operands::Range(range) if name == "range" => Some(Operation::Range(range)),
-        Operands::Columns(columns) if name == "extract" => Some(Operation::Extract(columns)),
-        Operands::Look(look) if name == "show" => Some(Operation::Show(look)),
+        (Command::Remove, Operands::Removed(paths)) => Some(Operation::Remove(paths)),
+        (Command::Extract, Operands::Columns(columns)) => Some(Operation::Extract(columns)),
+        (Command::Range, Operands::Range(range)) => Some(Operation::Range(range)),
+        (Command::Keys, Operands::Keys(paths)) => Some(Operation::Key(paths)),
+        (Command::Sort | Command::MergeSorted, Operands::Keys(paths)) => {
+            Some(Operation::Sort(paths))
+        }
         _ => None,
-    }
-}
-
-// The operation of a command that is given nothing. `fault` writes what `check` reports.
-fn plain_operation<'a>(name: &str) -> Option<Operation<'a>>
-    ensures { result ≡ plain_operation name.now }
-{
-    if name == "check" || name == "fault" {
-        Some(Operation::Check)
-    } else if name == "canonical" {
-        Some(Operation::Canonical)
-    } else if name == "strip-nulls" {
-        Some(Operation::Change(Change::StripNulls))
-    } else if name == "encode" {
-        Some(Operation::Encode)
-    } else {
-        None
-    }
-}
-
-// The operation of a command that is given a path. `count` counts the rows that `filter` writes.
-fn path_operation<'a>(name: &str, path: &'a [Selector<'a>], style: Style) -> Option<Operation<'a>>
-    ensures { result ≡ path_operation name.now path.entry style }
-{
-    if name == "get" {
-        Some(Operation::Get(path, style))
-    } else if name == "select" {
-        Some(Operation::Select(path, style))
-    } else if name == "filter" || name == "count" {
-        Some(Operation::Filter(path))
-    } else {
-        None
-    }
-}
-
-// The operation of a command that is given a value.
-fn value_operation<'a>(name: &str, value: Document<'a>) -> Option<Operation<'a>>
-    ensures { result ≡ value_operation name.now value.entry }
-{
-    if name == "contains" {
-        Some(Operation::Contains(value))
-    } else if name == "merge" {
-        Some(Operation::Change(Change::Merge(value)))
-    } else {
-        None
-    }
-}
-
-// The operation of a command that is given paths to the values that decide. Both commands that sort
-// keep each row with its key.
-fn keys_operation<'a>(name: &str, paths: &'a [Vec<Selector<'a>>]) -> Option<Operation<'a>>
-    ensures { result ≡ keys_operation name.now paths.entry }
-{
-    if name == "keys" {
-        Some(Operation::Key(paths))
-    } else if name == "sort" || name == "merge-sorted" {
-        Some(Operation::Sort(paths))
-    } else {
-        None
     }
 }

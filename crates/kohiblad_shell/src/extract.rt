@@ -4,7 +4,8 @@ ghost use Rattle.std.specs.Prelude.{◌≡◌, ◌≤◌, ◌∷◌, ◌++◌, �
 ghost use Rattle.std.specs.Prelude.{option_map};
 ghost use Rattle.std.specs.List.{list_any};
 ghost use Rattle.kohiblad_shell.specs.Words.{HoldsNoScalar, IsBinary, IsCsvLine, IsField};
-ghost use Rattle.kohiblad_shell.specs.Words.{IsFieldAt, IsFieldBy, IsFieldOf, IsText, LeastType};
+ghost use Rattle.kohiblad_shell.specs.Words.{IsFieldAt, IsFieldBy, IsFieldOf, IsScalarField};
+ghost use Rattle.kohiblad_shell.specs.Words.{IsText, ScalarType};
 ghost use Rattle.kohiblad_shell.specs.Words.{column_words, compact, csv_text, document_tree};
 ghost use Rattle.kohiblad_shell.specs.Words.{doubled, ends_field, extension_of, extension_text};
 ghost use Rattle.kohiblad_shell.specs.Words.{is_quoted, node_tree, number_text, value_text};
@@ -17,8 +18,8 @@ use jsonb::{
 };
 use jsonb_functions::Selector;
 use jsonb_typed::{
-    Boolean, ColumnType, Dates, Decimal, Fit, Int64, Intervals, LeastType, Timestamps, UInt64,
-    ZonedTimestamps, binary_of, opened,
+    Boolean, ColumnType, Dates, Decimal, Fit, Int64, Intervals, LeastType, ScalarType, Timestamps,
+    UInt64, ZonedTimestamps, binary_of, opened,
 };
 use std::alloc::Global;
 
@@ -116,20 +117,32 @@ fn field_of_known(
         (option_map (λ field. field.items) field)) }
     ensures memory { IfErr result (λ e. e ≡ Error.OutOfMemory) }
 {
-    let fit = Fit::ByValue;
     match value_type {
         LeastType::Nothing => Ok(None),
-        LeastType::Boolean => field_by(alloc, value, &Boolean),
-        LeastType::Int64 => field_by(alloc, value, &Int64 { fit }),
-        LeastType::UInt64 => field_by(alloc, value, &UInt64 { fit }),
-        LeastType::Decimal(scale) => field_by(alloc, value, &Decimal { scale, fit }),
-        LeastType::Text => field_of_text(alloc, value),
-        LeastType::Date => field_by(alloc, value, &Dates),
-        LeastType::Timestamp => field_by(alloc, value, &Timestamps),
-        LeastType::ZonedTimestamp => field_by(alloc, value, &ZonedTimestamps),
-        LeastType::Interval => field_by(alloc, value, &Intervals),
-        LeastType::Binary => field_of_binary(alloc, value),
+        LeastType::Of(of) => field_of_scalar(alloc, value, of),
         LeastType::Mixed => Ok(Some(csv_text(alloc, &value.to_string(alloc)?)?)),
+    }
+}
+
+// The same of a value that is to be of this type. `None` if it is not.
+fn field_of_scalar(alloc: Global, value: Node<'_>, of: ScalarType) -> Result<Option<Vec<u8>>, Error>
+    requires { HoldsNoScalar value }
+    ensures ok { IfOk result (λ field. IsScalarField of (node_tree value.entry)
+        (option_map (λ field. field.items) field)) }
+    ensures memory { IfErr result (λ e. e ≡ Error.OutOfMemory) }
+{
+    let fit = Fit::ByValue;
+    match of {
+        ScalarType::Boolean => field_by(alloc, value, &Boolean),
+        ScalarType::Int64 => field_by(alloc, value, &Int64 { fit }),
+        ScalarType::UInt64 => field_by(alloc, value, &UInt64 { fit }),
+        ScalarType::Decimal(scale) => field_by(alloc, value, &Decimal { scale, fit }),
+        ScalarType::Text => field_of_text(alloc, value),
+        ScalarType::Date => field_by(alloc, value, &Dates),
+        ScalarType::Timestamp => field_by(alloc, value, &Timestamps),
+        ScalarType::ZonedTimestamp => field_by(alloc, value, &ZonedTimestamps),
+        ScalarType::Interval => field_by(alloc, value, &Intervals),
+        ScalarType::Binary => field_of_binary(alloc, value),
     }
 }
 
@@ -144,7 +157,7 @@ trait Written: ColumnType {
 }
 
 impl Written for Boolean {
-    ghost text = { λ s v. value_text LeastType.Boolean v };
+    ghost text = { λ s v. value_text ScalarType.Boolean v };
 
     fn field(&self, alloc: Global, value: bool) -> Result<Vec<u8>, Error> {
         text_of(alloc, Node::Boolean(value))
@@ -152,7 +165,7 @@ impl Written for Boolean {
 }
 
 impl Written for Int64 {
-    ghost text = { λ s v. value_text LeastType.Int64 v };
+    ghost text = { λ s v. value_text ScalarType.Int64 v };
 
     fn field(&self, alloc: Global, value: i64) -> Result<Vec<u8>, Error> {
         text_of_number(alloc, Number::Int64(value))
@@ -160,7 +173,7 @@ impl Written for Int64 {
 }
 
 impl Written for UInt64 {
-    ghost text = { λ s v. value_text LeastType.UInt64 v };
+    ghost text = { λ s v. value_text ScalarType.UInt64 v };
 
     fn field(&self, alloc: Global, value: u64) -> Result<Vec<u8>, Error> {
         text_of_number(alloc, Number::UInt64(value))
@@ -168,7 +181,7 @@ impl Written for UInt64 {
 }
 
 impl Written for Decimal {
-    ghost text = { λ s v. value_text (LeastType.Decimal s.scale) v };
+    ghost text = { λ s v. value_text (ScalarType.Decimal s.scale) v };
 
     fn field(&self, alloc: Global, value: i128) -> Result<Vec<u8>, Error> {
         let scale = self.scale;
@@ -177,7 +190,7 @@ impl Written for Decimal {
 }
 
 impl Written for Dates {
-    ghost text = { λ s v. value_text LeastType.Date v };
+    ghost text = { λ s v. value_text ScalarType.Date v };
 
     fn field(&self, alloc: Global, value: Date) -> Result<Vec<u8>, Error> {
         text_of_extension(alloc, ExtensionValue::Date(value))
@@ -185,7 +198,7 @@ impl Written for Dates {
 }
 
 impl Written for Timestamps {
-    ghost text = { λ s v. value_text LeastType.Timestamp v };
+    ghost text = { λ s v. value_text ScalarType.Timestamp v };
 
     fn field(&self, alloc: Global, value: Timestamp) -> Result<Vec<u8>, Error> {
         text_of_extension(alloc, ExtensionValue::Timestamp(value))
@@ -193,7 +206,7 @@ impl Written for Timestamps {
 }
 
 impl Written for ZonedTimestamps {
-    ghost text = { λ s v. value_text LeastType.ZonedTimestamp v };
+    ghost text = { λ s v. value_text ScalarType.ZonedTimestamp v };
 
     fn field(&self, alloc: Global, value: TimestampTz) -> Result<Vec<u8>, Error> {
         text_of_extension(alloc, ExtensionValue::TimestampTz(value))
@@ -201,7 +214,7 @@ impl Written for ZonedTimestamps {
 }
 
 impl Written for Intervals {
-    ghost text = { λ s v. value_text LeastType.Interval v };
+    ghost text = { λ s v. value_text ScalarType.Interval v };
 
     fn field(&self, alloc: Global, value: Interval) -> Result<Vec<u8>, Error> {
         text_of_extension(alloc, ExtensionValue::Interval(value))
@@ -243,7 +256,7 @@ fn field_of_text(alloc: Global, value: Node<'_>) -> Result<Option<Vec<u8>>, Erro
 // if the value is no binary value.
 fn field_of_binary(alloc: Global, value: Node<'_>) -> Result<Option<Vec<u8>>, Error>
     requires { HoldsNoScalar value }
-    ensures ok { IfOk result (λ field. IsFieldBy IsBinary (value_text LeastType.Binary)
+    ensures ok { IfOk result (λ field. IsFieldBy IsBinary (value_text ScalarType.Binary)
         (node_tree value.entry) (option_map (λ field. field.items) field)) }
     ensures memory { IfErr result (λ e. e ≡ Error.OutOfMemory) }
 {

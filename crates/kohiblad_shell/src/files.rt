@@ -1,6 +1,7 @@
 //! The files that a command reads, and the output that it writes.
 
 use crate::arguments::{output_in, shows_progress_in, words_in};
+use crate::commands::End;
 use crate::extract::column_words;
 use crate::halt::Halt;
 use crate::input::Form;
@@ -44,15 +45,14 @@ pub fn goes_to_terminal(rt: &HostRuntime, arguments: &ArgMatches<'_>) -> bool {
     output_in(arguments) == "-" && rt.stdout().is_terminal()
 }
 
-/// The progress of the run of a command over its files, which begins now.
+/// The progress of a run over these files, which ends so and begins now.
 pub fn progress_of<'a>(
     rt: &'a HostRuntime,
-    name: &str,
+    end: End,
     files: &[&str],
     arguments: &ArgMatches<'_>,
 ) -> Progress<'a> {
-    let is_last = name == "check" || name == "count" || name == "survey" || name == "sort";
-    let is_usual = rt.stderr().is_terminal() && (is_last || !goes_to_terminal(rt, arguments));
+    let is_usual = rt.stderr().is_terminal() && (end.is_last() || !goes_to_terminal(rt, arguments));
     Progress::new(
         rt,
         shows_progress_in(arguments, is_usual),

@@ -3,6 +3,8 @@
 
 mod arguments;
 mod command;
+mod command_line;
+mod commands;
 mod escape;
 mod expected;
 mod extract;
@@ -16,6 +18,7 @@ mod merge;
 mod merge_command;
 mod messages;
 mod mode;
+mod operand_kind;
 mod operands;
 mod operation;
 mod outcome;
@@ -43,11 +46,12 @@ mod watch;
 mod write;
 
 use arguments::{
-    commands, form_in, has_operand, is_quiet_in, layout_in, look_in, operand_in, style_in,
-    value_in, words_in,
+    form_in, is_quiet_in, layout_in, look_in, operand_in, style_in, value_in, words_in,
 };
 use clap::ArgMatches;
-use command::{Operands, operation_of};
+use command::{Command, Operands, operation_of};
+use command_line::program;
+use commands::{CommandRow, End, row_named};
 use extract::column_words;
 use files::{files_of, goes_to_terminal, progress_of};
 use halt::{Halt, halt_of_write};
@@ -55,6 +59,7 @@ use input::Form;
 use jsonb::Document;
 use merge_command::write_merged;
 use messages::{failure, misuse, notice_missed, refused_line};
+use operand_kind::OperandKind;
 use operands::{
     deciding_path, deciding_path_in, document_of, path_in, push_column, push_steps, steps_in,
 };
@@ -80,14 +85,11 @@ fn shell(rt: &HostRuntime) -> u8 {
     let Ok(Ok(words)) = env::args(rt).map(|words| words.collect::<Vec<String>>(alloc)) else {
         return misuse(rt, "an argument is not UTF-8");
     };
-    let Ok(program) = commands(alloc) else {
+    let Ok(program) = program(alloc) else {
         return failure(rt, Halt::Memory);
     };
     match program.try_get_matches_from(words.as_slice()) {
-        Ok(matches) => match matches.subcommand() {
-            Some((name, matches)) => run_command(rt, name, matches),
-            None => misuse(rt, "no command"),
-        },
+        Ok(matches) => run_named(rt, &matches),
         Err(error) if error.use_stderr() => refused_line(rt, &error),
         Err(error) => match error.print(rt) {
             Ok(()) => FOUND,
@@ -96,33 +98,36 @@ fn shell(rt: &HostRuntime) -> u8 {
     }
 }
 
-// Runs a command.
-fn run_command(rt: &HostRuntime, name: &str, arguments: &ArgMatches<'_>) -> u8 {
-    if name == "contains" || name == "merge" {
-        with_value(rt, name, arguments)
-    } else if name == "pick" {
-        with_names(rt, name, arguments)
-    } else if name == "decode" {
-        run_operands(rt, name, Operands::Layout(layout_in(arguments)), arguments)
-    } else if name == "show" {
-        let look = look_in(arguments, shows_colors(rt, arguments));
-        run_operands(rt, name, Operands::Look(look), arguments)
-    } else if name == "sort" || name == "keys" || name == "merge-sorted" {
-        with_paths(rt, name, arguments)
-    } else if name == "set" {
-        with_steps(rt, name, arguments)
-    } else if name == "remove" {
-        with_removals(rt, name, arguments)
-    } else if name == "range" {
-        with_bounds(rt, name, arguments)
-    } else if name == "survey" {
-        with_surveyed(rt, arguments)
-    } else if name == "extract" {
-        with_columns(rt, name, arguments)
-    } else if has_operand(name) {
-        with_path(rt, name, arguments)
-    } else {
-        run_operands(rt, name, Operands::Nothing, arguments)
+// Runs the command that was named.
+fn run_named(rt: &HostRuntime, matches: &ArgMatches<'_>) -> u8 {
+    let Some((name, arguments)) = matches.subcommand() else {
+        return misuse(rt, "no command");
+    };
+    match row_named(name) {
+        Some(row) => run_command(rt, row, arguments),
+        None => misuse(rt, "no such command"),
+    }
+}
+
+// Runs a command, whose operands are read first.
+fn run_command(rt: &HostRuntime, row: &CommandRow, arguments: &ArgMatches<'_>) -> u8 {
+    match row.operands {
+        OperandKind::Nothing => run_operands(rt, row, Operands::Nothing, arguments),
+        OperandKind::Path | OperandKind::Condition => with_path(rt, row, arguments),
+        OperandKind::Value => with_value(rt, row, arguments),
+        OperandKind::Names => with_names(rt, row, arguments),
+        OperandKind::Steps => with_steps(rt, row, arguments),
+        OperandKind::Removed => with_removals(rt, row, arguments),
+        OperandKind::Columns => with_columns(rt, row, arguments),
+        OperandKind::Bounds => with_bounds(rt, row, arguments),
+        OperandKind::Keys => with_paths(rt, row, arguments),
+        OperandKind::Layout => {
+            run_operands(rt, row, Operands::Layout(layout_in(arguments)), arguments)
+        }
+        OperandKind::Look => {
+            let look = look_in(arguments, shows_colors(rt, arguments));
+            run_operands(rt, row, Operands::Look(look), arguments)
+        }
     }
 }
 
@@ -143,21 +148,21 @@ fn shows_colors(rt: &HostRuntime, arguments: &ArgMatches<'_>) -> bool {
 // Runs the operation of a command that is given these operands.
 fn run_operands(
     rt: &HostRuntime,
-    name: &str,
+    row: &CommandRow,
     operands: Operands<'_>,
     arguments: &ArgMatches<'_>,
 ) -> u8 {
-    let Some(operation) = operation_of(name, operands) else {
+    let Some(operation) = operation_of(row.command, operands) else {
         return misuse(rt, "no such command");
     };
-    let form = if name == "decode" {
-        Form::Documents
+    let form = if row.reads_lines() {
+        form_in(arguments, matches!(row.end, End::Reports))
     } else {
-        form_in(arguments, name == "fault")
+        Form::Documents
     };
     let files = files_of(operation, words_in(arguments).unwrap_or(&[]));
-    let progress = progress_of(rt, name, files, arguments);
-    let Ok(texts) = watched_texts(rt, name, arguments) else {
+    let progress = progress_of(rt, row.end, files, arguments);
+    let Ok(texts) = watched_texts(rt, row.command, arguments) else {
         return failure(rt, Halt::Memory);
     };
     let Ok(watch) = Watch::new(rt.alloc(), texts.len(), &progress) else {
@@ -168,25 +173,20 @@ fn run_operands(
         form,
         watch: &watch,
     };
-    let status = run_job(rt, name, job, arguments);
+    let status = run_job(rt, row.end, job, arguments);
     notice_missed(rt, &watch, &texts);
     status
 }
 
-// Runs the job of a command.
-fn run_job(rt: &HostRuntime, name: &str, job: Job<'_, '_>, arguments: &ArgMatches<'_>) -> u8 {
-    if name == "check" {
-        check(rt, job, arguments)
-    } else if name == "fault" {
-        write_faults(rt, job, arguments)
-    } else if name == "count" {
-        count(rt, job, arguments)
-    } else if name == "sort" {
-        write_in_order(rt, job, arguments)
-    } else if name == "merge-sorted" {
-        write_merged(rt, job, arguments)
-    } else {
-        write_rows(rt, job, arguments)
+// Runs a job, and does with its rows what the end says.
+fn run_job(rt: &HostRuntime, end: End, job: Job<'_, '_>, arguments: &ArgMatches<'_>) -> u8 {
+    match end {
+        End::Faults => check(rt, job, arguments),
+        End::Reports => write_faults(rt, job, arguments),
+        End::Count => count(rt, job, arguments),
+        End::Sorted => write_in_order(rt, job, arguments),
+        End::Merged => write_merged(rt, job, arguments),
+        End::Rows | End::Survey => write_rows(rt, job, arguments),
     }
 }
 
@@ -194,50 +194,52 @@ fn run_job(rt: &HostRuntime, name: &str, job: Job<'_, '_>, arguments: &ArgMatche
 // order of the operation; none if the command is to be quiet.
 fn watched_texts<'a>(
     rt: &HostRuntime,
-    name: &str,
+    command: Command,
     arguments: &ArgMatches<'a>,
 ) -> Result<Vec<&'a str>, AllocError> {
     let mut texts = Vec::new(rt.alloc());
     if is_quiet_in(arguments) {
         return Ok(texts);
     }
-    if name == "get" || name == "select" || name == "filter" || name == "extract" {
-        texts.push(operand_in(arguments))?;
-    }
-    if name == "extract" {
-        let words = words_in(arguments).unwrap_or(&[]);
-        for text in words[..column_words(words)].iter().step_by(2) {
-            texts.push(*text)?;
+    match command {
+        Command::Get | Command::Select | Command::Filter => texts.push(operand_in(arguments))?,
+        Command::Extract => {
+            texts.push(operand_in(arguments))?;
+            let words = words_in(arguments).unwrap_or(&[]);
+            for text in words[..column_words(words)].iter().step_by(2) {
+                texts.push(*text)?;
+            }
         }
-    }
-    if name == "range" || name == "sort" {
-        texts.extend_from_slice(arguments.get_strs("by").unwrap_or(&[]))?;
+        Command::Range | Command::Sort => {
+            texts.extend_from_slice(arguments.get_strs("by").unwrap_or(&[]))?;
+        }
+        _ => {}
     }
     Ok(texts)
 }
 
 // Runs a command whose operand is a JSON text.
-fn with_value(rt: &HostRuntime, name: &str, arguments: &ArgMatches<'_>) -> u8 {
+fn with_value(rt: &HostRuntime, row: &CommandRow, arguments: &ArgMatches<'_>) -> u8 {
     match document_of(rt, operand_in(arguments)) {
         Ok(owned) => {
             let value = Document::new_unchecked(owned.as_bytes());
-            run_operands(rt, name, Operands::Value(value), arguments)
+            run_operands(rt, row, Operands::Value(value), arguments)
         }
         Err(status) => status,
     }
 }
 
 // Runs the command whose operand is a list of names.
-fn with_names(rt: &HostRuntime, name: &str, arguments: &ArgMatches<'_>) -> u8 {
+fn with_names(rt: &HostRuntime, row: &CommandRow, arguments: &ArgMatches<'_>) -> u8 {
     let names = operand_in(arguments).split(',');
     match names.collect::<Vec<&str>>(rt.alloc()) {
-        Ok(names) => run_operands(rt, name, Operands::Names(&names), arguments),
+        Ok(names) => run_operands(rt, row, Operands::Names(&names), arguments),
         Err(_) => failure(rt, Halt::Memory),
     }
 }
 
 // Runs a command of keys by several paths.
-fn with_paths(rt: &HostRuntime, name: &str, arguments: &ArgMatches<'_>) -> u8 {
+fn with_paths(rt: &HostRuntime, row: &CommandRow, arguments: &ArgMatches<'_>) -> u8 {
     let mut paths = Vec::new(rt.alloc());
     if let Some(texts) = arguments.get_strs("by") {
         for text in texts {
@@ -250,30 +252,23 @@ fn with_paths(rt: &HostRuntime, name: &str, arguments: &ArgMatches<'_>) -> u8 {
             }
         }
     }
-    run_operands(rt, name, Operands::Keys(&paths), arguments)
+    run_operands(rt, row, Operands::Keys(&paths), arguments)
 }
 
 // Runs a command whose operand is a path.
-fn with_path(rt: &HostRuntime, name: &str, arguments: &ArgMatches<'_>) -> u8 {
+fn with_path(rt: &HostRuntime, row: &CommandRow, arguments: &ArgMatches<'_>) -> u8 {
     match path_in(rt, operand_in(arguments)) {
+        Ok(path) if matches!(row.end, End::Survey) => write_survey(rt, &path, arguments),
         Ok(path) => {
             let operands = Operands::Path(&path, style_in(arguments));
-            run_operands(rt, name, operands, arguments)
+            run_operands(rt, row, operands, arguments)
         }
         Err(status) => status,
     }
 }
 
-// Runs the command that counts what values are.
-fn with_surveyed(rt: &HostRuntime, arguments: &ArgMatches<'_>) -> u8 {
-    match path_in(rt, operand_in(arguments)) {
-        Ok(path) => write_survey(rt, &path, arguments),
-        Err(status) => status,
-    }
-}
-
 // Runs the command whose operands are a path without wildcards, ranges and filters, and a value.
-fn with_steps(rt: &HostRuntime, name: &str, arguments: &ArgMatches<'_>) -> u8 {
+fn with_steps(rt: &HostRuntime, row: &CommandRow, arguments: &ArgMatches<'_>) -> u8 {
     let steps = match steps_in(rt, operand_in(arguments)) {
         Ok(steps) => steps,
         Err(status) => return status,
@@ -281,14 +276,14 @@ fn with_steps(rt: &HostRuntime, name: &str, arguments: &ArgMatches<'_>) -> u8 {
     match document_of(rt, value_in(arguments)) {
         Ok(owned) => {
             let value = Document::new_unchecked(owned.as_bytes());
-            run_operands(rt, name, Operands::Steps(&steps, value), arguments)
+            run_operands(rt, row, Operands::Steps(&steps, value), arguments)
         }
         Err(status) => status,
     }
 }
 
 // Runs the command whose operands are paths, which come before the files.
-fn with_removals(rt: &HostRuntime, name: &str, arguments: &ArgMatches<'_>) -> u8 {
+fn with_removals(rt: &HostRuntime, row: &CommandRow, arguments: &ArgMatches<'_>) -> u8 {
     let mut paths = Vec::new(rt.alloc());
     if let Err(status) = push_steps(rt, &mut paths, operand_in(arguments)) {
         return status;
@@ -299,11 +294,11 @@ fn with_removals(rt: &HostRuntime, name: &str, arguments: &ArgMatches<'_>) -> u8
             return status;
         }
     }
-    run_operands(rt, name, Operands::Removed(&paths), arguments)
+    run_operands(rt, row, Operands::Removed(&paths), arguments)
 }
 
 // Runs the command whose operands are paths, each with a type, which come before the files.
-fn with_columns(rt: &HostRuntime, name: &str, arguments: &ArgMatches<'_>) -> u8 {
+fn with_columns(rt: &HostRuntime, row: &CommandRow, arguments: &ArgMatches<'_>) -> u8 {
     let mut columns = Vec::new(rt.alloc());
     if let Err(status) = push_column(rt, &mut columns, operand_in(arguments), value_in(arguments)) {
         return status;
@@ -320,11 +315,11 @@ fn with_columns(rt: &HostRuntime, name: &str, arguments: &ArgMatches<'_>) -> u8 
     if path_count(files) > 0 {
         return misuse(rt, "the last path has no type after it");
     }
-    run_operands(rt, name, Operands::Columns(&columns), arguments)
+    run_operands(rt, row, Operands::Columns(&columns), arguments)
 }
 
 // Runs the command whose operands are the bounds of a range.
-fn with_bounds(rt: &HostRuntime, name: &str, arguments: &ArgMatches<'_>) -> u8 {
+fn with_bounds(rt: &HostRuntime, row: &CommandRow, arguments: &ArgMatches<'_>) -> u8 {
     let path = match deciding_path_in(rt, arguments) {
         Ok(path) => path,
         Err(status) => return status,
@@ -340,7 +335,7 @@ fn with_bounds(rt: &HostRuntime, name: &str, arguments: &ArgMatches<'_>) -> u8 {
                 from: Document::new_unchecked(from.as_bytes()),
                 to: Document::new_unchecked(to.as_bytes()),
             };
-            run_operands(rt, name, Operands::Range(range), arguments)
+            run_operands(rt, row, Operands::Range(range), arguments)
         }
         Err(status) => status,
     }

@@ -22,8 +22,7 @@ use crate::removal::removed_row;
 use crate::row::{check_document, parse_line};
 use crate::show::shown_lines;
 use crate::watch::Watch;
-use jsonb::{Document, Error, Node, OwnedJsonb, RawJsonb};
-use jsonb_column::append_row;
+use jsonb::{Document, Error, Node, OwnedJsonb, RawJsonb, append_row};
 use jsonb_functions::{
     Edit, Kept, Selector, Step, contains, edit_document, merge_patch, pick, select, strip_nulls,
 };

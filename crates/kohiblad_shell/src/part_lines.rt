@@ -1,19 +1,8 @@
 //! The lines of a document's parts: an entry word, the bytes that belong to it, and the part in the
 //! tree.
 
-ghost use Rattle.std.specs.Prelude.{◌≡◌, ◌+◌, ◌++◌, ◌≤◌, ◌^◌, IfErr, IfOk, OnOk, drop, length};
-ghost use Rattle.std.specs.Prelude.{take};
-ghost use Rattle.kohiblad_shell.specs.Words.{blanks, color_code, cut_line, cut_text, ended};
-ghost use Rattle.kohiblad_shell.specs.Words.{entry_column, heading};
-ghost use Rattle.kohiblad_shell.specs.Words.{first_line, grouped_bytes, head_line};
-ghost use Rattle.kohiblad_shell.specs.Words.{head_text, is_blank, later_line, line_columns};
-ghost use Rattle.kohiblad_shell.specs.Words.{line_count, more_lines};
-ghost use Rattle.kohiblad_shell.specs.Words.{on_left, painted, part_lines, place_column};
-ghost use Rattle.kohiblad_shell.specs.Words.{sheet_for, shown_bytes, view_of};
-
 use crate::titles::grouped_number;
-use jsonb::Error;
-use std::alloc::Global;
+use std::alloc::{AllocError, Global};
 
 // How many bytes a line has.
 const LINE_BYTES: usize = 12;
@@ -88,20 +77,14 @@ pub struct Line<'a> {
 }
 
 /// The page for a document of so many bytes.
-pub fn sheet_for(alloc: Global, look: Look, len: usize) -> Result<Sheet, Error>
-    ensures ok { IfOk result (λ sheet. sheet ≡ sheet_for look len) }
-    ensures memory { IfErr result (λ e. e ≡ Error.OutOfMemory) }
-{
+pub fn sheet_for(alloc: Global, look: Look, len: usize) -> Result<Sheet, AllocError> {
     let digits = format!(in alloc; "{len}")?;
     let place_width = digits.len().max(2);
     Ok(Sheet { look, place_width })
 }
 
 /// Appends the line above all parts.
-pub fn push_head(alloc: Global, out: &mut Vec<u8>, sheet: Sheet) -> Result<(), Error>
-    ensures ok { OnOk result (out.new.items ≡ out.old.items ++ head_line sheet) }
-    ensures memory { IfErr result (λ e. e ≡ Error.OutOfMemory) }
-{
+pub fn push_head(alloc: Global, out: &mut Vec<u8>, sheet: Sheet) -> Result<(), AllocError> {
     let text = head_text(alloc, sheet)?;
     push_painted(out, sheet.look, Color::Place, &text)?;
     out.push(b'\n')?;
@@ -109,10 +92,7 @@ pub fn push_head(alloc: Global, out: &mut Vec<u8>, sheet: Sheet) -> Result<(), E
 }
 
 // The names of the columns.
-fn head_text(alloc: Global, sheet: Sheet) -> Result<Vec<u8>, Error>
-    ensures ok { IfOk result (λ text. text.items ≡ head_text sheet) }
-    ensures memory { IfErr result (λ e. e ≡ Error.OutOfMemory) }
-{
+fn head_text(alloc: Global, sheet: Sheet) -> Result<Vec<u8>, AllocError> {
     let mut text = Vec::new(alloc);
     push_heading(&mut text, sheet, b"entry", WORD_WIDTH)?;
     push_heading(&mut text, sheet, b"bytes", BYTES_WIDTH)?;
@@ -121,10 +101,12 @@ fn head_text(alloc: Global, sheet: Sheet) -> Result<Vec<u8>, Error>
 }
 
 // Appends the name of a column of this width, after blanks for the places that it has.
-fn push_heading(text: &mut Vec<u8>, sheet: Sheet, name: &[u8], width: usize) -> Result<(), Error>
-    ensures ok { OnOk result (text.new.items ≡ text.old.items ++ heading sheet width name.now) }
-    ensures memory { IfErr result (λ e. e ≡ Error.OutOfMemory) }
-{
+fn push_heading(
+    text: &mut Vec<u8>,
+    sheet: Sheet,
+    name: &[u8],
+    width: usize,
+) -> Result<(), AllocError> {
     push_blanks(text, sheet.place_width)?;
     text.push(b' ')?;
     push_on_left(text, name, width)?;
@@ -137,24 +119,17 @@ pub fn push_part(
     out: &mut Vec<u8>,
     sheet: Sheet,
     part: Part<'_>,
-) -> Result<(), Error>
-    requires { part.place + length part.own.now ≤ 2 ^ 63 }
-    ensures ok { OnOk result
-        (out.new.items ≡ out.old.items ++ part_lines sheet (view_of part.entry)) }
-    ensures memory { IfErr result (λ e. e ≡ Error.OutOfMemory) }
-{
+) -> Result<(), AllocError> {
     let shown = shown_bytes(sheet.look, part.own);
     let (first, others) = split_line(shown);
     push_first_line(alloc, out, sheet, part, first)?;
     push_more_lines(alloc, out, sheet, part, others)?;
-    push_cut(alloc, out, sheet, part, part.own.len() - shown.len())
+    let left_out = part.own.len().saturating_sub(shown.len());
+    push_cut(alloc, out, sheet, part, left_out)
 }
 
 // The bytes of a part that are shown.
-fn shown_bytes(look: Look, own: &[u8]) -> &[u8]
-    ensures shown { result.now ≡ shown_bytes look own.now }
-    ensures within { length result.now ≤ length own.now }
-{
+fn shown_bytes(look: Look, own: &[u8]) -> &[u8] {
     if look.is_whole {
         own
     } else {
@@ -163,18 +138,12 @@ fn shown_bytes(look: Look, own: &[u8]) -> &[u8]
 }
 
 /// The first bytes, at most so many.
-pub fn first_bytes(bytes: &[u8], count: usize) -> &[u8]
-    ensures first { result.now ≡ take count bytes.now }
-    ensures within { length result.now ≤ length bytes.now }
-{
+pub fn first_bytes(bytes: &[u8], count: usize) -> &[u8] {
     &bytes[..bytes.len().min(count)]
 }
 
 // The bytes of a line, and those after them.
-fn split_line(bytes: &[u8]) -> (&[u8], &[u8])
-    ensures shown { result.0.now ≡ take 12 bytes.now }
-    ensures others { result.1.now ≡ drop 12 bytes.now }
-{
+fn split_line(bytes: &[u8]) -> (&[u8], &[u8]) {
     bytes.split_at(bytes.len().min(LINE_BYTES))
 }
 
@@ -185,11 +154,7 @@ fn push_first_line(
     sheet: Sheet,
     part: Part<'_>,
     bytes: &[u8],
-) -> Result<(), Error>
-    ensures ok { OnOk result (out.new.items
-        ≡ out.old.items ++ first_line sheet (view_of part.entry) bytes.now) }
-    ensures memory { IfErr result (λ e. e ≡ Error.OutOfMemory) }
-{
+) -> Result<(), AllocError> {
     let place = if bytes.is_empty() {
         None
     } else {
@@ -214,27 +179,12 @@ fn push_more_lines(
     sheet: Sheet,
     part: Part<'_>,
     bytes: &[u8],
-) -> Result<(), Error>
-    requires { part.place + length bytes.now ≤ 2 ^ 63 }
-    ensures ok { OnOk result (out.new.items ≡ out.old.items
-        ++ more_lines (line_count (length bytes.now)) sheet (view_of part.entry) part.entry.place
-        bytes.now) }
-    ensures memory { IfErr result (λ e. e ≡ Error.OutOfMemory) }
-{
-    let mut left = bytes;
+) -> Result<(), AllocError> {
     let mut place = part.place;
-    while !left.is_empty() {
-        let (shown, others) = split_line(left);
-        place += LINE_BYTES;
-        push_later_line(
-            alloc,
-            out,
-            sheet,
-            part,
-            Some(place),
-            &grouped_bytes(alloc, shown)?,
-        )?;
-        left = others;
+    for shown in bytes.chunks(LINE_BYTES) {
+        place = place.saturating_add(LINE_BYTES);
+        let shown = grouped_bytes(alloc, shown)?;
+        push_later_line(alloc, out, sheet, part, Some(place), &shown)?;
     }
     Ok(())
 }
@@ -246,11 +196,7 @@ fn push_cut(
     sheet: Sheet,
     part: Part<'_>,
     count: usize,
-) -> Result<(), Error>
-    ensures ok { OnOk result
-        (out.new.items ≡ out.old.items ++ cut_line sheet (view_of part.entry) count) }
-    ensures memory { IfErr result (λ e. e ≡ Error.OutOfMemory) }
-{
+) -> Result<(), AllocError> {
     if count == 0 {
         return Ok(());
     }
@@ -259,10 +205,7 @@ fn push_cut(
 }
 
 // What stands for so many bytes that are not shown.
-fn cut_text(alloc: Global, count: usize) -> Result<Vec<u8>, Error>
-    ensures ok { IfOk result (λ text. text.items ≡ cut_text count) }
-    ensures memory { IfErr result (λ e. e ≡ Error.OutOfMemory) }
-{
+fn cut_text(alloc: Global, count: usize) -> Result<Vec<u8>, AllocError> {
     let mut text = Vec::new(alloc);
     text.extend_from_slice(b".. ")?;
     text.extend_from_slice(&grouped_number(alloc, count)?)?;
@@ -278,11 +221,7 @@ fn push_later_line(
     part: Part<'_>,
     place: Option<usize>,
     shown: &[u8],
-) -> Result<(), Error>
-    ensures ok { OnOk result (out.new.items
-        ≡ out.old.items ++ later_line sheet (view_of part.entry) place shown.now) }
-    ensures memory { IfErr result (λ e. e ≡ Error.OutOfMemory) }
-{
+) -> Result<(), AllocError> {
     let line = Line {
         entry: None,
         place,
@@ -295,11 +234,12 @@ fn push_later_line(
 }
 
 // Appends a line, without the blanks at its end.
-fn push_line(alloc: Global, out: &mut Vec<u8>, sheet: Sheet, line: Line<'_>) -> Result<(), Error>
-    ensures ok { OnOk result
-        (out.new.items ≡ out.old.items ++ ended (line_columns sheet line.entry)) }
-    ensures memory { IfErr result (λ e. e ≡ Error.OutOfMemory) }
-{
+fn push_line(
+    alloc: Global,
+    out: &mut Vec<u8>,
+    sheet: Sheet,
+    line: Line<'_>,
+) -> Result<(), AllocError> {
     let text = line_text(alloc, sheet, line)?;
     out.extend_from_slice(text.trim_ascii_end())?;
     out.push(b'\n')?;
@@ -307,10 +247,7 @@ fn push_line(alloc: Global, out: &mut Vec<u8>, sheet: Sheet, line: Line<'_>) -> 
 }
 
 // The columns of a line.
-fn line_text(alloc: Global, sheet: Sheet, line: Line<'_>) -> Result<Vec<u8>, Error>
-    ensures ok { IfOk result (λ text. text.items ≡ line_columns sheet line.entry) }
-    ensures memory { IfErr result (λ e. e ≡ Error.OutOfMemory) }
-{
+fn line_text(alloc: Global, sheet: Sheet, line: Line<'_>) -> Result<Vec<u8>, AllocError> {
     let mut text = Vec::new(alloc);
     push_entry(alloc, &mut text, sheet, line.entry)?;
     text.extend_from_slice(b"  ")?;
@@ -331,16 +268,12 @@ fn line_text(alloc: Global, sheet: Sheet, line: Line<'_>) -> Result<Vec<u8>, Err
 }
 
 // Appends an entry word after its place, or blanks if there is none.
-#[tactic(auto, unfolding(jsonb_codec::specs::WordBytes::word))]
 fn push_entry(
     alloc: Global,
     text: &mut Vec<u8>,
     sheet: Sheet,
     entry: Option<EntryWord>,
-) -> Result<(), Error>
-    ensures ok { OnOk result (text.new.items ≡ text.old.items ++ entry_column sheet entry) }
-    ensures memory { IfErr result (λ e. e ≡ Error.OutOfMemory) }
-{
+) -> Result<(), AllocError> {
     match entry {
         Some(entry) => {
             push_place(alloc, text, sheet, Some(entry.place))?;
@@ -369,10 +302,7 @@ fn push_place(
     text: &mut Vec<u8>,
     sheet: Sheet,
     place: Option<usize>,
-) -> Result<(), Error>
-    ensures ok { OnOk result (text.new.items ≡ text.old.items ++ place_column sheet place) }
-    ensures memory { IfErr result (λ e. e ≡ Error.OutOfMemory) }
-{
+) -> Result<(), AllocError> {
     let Some(place) = place else {
         return push_blanks(text, sheet.place_width);
     };
@@ -391,30 +321,20 @@ fn push_column(
     color: Color,
     shown: &[u8],
     width: usize,
-) -> Result<(), Error>
-    ensures ok { OnOk result (text.new.items
-        ≡ text.old.items ++ painted look color (on_left width shown.now)) }
-    ensures memory { IfErr result (λ e. e ≡ Error.OutOfMemory) }
-{
+) -> Result<(), AllocError> {
     let mut column = Vec::new(alloc);
     push_on_left(&mut column, shown, width)?;
     push_painted(text, look, color, &column)
 }
 
 // Appends a text, and blanks up to a width.
-fn push_on_left(column: &mut Vec<u8>, shown: &[u8], width: usize) -> Result<(), Error>
-    ensures ok { OnOk result (column.new.items ≡ column.old.items ++ on_left width shown.now) }
-    ensures memory { IfErr result (λ e. e ≡ Error.OutOfMemory) }
-{
+fn push_on_left(column: &mut Vec<u8>, shown: &[u8], width: usize) -> Result<(), AllocError> {
     column.extend_from_slice(shown)?;
     push_blanks(column, width.saturating_sub(shown.len()))
 }
 
 // Appends so many blanks.
-fn push_blanks(text: &mut Vec<u8>, count: usize) -> Result<(), Error>
-    ensures ok { OnOk result (text.new.items ≡ text.old.items ++ blanks count) }
-    ensures memory { IfErr result (λ e. e ≡ Error.OutOfMemory) }
-{
+fn push_blanks(text: &mut Vec<u8>, count: usize) -> Result<(), AllocError> {
     for _ in 0..count {
         text.push(b' ')?;
     }
@@ -422,10 +342,12 @@ fn push_blanks(text: &mut Vec<u8>, count: usize) -> Result<(), Error>
 }
 
 // Appends a word in its color, if there are colors and the word is not blank.
-fn push_painted(text: &mut Vec<u8>, look: Look, color: Color, word: &[u8]) -> Result<(), Error>
-    ensures ok { OnOk result (text.new.items ≡ text.old.items ++ painted look color word.now) }
-    ensures memory { IfErr result (λ e. e ≡ Error.OutOfMemory) }
-{
+fn push_painted(
+    text: &mut Vec<u8>,
+    look: Look,
+    color: Color,
+    word: &[u8],
+) -> Result<(), AllocError> {
     if look.is_colored && !is_blank(word) {
         text.extend_from_slice(b"\x1b[")?;
         text.extend_from_slice(color_code(color).as_bytes())?;
@@ -439,16 +361,12 @@ fn push_painted(text: &mut Vec<u8>, look: Look, color: Color, word: &[u8]) -> Re
 }
 
 // Whether there is nothing but blanks.
-fn is_blank(word: &[u8]) -> bool
-    ensures { result ≡ is_blank word.now }
-{
+fn is_blank(word: &[u8]) -> bool {
     word.iter().all(|byte| *byte == b' ')
 }
 
 // The code of a color for a terminal.
-fn color_code(color: Color) -> &'static str
-    ensures { result.now ≡ color_code color }
-{
+fn color_code(color: Color) -> &'static str {
     match color {
         Color::Place => "2",
         Color::Entry => "34",
@@ -462,10 +380,7 @@ fn color_code(color: Color) -> &'static str
 }
 
 // Bytes in hexadecimal, with a blank after each four that others follow.
-fn grouped_bytes(alloc: Global, bytes: &[u8]) -> Result<Vec<u8>, Error>
-    ensures ok { IfOk result (λ text. text.items ≡ grouped_bytes bytes.now) }
-    ensures memory { IfErr result (λ e. e ≡ Error.OutOfMemory) }
-{
+fn grouped_bytes(alloc: Global, bytes: &[u8]) -> Result<Vec<u8>, AllocError> {
     let mut text = Vec::new(alloc);
     let mut left = bytes;
     while let [a, b, c, d, rest @ ..] = left {

@@ -1,28 +1,19 @@
 //! The bytes of a document, part by part, in a tree.
 
-ghost use Rattle.std.specs.Prelude.{◌≡◌, ◌≢◌, ◌+◌, ◌++◌, ◌<◌, ◌≤◌, ◌^◌, IfErr, IfOk, IfSome, OnOk};
-ghost use Rattle.std.specs.Prelude.{◌==◌, [], cond, if◌then◌else◌, length};
-ghost use Rattle.std.specs.Iterator.{YieldsFirstBy};
-ghost use Rattle.kohiblad_shell.specs.Words.{IsEntryIn, branch, child_lines, color_of};
-ghost use Rattle.kohiblad_shell.specs.Words.{entry_word, header_at, header_or_none, inside_lines};
-ghost use Rattle.kohiblad_shell.specs.Words.{inside_of, is_scalar, item_run, items_lines};
-ghost use Rattle.kohiblad_shell.specs.Words.{key_lines};
-ghost use Rattle.kohiblad_shell.specs.Words.{key_run, members_lines, nested_lines, own_bytes};
-ghost use Rattle.kohiblad_shell.specs.Words.{own_lines, read_entries, run_entries, scalar_lines};
-ghost use Rattle.kohiblad_shell.specs.Words.{shown_lines, spot_of, stem, value_run, whole_spot};
+ghost use Rattle.std.specs.Prelude.{◌<◌, ◌≤◌, ◌^◌, IfSome, length};
 
 use crate::part_lines::{
     Color, EntryWord, Look, Part, Sheet, first_bytes, push_head, push_part, sheet_for,
 };
 use crate::row::MAX_ROW_DEPTH;
-use crate::titles::{Value, grouped_number, quoted_key, value_title};
+use crate::titles::{Value, grouped_number, quoted_key, value_title, word_of};
 use jsonb::layer::{Cursor, Entry};
-use jsonb::{Error, read_header};
+use jsonb::read_header;
 use jsonb_codec::constants::{
     ARRAY_CONTAINER_TAG, CONTAINER_TAG, EXTENSION_TAG, NUMBER_TAG, OBJECT_CONTAINER_TAG,
     SCALAR_CONTAINER_TAG, STRING_TAG,
 };
-use std::alloc::Global;
+use std::alloc::{AllocError, Global};
 
 /// Where a value is: its entry word, unless it is the whole document, the place of its payload,
 /// what stands before it in the tree on its first line and on those after it, and what leads to it.
@@ -52,14 +43,25 @@ pub struct Child {
     pub is_last: bool,
 }
 
+// The items of an array: how many there are, and their entries.
+#[derive(Drop)]
+struct Items<'a> {
+    count: usize,
+    entries: Cursor<'a>,
+}
+
+// The members of an object: how many there are, and the entries of their keys and values.
+#[derive(Drop)]
+struct Members<'a> {
+    count: usize,
+    keys: Cursor<'a>,
+    values: Cursor<'a>,
+}
+
 /// The lines of a document: a head, and for each part its entry word and its own bytes, with their
 /// places, beside the part in the tree, each before the parts inside it, and a key before its
-/// value. Parts in more than 1,024 arrays and objects have no lines. `OutOfMemory` is the only
-/// error.
-pub fn shown_lines(alloc: Global, bytes: &[u8], look: Look) -> Result<Vec<u8>, Error>
-    ensures ok { IfOk result (λ lines. lines.items ≡ shown_lines look bytes.now) }
-    ensures memory { IfErr result (λ e. e ≡ Error.OutOfMemory) }
-{
+/// value. Parts in more than 1,024 arrays and objects have no lines.
+pub fn shown_lines(alloc: Global, bytes: &[u8], look: Look) -> Result<Vec<u8>, AllocError> {
     let sheet = sheet_for(alloc, look, bytes.len())?;
     let mut out = Vec::new(alloc);
     push_head(alloc, &mut out, sheet)?;
@@ -68,12 +70,12 @@ pub fn shown_lines(alloc: Global, bytes: &[u8], look: Look) -> Result<Vec<u8>, E
 }
 
 // Appends the lines of the parts of a document.
-fn push_parts(alloc: Global, out: &mut Vec<u8>, sheet: Sheet, bytes: &[u8]) -> Result<(), Error>
-    ensures ok { OnOk result (out.new.items ≡ out.old.items
-        ++ (if is_scalar (header_at bytes.now 0) then scalar_lines sheet bytes.now
-        else nested_lines MAX_ROW_DEPTH sheet whole_spot CONTAINER_TAG bytes.now)) }
-    ensures memory { IfErr result (λ e. e ≡ Error.OutOfMemory) }
-{
+fn push_parts(
+    alloc: Global,
+    out: &mut Vec<u8>,
+    sheet: Sheet,
+    bytes: &[u8],
+) -> Result<(), AllocError> {
     if is_scalar(bytes) {
         push_scalar(alloc, out, sheet, bytes)
     } else {
@@ -89,9 +91,7 @@ fn push_parts(alloc: Global, out: &mut Vec<u8>, sheet: Sheet, bytes: &[u8]) -> R
 }
 
 // Whether the header is that of a scalar.
-fn is_scalar(bytes: &[u8]) -> bool
-    ensures { result ≡ is_scalar (header_at bytes.now 0) }
-{
+fn is_scalar(bytes: &[u8]) -> bool {
     match read_header(bytes, 0) {
         Ok((kind, _)) => kind == SCALAR_CONTAINER_TAG,
         Err(_) => false,
@@ -99,9 +99,7 @@ fn is_scalar(bytes: &[u8]) -> bool
 }
 
 // Where the whole is.
-fn whole_spot<'a>() -> Spot<'a>
-    ensures { spot_of result ≡ whole_spot }
-{
+fn whole_spot<'a>() -> Spot<'a> {
     Spot {
         entry: None,
         place: 0,
@@ -112,10 +110,7 @@ fn whole_spot<'a>() -> Spot<'a>
 }
 
 // The whole, if it is an array or object.
-fn whole_value<'a>(bytes: &'a [u8]) -> Value<'a>
-    ensures type_code { result.type_code ≡ CONTAINER_TAG }
-    ensures payload { result.payload.now ≡ bytes.entry.now }
-{
+fn whole_value<'a>(bytes: &'a [u8]) -> Value<'a> {
     Value {
         type_code: CONTAINER_TAG,
         payload: bytes,
@@ -123,10 +118,12 @@ fn whole_value<'a>(bytes: &'a [u8]) -> Value<'a>
 }
 
 // Appends the lines of a scalar's document: of its header, and of the value.
-fn push_scalar(alloc: Global, out: &mut Vec<u8>, sheet: Sheet, bytes: &[u8]) -> Result<(), Error>
-    ensures ok { OnOk result (out.new.items ≡ out.old.items ++ scalar_lines sheet bytes.now) }
-    ensures memory { IfErr result (λ e. e ≡ Error.OutOfMemory) }
-{
+fn push_scalar(
+    alloc: Global,
+    out: &mut Vec<u8>,
+    sheet: Sheet,
+    bytes: &[u8],
+) -> Result<(), AllocError> {
     let header = Part {
         entry: None,
         place: 0,
@@ -155,7 +152,6 @@ fn push_scalar(alloc: Global, out: &mut Vec<u8>, sheet: Sheet, bytes: &[u8]) -> 
 
 // Appends the lines of a value, and of what is inside it down to so many levels.
 #[cycle(show)]
-#[tactic(auto, unfolding(crate::specs::Shows::nested_lines))]
 fn push_value(
     alloc: Global,
     out: &mut Vec<u8>,
@@ -163,15 +159,7 @@ fn push_value(
     spot: Spot<'_>,
     value: Value<'_>,
     levels: usize,
-) -> Result<(), Error>
-    requires short { value.type_code ≢ CONTAINER_TAG
-        → value.type_code + length value.payload.now < 2 ^ 32 }
-    requires room { spot.place + length value.payload.now ≤ 2 ^ 63 }
-    ensures ok { OnOk result (out.new.items ≡ out.old.items
-        ++ nested_lines levels sheet (spot_of spot.entry) value.entry.type_code
-        value.entry.payload.now) }
-    ensures memory { IfErr result (λ e. e ≡ Error.OutOfMemory) }
-{
+) -> Result<(), AllocError> {
     push_own(alloc, out, sheet, spot, value)?;
     if levels == 0 {
         return Ok(());
@@ -188,17 +176,7 @@ fn push_nested(
     spot: Spot<'_>,
     value: Value<'_>,
     levels: usize,
-) -> Result<(), Error>
-    requires { spot.place + length value.payload.now ≤ 2 ^ 63 }
-    ensures ok { OnOk result (out.new.items ≡ out.old.items
-        ++ cond (value.entry.type_code == CONTAINER_TAG)
-        (inside_lines (nested_lines levels sheet) sheet (record {
-          bytes = value.entry.payload.now;
-          place = spot.entry.place;
-          around = spot.entry.rest.now;
-        })) []) }
-    ensures memory { IfErr result (λ e. e ≡ Error.OutOfMemory) }
-{
+) -> Result<(), AllocError> {
     if value.type_code != CONTAINER_TAG {
         return Ok(());
     }
@@ -217,14 +195,7 @@ fn push_own(
     sheet: Sheet,
     spot: Spot<'_>,
     value: Value<'_>,
-) -> Result<(), Error>
-    requires short { value.type_code ≢ CONTAINER_TAG
-        → value.type_code + length value.payload.now < 2 ^ 32 }
-    requires room { spot.place + length value.payload.now ≤ 2 ^ 63 }
-    ensures ok { OnOk result (out.new.items ≡ out.old.items
-        ++ own_lines sheet (spot_of spot.entry) value.entry.type_code value.entry.payload.now) }
-    ensures memory { IfErr result (λ e. e ≡ Error.OutOfMemory) }
-{
+) -> Result<(), AllocError> {
     let title = value_title(alloc, value)?;
     let labeled = joined(alloc, spot.label, &title)?;
     let part = Part {
@@ -240,10 +211,7 @@ fn push_own(
 }
 
 // The own bytes of a value: of an array or object those of its header.
-fn own_bytes<'a>(value: Value<'a>) -> &'a [u8]
-    ensures own { result.now ≡ own_bytes value.entry.type_code value.entry.payload.now }
-    ensures within { length result.now ≤ length value.entry.payload.now }
-{
+fn own_bytes<'a>(value: Value<'a>) -> &'a [u8] {
     if value.type_code == CONTAINER_TAG {
         first_bytes(value.payload, 4)
     } else {
@@ -252,9 +220,7 @@ fn own_bytes<'a>(value: Value<'a>) -> &'a [u8]
 }
 
 // The color of a value of this type.
-fn color_of(type_code: u32) -> Color
-    ensures { result ≡ color_of type_code }
-{
+fn color_of(type_code: u32) -> Color {
     match type_code {
         CONTAINER_TAG => Color::Container,
         STRING_TAG => Color::Text,
@@ -265,10 +231,7 @@ fn color_of(type_code: u32) -> Color
 }
 
 // Two texts after one another.
-fn joined(alloc: Global, first: &[u8], second: &[u8]) -> Result<Vec<u8>, Error>
-    ensures ok { IfOk result (λ both. both.items ≡ first.now ++ second.now) }
-    ensures memory { IfErr result (λ e. e ≡ Error.OutOfMemory) }
-{
+fn joined(alloc: Global, first: &[u8], second: &[u8]) -> Result<Vec<u8>, AllocError> {
     let mut both = Vec::new(alloc);
     both.extend_from_slice(first)?;
     both.extend_from_slice(second)?;
@@ -283,24 +246,31 @@ fn push_inside(
     sheet: Sheet,
     inside: Inside<'_>,
     levels: usize,
-) -> Result<(), Error>
-    requires room { inside.place + length inside.bytes.now ≤ 2 ^ 63 }
-    ensures ok { OnOk result (out.new.items ≡ out.old.items
-        ++ inside_lines (nested_lines levels sheet) sheet (inside_of inside.entry)) }
-    ensures memory { IfErr result (λ e. e ≡ Error.OutOfMemory) }
-{
+) -> Result<(), AllocError> {
     match header_in(inside.bytes) {
-        Some((ARRAY_CONTAINER_TAG, count)) => push_items(alloc, out, sheet, inside, count, levels),
-        Some((OBJECT_CONTAINER_TAG, count)) => push_members(
-            alloc, out, sheet, inside, count, levels,
-        ),
+        Some((ARRAY_CONTAINER_TAG, count)) => {
+            let entries = Cursor::over_items(inside.bytes, count);
+            let items = Items { count, entries };
+            push_items(alloc, out, sheet, inside, items, levels)
+        }
+        Some((OBJECT_CONTAINER_TAG, count)) => {
+            let keys = Cursor::over_keys(inside.bytes, count);
+            let Ok(values) = Cursor::over_values(inside.bytes, count) else {
+                return Ok(());
+            };
+            let members = Members {
+                count,
+                keys,
+                values,
+            };
+            push_members(alloc, out, sheet, inside, members, levels)
+        }
         _ => Ok(()),
     }
 }
 
 // The kind of the header, and its count. `None` if it cannot be read.
 fn header_in(bytes: &[u8]) -> Option<(u32, usize)>
-    ensures value { result ≡ header_or_none (header_at bytes.now 0) }
     ensures few { IfSome result (λ header. header.1 < 2 ^ 29) }
     ensures there { IfSome result (λ header. 4 ≤ length bytes.now) }
 {
@@ -311,16 +281,22 @@ fn header_in(bytes: &[u8]) -> Option<(u32, usize)>
 }
 
 // The next entry. `None` after the last one, and if it cannot be read.
-fn next_entry(entries: &mut Cursor<'_>) -> Option<Entry>
-    ensures steps { YieldsFirstBy (λ entry. entry) (λ run. read_entries run.entries)
-        entries.old result entries.new }
-    ensures inside { IfSome result (IsEntryIn entries.old.bytes) }
-    ensures bytes { entries.new.bytes ≡ entries.old.bytes }
-{
+fn next_entry(entries: &mut Cursor<'_>) -> Option<Entry> {
     match entries.next() {
         Some(Ok(entry)) => Some(entry),
         _ => None,
     }
+}
+
+// The place of the entry word in an array or object that comes after so many others.
+fn word_place(index: usize) -> usize {
+    index.saturating_mul(4).saturating_add(4)
+}
+
+// The payload of an entry that was read from these bytes.
+fn payload_in<'a>(bytes: &'a [u8], entry: Entry) -> &'a [u8] {
+    let end = entry.start.saturating_add(entry.length);
+    bytes.get(entry.start..end).unwrap_or(&[])
 }
 
 // Appends the lines of the items of an array.
@@ -330,77 +306,53 @@ fn push_items(
     out: &mut Vec<u8>,
     sheet: Sheet,
     inside: Inside<'_>,
-    count: usize,
+    items: Items<'_>,
     levels: usize,
-) -> Result<(), Error>
-    requires room { inside.place + length inside.bytes.now ≤ 2 ^ 63 }
-    requires few { count < 2 ^ 29 }
-    ensures ok { OnOk result (out.new.items ≡ out.old.items
-        ++ items_lines (nested_lines levels sheet) (inside_of inside.entry) count 0
-        (read_entries (item_run inside.entry.bytes.now count).entries)) }
-    ensures memory { IfErr result (λ e. e ≡ Error.OutOfMemory) }
-{
-    let mut items = Cursor::over_items(inside.bytes, count);
-    let mut index = 0;
-    while let Some(entry) = next_entry(&mut items) {
+) -> Result<(), AllocError> {
+    let Items { count, mut entries } = items;
+    for index in 0..count {
+        let Some(entry) = next_entry(&mut entries) else {
+            return Ok(());
+        };
         let child = Child {
             entry,
-            word: 4 + 4 * index,
+            word: word_place(index),
             is_last: index + 1 == count,
         };
         let label = joined(alloc, &grouped_number(alloc, index)?, b": ")?;
         push_child(alloc, out, sheet, inside, child, &label, levels)?;
-        index += 1;
     }
     Ok(())
 }
 
 // Appends the lines of the members of an object, each key before its value.
 #[cycle(show)]
-#[tactic(auto, using(crate::proofs::ShowLaws::keys_few))]
 fn push_members(
     alloc: Global,
     out: &mut Vec<u8>,
     sheet: Sheet,
     inside: Inside<'_>,
-    count: usize,
+    members: Members<'_>,
     levels: usize,
-) -> Result<(), Error>
-    requires room { inside.place + length inside.bytes.now ≤ 2 ^ 63 }
-    requires few { count < 2 ^ 29 }
-    requires there { 4 ≤ length inside.bytes.now }
-    ensures ok { OnOk result (out.new.items ≡ out.old.items
-        ++ members_lines (nested_lines levels sheet) sheet (inside_of inside.entry) count 0
-        (read_entries (key_run inside.entry.bytes.now count).entries)
-        (run_entries (value_run inside.entry.bytes.now count))) }
-    ensures memory { IfErr result (λ e. e ≡ Error.OutOfMemory) }
-{
-    let mut keys = Cursor::over_keys(inside.bytes, count);
-    let Ok(mut values) = Cursor::over_values(inside.bytes, count) else {
-        return Ok(());
-    };
-    let mut index = 0;
-    while let Some(key) = next_entry(&mut keys) {
-        let Some(entry) = next_entry(&mut values) else {
+) -> Result<(), AllocError> {
+    let Members {
+        count,
+        mut keys,
+        mut values,
+    } = members;
+    for index in 0..count {
+        let (Some(key), Some(entry)) = (next_entry(&mut keys), next_entry(&mut values)) else {
             return Ok(());
         };
-        let name = quoted_key(alloc, key.payload(inside.bytes))?;
-        push_key(alloc, out, sheet, inside, key, 4 + 4 * index, &name)?;
+        let name = quoted_key(alloc, payload_in(inside.bytes, key))?;
+        push_key(alloc, out, sheet, inside, key, word_place(index), &name)?;
         let child = Child {
             entry,
-            word: 4 + 4 * count + 4 * index,
+            word: word_place(count.saturating_add(index)),
             is_last: index + 1 == count,
         };
-        push_child(
-            alloc,
-            out,
-            sheet,
-            inside,
-            child,
-            &joined(alloc, &name, b": ")?,
-            levels,
-        )?;
-        index += 1;
+        let label = joined(alloc, &name, b": ")?;
+        push_child(alloc, out, sheet, inside, child, &label, levels)?;
     }
     Ok(())
 }
@@ -414,21 +366,14 @@ fn push_key(
     key: Entry,
     word: usize,
     name: &[u8],
-) -> Result<(), Error>
-    requires room { inside.place + length inside.bytes.now ≤ 2 ^ 63 }
-    requires entry { IsEntryIn inside.bytes.now key }
-    requires word { word < 2 ^ 34 }
-    ensures ok { OnOk result (out.new.items
-        ≡ out.old.items ++ key_lines sheet (inside_of inside.entry) key word name.now) }
-    ensures memory { IfErr result (λ e. e ≡ Error.OutOfMemory) }
-{
+) -> Result<(), AllocError> {
     let lead = joined(alloc, inside.around, branch(false).as_bytes())?;
     let rest = joined(alloc, inside.around, stem(false).as_bytes())?;
     let title = joined(alloc, b"key ", name)?;
     let part = Part {
         entry: Some(entry_word(inside, key, word)),
-        place: inside.place + key.start,
-        own: key.payload(inside.bytes),
+        place: inside.place.saturating_add(key.start),
+        own: payload_in(inside.bytes, key),
         color: Color::Key,
         lead: &lead,
         rest: &rest,
@@ -447,54 +392,37 @@ fn push_child(
     child: Child,
     label: &[u8],
     levels: usize,
-) -> Result<(), Error>
-    requires room { inside.place + length inside.bytes.now ≤ 2 ^ 63 }
-    requires entry { IsEntryIn inside.bytes.now child.entry }
-    requires word { child.word < 2 ^ 34 }
-    ensures ok { OnOk result (out.new.items ≡ out.old.items
-        ++ child_lines (nested_lines levels sheet) (inside_of inside.entry) child.entry
-        child.word child.is_last label.now) }
-    ensures memory { IfErr result (λ e. e ≡ Error.OutOfMemory) }
-{
+) -> Result<(), AllocError> {
     let lead = joined(alloc, inside.around, branch(child.is_last).as_bytes())?;
     let rest = joined(alloc, inside.around, stem(child.is_last).as_bytes())?;
     let spot = Spot {
         entry: Some(entry_word(inside, child.entry, child.word)),
-        place: inside.place + child.entry.start,
+        place: inside.place.saturating_add(child.entry.start),
         lead: &lead,
         rest: &rest,
         label,
     };
     let value = Value {
         type_code: child.entry.type_code,
-        payload: child.entry.payload(inside.bytes),
+        payload: payload_in(inside.bytes, child.entry),
     };
     push_value(alloc, out, sheet, spot, value, levels)
 }
 
 // The entry word of an entry, and its place in the document.
-fn entry_word(inside: Inside<'_>, entry: Entry, word: usize) -> EntryWord
-    requires room { inside.place ≤ 2 ^ 63 }
-    requires short { entry.type_code + entry.length < 2 ^ 31 }
-    requires near { word < 2 ^ 34 }
-    ensures { result ≡ entry_word (inside_of inside.entry) entry word }
-{
+fn entry_word(inside: Inside<'_>, entry: Entry, word: usize) -> EntryWord {
     EntryWord {
-        place: inside.place + word,
-        word: entry.type_code + entry.length as u32,
+        place: inside.place.saturating_add(word),
+        word: word_of(entry.type_code, entry.length),
     }
 }
 
 // What leads to a child in the tree.
-fn branch(is_last: bool) -> &'static str
-    ensures { result.now ≡ branch is_last }
-{
+fn branch(is_last: bool) -> &'static str {
     if is_last { "└─ " } else { "├─ " }
 }
 
 // What goes on below that.
-fn stem(is_last: bool) -> &'static str
-    ensures { result.now ≡ stem is_last }
-{
+fn stem(is_last: bool) -> &'static str {
     if is_last { "   " } else { "│  " }
 }

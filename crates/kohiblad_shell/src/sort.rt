@@ -11,7 +11,7 @@ ghost use Rattle.kohiblad_shell.specs.Words.{texts_ties, turned};
 
 use crate::halt::Halt;
 use crate::write::{flush, write_bytes};
-use jsonb_column::split_row;
+use jsonb::split_row;
 use std::alloc::Global;
 use std::cmp::Ordering;
 use std::io::Write;

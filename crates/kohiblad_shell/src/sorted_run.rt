@@ -3,7 +3,7 @@
 
 ghost use Rattle.std.specs.Prelude.{◌≡◌, ◌+◌, ◌<◌, ◌^◌, ℕ, List, [], IfOk, OnOk, OnErr};
 ghost use Rattle.std.specs.Prelude.{if◌then◌else◌, length};
-ghost use Rattle.jsonb_column.specs.Storage.{row_bytes};
+ghost use Rattle.jsonb.specs.StoredRow.{row_bytes};
 ghost use Rattle.kohiblad_shell.specs.Sorts.{key_and_line};
 ghost use Rattle.kohiblad_shell.specs.SortedRuns.{BeginsRuns, HaveRuns, IsFirstInput, KeepsKey};
 ghost use Rattle.kohiblad_shell.specs.SortedRuns.{MergesRuns, ReadHeads, ReadsHead, WritesIf};

@@ -1,6 +1,7 @@
 //! The command that counts what values are.
 
 use crate::arguments::{form_in, is_quiet_in, operand_in, output_in, stops_in, words_in};
+use crate::commands::End;
 use crate::files::{buffered, closed, kind_of, open_file, progress_of};
 use crate::halt::Halt;
 use crate::messages::{ended, name_kind, notice, reports};
@@ -36,7 +37,7 @@ fn write_counts(
 ) -> Result<Summary, Halt> {
     let mut survey = Survey::new();
     let names = words_in(arguments).unwrap_or(&[]);
-    let progress = progress_of(rt, "survey", names, arguments);
+    let progress = progress_of(rt, End::Survey, names, arguments);
     let summary = survey_files(rt, path, arguments, &progress, &mut survey)?;
     if !summary.is_stopped {
         let text = survey_text(rt.alloc(), &survey)?;

@@ -1,22 +1,12 @@
 //! What stands for the values of a document where its bytes are shown.
 
-ghost use Rattle.std.specs.Prelude.{◌≡◌, ◌≢◌, ◌+◌, ◌++◌, ◌<◌, ◌^◌, IfErr, IfOk, OnOk};
-ghost use Rattle.std.specs.Prelude.{encode_utf8_all, length, string_bytes};
-ghost use Rattle.kohiblad_shell.specs.Words.{HoldsNoScalar, container_name};
-ghost use Rattle.kohiblad_shell.specs.Words.{extension_kind, extension_name, grouped_digits};
-ghost use Rattle.kohiblad_shell.specs.Words.{grouped_number, header_at, header_title};
-ghost use Rattle.kohiblad_shell.specs.Words.{kind_before, old_mark};
-ghost use Rattle.kohiblad_shell.specs.Words.{is_old_form, node_tree, opaque_name, quoted_key};
-ghost use Rattle.kohiblad_shell.specs.Words.{scalar_document, scalar_text, scalar_title, shortened};
-ghost use Rattle.kohiblad_shell.specs.Words.{shown_text, tree_in, value_title};
-
 use crate::escape::{shown_chars, text_of_chars};
-use jsonb::{Document, Error, Node, RawJsonb, read_header};
+use jsonb::{Document, Node, RawJsonb, read_header};
 use jsonb_codec::constants::{
     ARRAY_CONTAINER_TAG, CONTAINER_TAG, EXTENSION_BINARY, EXTENSION_DATE, EXTENSION_INTERVAL,
     EXTENSION_TAG, EXTENSION_TIMESTAMP, EXTENSION_TIMESTAMP_TZ, SCALAR_CONTAINER_TAG, STRING_TAG,
 };
-use std::alloc::Global;
+use std::alloc::{AllocError, Global};
 
 // How many characters of a text are shown.
 const MAX_SHOWN: usize = 60;
@@ -30,14 +20,8 @@ pub struct Value<'a> {
 
 /// What stands for a value: of an array or object its kind with the number of items or members, of
 /// a scalar its JSON text, after the kind of an extension value. A payload in an older form is
-/// named as such. `OutOfMemory` is the only error.
-pub fn value_title(alloc: Global, value: Value<'_>) -> Result<Vec<u8>, Error>
-    requires short { value.type_code ≢ CONTAINER_TAG
-        → value.type_code + length value.payload.now < 2 ^ 32 }
-    ensures ok { IfOk result
-        (λ title. title.items ≡ value_title value.entry.type_code value.entry.payload.now) }
-    ensures memory { IfErr result (λ e. e ≡ Error.OutOfMemory) }
-{
+/// named as such.
+pub fn value_title(alloc: Global, value: Value<'_>) -> Result<Vec<u8>, AllocError> {
     if value.type_code == CONTAINER_TAG {
         container_title(alloc, value.payload)
     } else {
@@ -46,10 +30,7 @@ pub fn value_title(alloc: Global, value: Value<'_>) -> Result<Vec<u8>, Error>
 }
 
 // What an array or object is called, with its count.
-fn container_title(alloc: Global, bytes: &[u8]) -> Result<Vec<u8>, Error>
-    ensures ok { IfOk result (λ title. title.items ≡ header_title (header_at bytes.now 0)) }
-    ensures memory { IfErr result (λ e. e ≡ Error.OutOfMemory) }
-{
+fn container_title(alloc: Global, bytes: &[u8]) -> Result<Vec<u8>, AllocError> {
     let mut title = Vec::new(alloc);
     if let Ok((kind, count)) = read_header(bytes, 0) {
         title.extend_from_slice(container_name(kind).as_bytes())?;
@@ -59,9 +40,7 @@ fn container_title(alloc: Global, bytes: &[u8]) -> Result<Vec<u8>, Error>
 }
 
 // What an array or object is called.
-fn container_name(kind: u32) -> &'static str
-    ensures { result.now ≡ container_name kind }
-{
+fn container_name(kind: u32) -> &'static str {
     if kind == ARRAY_CONTAINER_TAG {
         "array of "
     } else {
@@ -69,21 +48,14 @@ fn container_name(kind: u32) -> &'static str
     }
 }
 
-/// A number in decimal digits, with a comma before each three that others precede. `OutOfMemory` is
-/// the only error.
-pub fn grouped_number(alloc: Global, number: usize) -> Result<Vec<u8>, Error>
-    ensures ok { IfOk result (λ text. text.items ≡ grouped_number number) }
-    ensures memory { IfErr result (λ e. e ≡ Error.OutOfMemory) }
-{
+/// A number in decimal digits, with a comma before each three that others precede.
+pub fn grouped_number(alloc: Global, number: usize) -> Result<Vec<u8>, AllocError> {
     let digits = format!(in alloc; "{number}")?;
     grouped_digits(alloc, digits.as_bytes())
 }
 
 // Digits with a comma before each three that others precede.
-fn grouped_digits(alloc: Global, digits: &[u8]) -> Result<Vec<u8>, Error>
-    ensures ok { IfOk result (λ text. text.items ≡ grouped_digits digits.now) }
-    ensures memory { IfErr result (λ e. e ≡ Error.OutOfMemory) }
-{
+fn grouped_digits(alloc: Global, digits: &[u8]) -> Result<Vec<u8>, AllocError> {
     let mut text = Vec::new(alloc);
     let mut left = digits;
     while let [digit, rest @ ..] = left {
@@ -97,12 +69,7 @@ fn grouped_digits(alloc: Global, digits: &[u8]) -> Result<Vec<u8>, Error>
 }
 
 // The text of a scalar, after the kind of an extension value and before a mark of an older form.
-fn scalar_title(alloc: Global, value: Value<'_>) -> Result<Vec<u8>, Error>
-    requires { value.type_code + length value.payload.now < 2 ^ 32 }
-    ensures ok { IfOk result
-        (λ title. title.items ≡ scalar_title value.entry.type_code value.entry.payload.now) }
-    ensures memory { IfErr result (λ e. e ≡ Error.OutOfMemory) }
-{
+fn scalar_title(alloc: Global, value: Value<'_>) -> Result<Vec<u8>, AllocError> {
     let mut title = Vec::new(alloc);
     push_kind(alloc, &mut title, value)?;
     push_text(alloc, &mut title, value)?;
@@ -111,11 +78,7 @@ fn scalar_title(alloc: Global, value: Value<'_>) -> Result<Vec<u8>, Error>
 }
 
 // Appends the kind of an extension value.
-fn push_kind(alloc: Global, title: &mut Vec<u8>, value: Value<'_>) -> Result<(), Error>
-    ensures ok { OnOk result (title.new.items
-        ≡ title.old.items ++ kind_before value.entry.type_code value.entry.payload.now) }
-    ensures memory { IfErr result (λ e. e ≡ Error.OutOfMemory) }
-{
+fn push_kind(alloc: Global, title: &mut Vec<u8>, value: Value<'_>) -> Result<(), AllocError> {
     if value.type_code == EXTENSION_TAG {
         push_extension_kind(alloc, title, value.payload)
     } else {
@@ -124,25 +87,17 @@ fn push_kind(alloc: Global, title: &mut Vec<u8>, value: Value<'_>) -> Result<(),
 }
 
 // Appends the text of a scalar.
-fn push_text(alloc: Global, title: &mut Vec<u8>, value: Value<'_>) -> Result<(), Error>
-    requires { value.type_code + length value.payload.now < 2 ^ 32 }
-    ensures ok { OnOk result (title.new.items
-        ≡ title.old.items ++ scalar_text value.entry.type_code value.entry.payload.now) }
-    ensures memory { IfErr result (λ e. e ≡ Error.OutOfMemory) }
-{
+fn push_text(alloc: Global, title: &mut Vec<u8>, value: Value<'_>) -> Result<(), AllocError> {
     let bytes = scalar_document(alloc, value)?;
-    let text = RawJsonb::new(&bytes).to_string(alloc)?;
+    let Ok(text) = RawJsonb::new(&bytes).to_string(alloc) else {
+        return Err(AllocError);
+    };
     title.extend_from_slice(shown_text(alloc, &text)?.as_bytes())?;
     Ok(())
 }
 
 // Appends the mark of an older form.
-fn push_old_mark(alloc: Global, title: &mut Vec<u8>, value: Value<'_>) -> Result<(), Error>
-    requires { value.type_code + length value.payload.now < 2 ^ 32 }
-    ensures ok { OnOk result (title.new.items
-        ≡ title.old.items ++ old_mark value.entry.type_code value.entry.payload.now) }
-    ensures memory { IfErr result (λ e. e ≡ Error.OutOfMemory) }
-{
+fn push_old_mark(alloc: Global, title: &mut Vec<u8>, value: Value<'_>) -> Result<(), AllocError> {
     let bytes = scalar_document(alloc, value)?;
     if is_old_form(&bytes, value.payload.len()) {
         title.extend_from_slice(b" (old form)")?;
@@ -150,12 +105,8 @@ fn push_old_mark(alloc: Global, title: &mut Vec<u8>, value: Value<'_>) -> Result
     Ok(())
 }
 
-/// A key as a JSON text. `OutOfMemory` is the only error.
-pub fn quoted_key(alloc: Global, key: &[u8]) -> Result<Vec<u8>, Error>
-    requires { length key.now < 2 ^ 31 }
-    ensures ok { IfOk result (λ text. text.items ≡ quoted_key key.now) }
-    ensures memory { IfErr result (λ e. e ≡ Error.OutOfMemory) }
-{
+/// A key as a JSON text.
+pub fn quoted_key(alloc: Global, key: &[u8]) -> Result<Vec<u8>, AllocError> {
     let value = Value {
         type_code: STRING_TAG,
         payload: key,
@@ -166,26 +117,23 @@ pub fn quoted_key(alloc: Global, key: &[u8]) -> Result<Vec<u8>, Error>
 }
 
 // The document of a scalar.
-#[tactic(auto, unfolding(jsonb_codec::specs::WordBytes::word))]
-fn scalar_document(alloc: Global, value: Value<'_>) -> Result<Vec<u8>, Error>
-    requires { value.type_code + length value.payload.now < 2 ^ 32 }
-    ensures ok { IfOk result
-        (λ bytes. bytes.items ≡ scalar_document value.entry.type_code value.entry.payload.now) }
-    ensures memory { IfErr result (λ e. e ≡ Error.OutOfMemory) }
-{
+fn scalar_document(alloc: Global, value: Value<'_>) -> Result<Vec<u8>, AllocError> {
     let mut bytes = Vec::new(alloc);
     bytes.extend_from_slice(&SCALAR_CONTAINER_TAG.to_be_bytes())?;
-    let word = value.type_code + value.payload.len() as u32;
+    let word = word_of(value.type_code, value.payload.len());
     bytes.extend_from_slice(&word.to_be_bytes())?;
     bytes.extend_from_slice(value.payload)?;
     Ok(bytes)
 }
 
+/// The entry word of a value of this type, whose payload has so many bytes.
+pub fn word_of(type_code: u32, len: usize) -> u32 {
+    type_code.saturating_add(u32::try_from(len).unwrap_or(u32::MAX))
+}
+
 // Whether the value of a document has a payload of another length than the one that is written for
 // it, as older forms have.
-fn is_old_form(bytes: &[u8], len: usize) -> bool
-    ensures { result ≡ is_old_form (tree_in bytes.now) len }
-{
+fn is_old_form(bytes: &[u8], len: usize) -> bool {
     match Document::new(bytes) {
         Some(document) => is_rewritten(document.value(), len),
         None => false,
@@ -193,10 +141,7 @@ fn is_old_form(bytes: &[u8], len: usize) -> bool
 }
 
 // Whether the payload that is written for a number or an extension value has another length.
-fn is_rewritten(value: Node<'_>, len: usize) -> bool
-    requires { HoldsNoScalar value }
-    ensures { result ≡ is_old_form (node_tree value.entry) len }
-{
+fn is_rewritten(value: Node<'_>, len: usize) -> bool {
     match value {
         Node::Number(number) => number.as_number().compact_len() != len,
         Node::Extension(extension) => extension.as_extension_value().compact_len() != len,
@@ -205,10 +150,11 @@ fn is_rewritten(value: Node<'_>, len: usize) -> bool
 }
 
 // Appends the kind of an extension value, which the first byte of its payload names.
-fn push_extension_kind(alloc: Global, title: &mut Vec<u8>, payload: &[u8]) -> Result<(), Error>
-    ensures ok { OnOk result (title.new.items ≡ title.old.items ++ extension_kind payload.now) }
-    ensures memory { IfErr result (λ e. e ≡ Error.OutOfMemory) }
-{
+fn push_extension_kind(
+    alloc: Global,
+    title: &mut Vec<u8>,
+    payload: &[u8],
+) -> Result<(), AllocError> {
     if let [tag, ..] = payload {
         title.extend_from_slice(&extension_name(alloc, *tag)?)?;
         title.push(b' ')?;
@@ -217,10 +163,7 @@ fn push_extension_kind(alloc: Global, title: &mut Vec<u8>, payload: &[u8]) -> Re
 }
 
 // The kind of extension values with this tag.
-fn extension_name(alloc: Global, tag: u8) -> Result<Vec<u8>, Error>
-    ensures ok { IfOk result (λ name. name.items ≡ extension_name tag) }
-    ensures memory { IfErr result (λ e. e ≡ Error.OutOfMemory) }
-{
+fn extension_name(alloc: Global, tag: u8) -> Result<Vec<u8>, AllocError> {
     let name = match tag {
         EXTENSION_BINARY => "binary",
         EXTENSION_DATE => "date",
@@ -233,10 +176,7 @@ fn extension_name(alloc: Global, tag: u8) -> Result<Vec<u8>, Error>
 }
 
 // The kind of opaque values with this tag.
-fn opaque_name(alloc: Global, tag: u8) -> Result<Vec<u8>, Error>
-    ensures ok { IfOk result (λ name. name.items ≡ opaque_name tag) }
-    ensures memory { IfErr result (λ e. e ≡ Error.OutOfMemory) }
-{
+fn opaque_name(alloc: Global, tag: u8) -> Result<Vec<u8>, AllocError> {
     let byte = [tag];
     let mut name = Vec::new(alloc);
     name.extend_from_slice(b"opaque, tag ")?;
@@ -245,24 +185,18 @@ fn opaque_name(alloc: Global, tag: u8) -> Result<Vec<u8>, Error>
 }
 
 // The text with escapes for what a terminal might take for a command, cut where it is long.
-fn shown_text(alloc: Global, text: &str) -> Result<String, Error>
-    ensures ok { IfOk result (λ shown. string_bytes shown ≡ shown_text text.now) }
-    ensures memory { IfErr result (λ e. e ≡ Error.OutOfMemory) }
-{
+fn shown_text(alloc: Global, text: &str) -> Result<String, AllocError> {
     let escaped = shown_chars(alloc, text)?;
     shortened(alloc, &escaped)
 }
 
 // The text of these characters; of more than are shown the first ones and an ellipsis.
-fn shortened(alloc: Global, characters: &[char]) -> Result<String, Error>
-    ensures ok { IfOk result
-        (λ text. string_bytes text ≡ encode_utf8_all (shortened characters.now)) }
-    ensures memory { IfErr result (λ e. e ≡ Error.OutOfMemory) }
-{
+fn shortened(alloc: Global, characters: &[char]) -> Result<String, AllocError> {
     if characters.len() <= MAX_SHOWN {
-        return Ok(text_of_chars(alloc, characters)?);
+        return text_of_chars(alloc, characters);
     }
-    let mut text = text_of_chars(alloc, &characters[..MAX_SHOWN - 1])?;
+    let first = characters.len().min(MAX_SHOWN - 1);
+    let mut text = text_of_chars(alloc, &characters[..first])?;
     text.push('…')?;
     Ok(text)
 }

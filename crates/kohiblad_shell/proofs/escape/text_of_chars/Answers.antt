@@ -1,5 +1,5 @@
 use Rattle.std.proofs.Common.{◌<◌, ◌++◌, ◌∙◌, length, sym, ap, arith, encode_utf8}
-use Rattle.kohiblad_shell.proofs.ShowLaws.{text_more}
+use Rattle.kohiblad_shell.proofs.EscapeLaws.{text_more}
 use Rattle.kohiblad_shell.proofs.escape.text_of_chars.Goals as goal
 
 pub loop-character-preserved : goal.loop-character-preserved

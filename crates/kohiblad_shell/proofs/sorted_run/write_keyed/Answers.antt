@@ -1,6 +1,6 @@
 use Rattle.answer_lines.proofs.Output.{prefix_of_more}
 use Rattle.answer_lines.proofs.Running.{on_err}
-use Rattle.jsonb_column.specs.Storage.{row_bytes}
+use Rattle.jsonb.specs.StoredRow.{row_bytes}
 use Rattle.kohiblad_shell.proofs.SortedRunLaws.{err_after}
 use Rattle.kohiblad_shell.proofs.sorted_run.write_keyed.Goals as goal
 

@@ -1,0 +1,181 @@
+//! The command line, as `clap` parses it.
+
+use crate::commands::{COMMANDS, CommandOption, CommandRow};
+use crate::operand_kind::Operand;
+use clap::{Arg, ArgAction, Command};
+use std::alloc::{AllocError, Global};
+
+const AFTER_HELP: &str = "The status is 0 if some row gave a result, 1 if none did or a row is \
+    wrong, 2 for wrong use, and 3 if a device or memory failed.";
+
+/// The program with its commands, as `clap` parses them.
+pub fn program<'a>(alloc: Global) -> Result<Command<'a>, AllocError> {
+    let mut program = Command::new(alloc, "kohiblad")
+        .version("0.9.0")
+        .about("Query and change files of JSON lines and of documents, row by row")
+        .after_help(AFTER_HELP)
+        .subcommand_required(true)
+        .arg_required_else_help(true);
+    for row in &COMMANDS {
+        program = program.subcommand(command_of(alloc, row)?)?;
+    }
+    Ok(program)
+}
+
+// A command of the table.
+fn command_of<'a>(alloc: Global, row: &CommandRow) -> Result<Command<'a>, AllocError> {
+    let mut command = Command::new(alloc, row.name).about(row.about);
+    for operand in row.operands.operands() {
+        command = command.arg(operand_of(alloc, operand))?;
+    }
+    for option in row.options {
+        command = command.arg(option_of(alloc, *option))?;
+    }
+    if row.reads_lines() {
+        command = command.arg(exponents(alloc))?;
+    }
+    if row.end.writes() {
+        command = command.arg(output(alloc))?;
+    }
+    command.arg(progress(alloc))?.arg(files(alloc))
+}
+
+// An operand of a command.
+fn operand_of<'a>(alloc: Global, operand: &Operand) -> Arg<'a> {
+    Arg::new(alloc, operand.id)
+        .value_name(operand.name)
+        .help(operand.help)
+        .required(true)
+}
+
+// An option of a command.
+fn option_of<'a>(alloc: Global, option: CommandOption) -> Arg<'a> {
+    match option {
+        CommandOption::Raw => {
+            flag(alloc, "raw", "Write strings without quotes and escapes").short('r')
+        }
+        CommandOption::Pretty => {
+            flag(
+                alloc,
+                "pretty",
+                "Write each item and member on a line of its own",
+            )
+        }
+        CommandOption::By => deciding_path(alloc)
+            .help("A path to the value that decides; with several the first one decides first")
+            .action(ArgAction::Append),
+        CommandOption::ByOne => deciding_path(alloc).help("A path to the value that decides"),
+        CommandOption::Reverse => flag(alloc, "reverse", "Write the last one first"),
+        CommandOption::Unique => {
+            flag(
+                alloc,
+                "unique",
+                "Write only the first of several rows that are equal",
+            )
+        }
+        CommandOption::Memory => memory(alloc),
+        CommandOption::TemporaryDirectory => temporary_directory(alloc),
+        CommandOption::Documents => {
+            let help = "Read documents as a column stores them, and write rows as such";
+            flag(alloc, "documents", help)
+        }
+        CommandOption::Quiet => {
+            flag(
+                alloc,
+                "quiet",
+                "Say nothing of a path at which no row has a value",
+            )
+            .short('q')
+        }
+        CommandOption::OnError => on_error(alloc),
+        CommandOption::Whole => flag(
+            alloc,
+            "whole",
+            "Write the bytes of long texts and data whole",
+        ),
+        CommandOption::Color => color(alloc),
+    }
+}
+
+// An option without a value.
+fn flag<'a>(alloc: Global, name: &'a str, help: &'a str) -> Arg<'a> {
+    Arg::new(alloc, name)
+        .long(name)
+        .help(help)
+        .action(ArgAction::SetTrue)
+}
+
+// The option with a path to the value that decides.
+fn deciding_path<'a>(alloc: Global) -> Arg<'a> {
+    Arg::new(alloc, "by").long("by").value_name("PATH")
+}
+
+// How much memory rows and their keys may take.
+fn memory<'a>(alloc: Global) -> Arg<'a> {
+    Arg::new(alloc, "memory")
+        .long("memory")
+        .value_name("SIZE")
+        .help("About how many bytes the rows may take in memory, as 500M or 2G; 1G if none")
+}
+
+// Where rows go that do not fit.
+fn temporary_directory<'a>(alloc: Global) -> Arg<'a> {
+    Arg::new(alloc, "temporary-directory")
+        .long("temporary-directory")
+        .value_name("DIR")
+        .help("Where rows go that do not fit in memory; $TMPDIR or /tmp if none")
+}
+
+// Where rows are written.
+fn output<'a>(alloc: Global) -> Arg<'a> {
+    Arg::new(alloc, "output")
+        .long("output")
+        .short('o')
+        .value_name("FILE")
+        .help("The output, which takes the place of FILE at the end; standard output if none or -")
+}
+
+// Whether numbers of rows may have exponents.
+fn exponents<'a>(alloc: Global) -> Arg<'a> {
+    Arg::new(alloc, "exponents")
+        .long("exponents")
+        .value_name("WHAT")
+        .help("Whether numbers such as 1e5 are read; accept, if none is said, or refuse")
+        .value_parser(["accept", "refuse"].as_slice())
+}
+
+// What happens at a row that is wrong.
+fn on_error<'a>(alloc: Global) -> Arg<'a> {
+    Arg::new(alloc, "on-error")
+        .long("on-error")
+        .value_name("WHAT")
+        .help("What to do after a row that is wrong")
+        .value_parser(["stop", "skip"].as_slice())
+}
+
+// When a line says how far the run is.
+fn progress<'a>(alloc: Global) -> Arg<'a> {
+    Arg::new(alloc, "progress")
+        .long("progress")
+        .value_name("WHEN")
+        .help("Show how far a run of more than a second is; auto: at a terminal")
+        .value_parser(["auto", "always", "never"].as_slice())
+}
+
+// When words have colors.
+fn color<'a>(alloc: Global) -> Arg<'a> {
+    Arg::new(alloc, "color")
+        .long("color")
+        .value_name("WHEN")
+        .help("Whether words have colors; auto, if none is said, where a terminal shows them")
+        .value_parser(["always", "never", "auto"].as_slice())
+}
+
+// The files that are read.
+fn files<'a>(alloc: Global) -> Arg<'a> {
+    Arg::new(alloc, "file")
+        .value_name("FILE")
+        .help("Files to read; standard input if none is named")
+        .action(ArgAction::Append)
+        .num_args(0..)
+}

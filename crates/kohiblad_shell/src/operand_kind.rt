@@ -1,0 +1,123 @@
+//! What commands are given besides their files.
+
+/// What a command is given besides its files and the form of its rows.
+#[derive(Clone, Copy)]
+pub enum OperandKind {
+    /// Nothing.
+    Nothing,
+    /// A path, and the style of values.
+    Path,
+    /// A path with a condition.
+    Condition,
+    /// A value.
+    Value,
+    /// Names of members.
+    Names,
+    /// A path without wildcards, and a value.
+    Steps,
+    /// Paths without wildcards.
+    Removed,
+    /// Paths, each with a type.
+    Columns,
+    /// The bounds of a range, and the path to the value that decides.
+    Bounds,
+    /// Paths to the values that decide.
+    Keys,
+    /// How texts are laid out.
+    Layout,
+    /// How parts are shown.
+    Look,
+}
+
+impl OperandKind {
+    /// The operands that stand before the files.
+    pub fn operands(self) -> &'static [Operand] {
+        match self {
+            OperandKind::Path => &[PATH],
+            OperandKind::Condition => &[CONDITION],
+            OperandKind::Value => &[VALUE],
+            OperandKind::Names => &[NAMES],
+            OperandKind::Steps => &[STEPS, NEW_VALUE],
+            OperandKind::Removed => &[REMOVED],
+            OperandKind::Columns => &[COLUMN, TYPE],
+            OperandKind::Bounds => &[FROM, TO],
+            OperandKind::Nothing | OperandKind::Keys | OperandKind::Layout | OperandKind::Look =>
+                &[],
+        }
+    }
+}
+
+/// An operand as the arguments and the help name it.
+#[derive(Clone, Copy)]
+pub struct Operand {
+    pub id: &'static str,
+    pub name: &'static str,
+    pub help: &'static str,
+}
+
+const PATH: Operand = Operand {
+    id: "operand",
+    name: "PATH",
+    help: "A path, such as '$.lines[*].price'",
+};
+
+const CONDITION: Operand = Operand {
+    id: "operand",
+    name: "PATH",
+    help: "A path, such as '$.lines[*]?(@.price < 3)'",
+};
+
+const VALUE: Operand = Operand {
+    id: "operand",
+    name: "VALUE",
+    help: "A JSON text",
+};
+
+const NEW_VALUE: Operand = Operand {
+    id: "value",
+    name: "VALUE",
+    help: "A JSON text",
+};
+
+const FROM: Operand = Operand {
+    id: "operand",
+    name: "FROM",
+    help: "A JSON text, the first value of the range",
+};
+
+const TO: Operand = Operand {
+    id: "value",
+    name: "TO",
+    help: "A JSON text, the first value after the range",
+};
+
+const STEPS: Operand = Operand {
+    id: "operand",
+    name: "PATH",
+    help: "A path without wildcards, such as '$.lines[0].price'",
+};
+
+const REMOVED: Operand = Operand {
+    id: "operand",
+    name: "PATH",
+    help: "A path without wildcards; words after it that begin with '$' are paths too",
+};
+
+const COLUMN: Operand = Operand {
+    id: "operand",
+    name: "PATH",
+    help: "A path, such as '$.price'; after TYPE more paths may come, each with its type",
+};
+
+const TYPE: Operand = Operand {
+    id: "value",
+    name: "TYPE",
+    help: "boolean, int64, uint64, 'decimal 2', text, date, timestamp, timestamp_tz, interval, \
+        binary, nothing or mixed",
+};
+
+const NAMES: Operand = Operand {
+    id: "operand",
+    name: "NAMES",
+    help: "Names with commas between them, such as id,who",
+};
