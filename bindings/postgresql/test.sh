@@ -386,13 +386,25 @@ run_schemas() {
     expect "tables" 0 "$(query "SELECT count(*) FROM pg_class WHERE relname = 'taken'" quoted)"
 }
 
-catalogue_of() { psql -At -d "$1" -f "$folder/tests/catalogue.sql"; }
+# Makes a database in which an extension can be updated.
+open_for_update() { psql -c "DROP DATABASE IF EXISTS updated" -c "CREATE DATABASE updated"; }
 
-# An extension of version $1 that is updated has the catalogue of a new one, in the file $2.
+# Compares what the extension $1 has in the catalogues of a new database and of one that updated it.
+same_catalogue() {
+    local database
+    for database in fresh updated; do
+        psql -At -d $database -v extension="$1" -f "$folder/tests/catalogue.sql" > \
+            "$scratch/$database.catalogue"
+    done
+    diff -u "$scratch"/{fresh,updated}.catalogue >&2 || fail "the update of $1 from $2"
+    passed "$(wc -l < "$scratch/fresh.catalogue")"
+}
+
+# An extension of version $1 that is updated has the catalogue of a new one.
 update_from() {
     local version
     version=$(pkg-config --modversion kohiblad)
-    psql -c "DROP DATABASE IF EXISTS updated" -c "CREATE DATABASE updated"
+    open_for_update
     query "CREATE EXTENSION kohiblad VERSION '$1'" updated
     query "CREATE TABLE goods AS SELECT '[7]'::kohiblad AS doc" updated
     query "CREATE VIEW shown AS SELECT doc::json FROM goods" updated
@@ -403,19 +415,53 @@ update_from() {
         "$(query "SELECT kohiblad_version()" updated)"
     expect "a row" '{"doc":[7]}' "$(query "SELECT row_to_json(goods) FROM goods" updated)"
     expect "a view" '[7]' "$(query "TABLE shown" updated)"
-    catalogue_of updated | diff -u "$2" - >&2 || fail "the update from $1"
-    passed "$(wc -l < "$2")"
+    query "CREATE EXTENSION kohiblad_compat" updated
+    same_catalogue kohiblad "$1"
+}
+
+# So has a kohiblad_compat of version $1.
+update_compat_from() {
+    open_for_update
+    psql -d updated -c "CREATE EXTENSION kohiblad" \
+        -c "CREATE EXTENSION kohiblad_compat VERSION '$1'" \
+        -c "ALTER EXTENSION kohiblad_compat UPDATE"
+    same_catalogue kohiblad_compat "$1"
+}
+
+# The versions that the scripts of updates of an extension begin at.
+versions_of() {
+    local script
+    for script in "$folder/$1"--*--*.sql; do
+        script=${script##*/"$1"--}
+        echo "${script%%--*}"
+    done
+}
+
+# META.json names the scripts that lead to this version, and `make install` installs all.
+run_scripts() {
+    note "scripts"
+    local version script
+    version=$(pkg-config --modversion kohiblad)
+    expect "the version in META.json" "$version" \
+        "$(sed -n 's/^    "version": "\(.*\)",$/\1/p' "$folder/META.json")"
+    for script in $(sed -n 's/^ *"file": "\(.*\)",$/\1/p' "$folder/META.json"); do
+        expect "the end of $script, which is there" "--${version%.*}.sql" \
+            "$(ls "$folder/$script" | sed 's/.*--/--/')"
+    done
+    expect "the scripts installed" "$(cd "$folder" && echo kohiblad*.sql)" \
+        "$(cd "$("$bin/pg_config" --sharedir)/extension" && echo kohiblad*.sql)"
 }
 
 run_updates() {
     note "updates"
-    expect "the version in META.json" "$(pkg-config --modversion kohiblad)" \
-        "$(sed -n 's/^    "version": "\(.*\)",$/\1/p' "$folder/META.json")"
-    catalogue_of "$PGDATABASE" > "$scratch/catalogue"
-    local script
-    for script in "$folder"/kohiblad--*--*.sql; do
-        script=${script##*/kohiblad--}
-        update_from "${script%%--*}" "$scratch/catalogue"
+    psql -c "CREATE DATABASE fresh"
+    psql -d fresh -c "CREATE EXTENSION kohiblad" -c "CREATE EXTENSION kohiblad_compat"
+    local version
+    for version in $(versions_of kohiblad); do
+        update_from "$version"
+    done
+    for version in $(versions_of kohiblad_compat); do
+        update_compat_from "$version"
     done
 }
 
@@ -455,6 +501,7 @@ run_replication
 run_stored
 run_trusted
 run_schemas
+run_scripts
 run_updates
 run_cluster
 ! grep -E 'PANIC|terminated by signal' "$scratch/server.log" || fail "the server broke down"

@@ -10,8 +10,12 @@ static const char *const kind_names[] = {
     [KOHIBLAD_OBJECT] = "object",
 };
 
-static bool find_member(Bytes document, const text *name, Part *child) {
-    return find_key(document, utf8_of_text(name), child);
+static bool find_member(Sliced *document, Part value, const text *name, Part *child) {
+    return is_container(value) && find_key_in(document, value.payload, utf8_of_text(name), child);
+}
+
+static bool find_item(Sliced *document, Part value, int32 index, Part *child) {
+    return is_container(value) && find_index_in(document, value.payload, index, child);
 }
 
 static Datum answer_document(FunctionCallInfo fcinfo, bool is_there, Part part) {
@@ -26,21 +30,22 @@ static Datum answer_text(FunctionCallInfo fcinfo, bool is_there, Part part) {
 }
 
 /* The two operators of each way to a child: one returns a document, the other a text. */
-#define OPERATOR(name, answer, find, argument)                \
-    PG_FUNCTION_INFO_V1(name);                                \
-    Datum name(PG_FUNCTION_ARGS) {                            \
-        struct varlena *document = PG_GETARG_VARLENA_PP(0);   \
-        Part child = {0};                                     \
-        bool is_there = find(bytes_of(document), argument, &child); \
-        Datum answered = answer(fcinfo, is_there, child);     \
-        PG_FREE_IF_COPY(document, 0);                         \
-        return answered;                                      \
+#define OPERATOR(name, answer, find, argument)                                        \
+    PG_FUNCTION_INFO_V1(name);                                                        \
+    Datum name(PG_FUNCTION_ARGS) {                                                    \
+        Sliced document;                                                              \
+        Part child = {0}, whole = open_sliced(&document, PG_GETARG_RAW_VARLENA_P(0)); \
+        bool is_there = find(&document, whole, argument, &child);                     \
+        if (is_there) fetch_part(&document, child);                                   \
+        Datum answered = answer(fcinfo, is_there, child);                             \
+        close_sliced(&document);                                                      \
+        return answered;                                                              \
     }
 
 OPERATOR(pg_kohiblad_member, answer_document, find_member, PG_GETARG_TEXT_PP(1))
 OPERATOR(pg_kohiblad_member_text, answer_text, find_member, PG_GETARG_TEXT_PP(1))
-OPERATOR(pg_kohiblad_item, answer_document, find_index, PG_GETARG_INT32(1))
-OPERATOR(pg_kohiblad_item_text, answer_text, find_index, PG_GETARG_INT32(1))
+OPERATOR(pg_kohiblad_item, answer_document, find_item, PG_GETARG_INT32(1))
+OPERATOR(pg_kohiblad_item_text, answer_text, find_item, PG_GETARG_INT32(1))
 OPERATOR(pg_kohiblad_path, answer_document, find_path, kept_path(fcinfo))
 OPERATOR(pg_kohiblad_path_text, answer_text, find_path, kept_path(fcinfo))
 

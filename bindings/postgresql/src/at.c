@@ -28,22 +28,23 @@ static int64 index_of_number(Part number) {
     return index.value;
 }
 
-static bool find_number(Part value, Part number, Part *child) {
+static bool find_number(Sliced *document, Part value, Part number, Part *child) {
     int64 index = index_of_number(number);
-    return is_container(value) && find_index(value.payload, index, child);
+    return is_container(value) && find_index_in(document, value.payload, index, child);
 }
 
 /* Finds what an element of an array leads to, as #> does. */
-static bool find_element(Part value, Part element, Part *child) {
+static bool find_element(Sliced *document, Part value, Part element, Part *child) {
     switch (element.type) {
-        case KOHIBLAD_TYPE_NUMBER: return find_number(value, element, child);
+        case KOHIBLAD_TYPE_NUMBER: return find_number(document, value, element, child);
         case KOHIBLAD_TYPE_STRING:
-            return is_container(value) && find_step(value.payload, element.payload, child);
+            return is_container(value)
+                && find_step(document, value.payload, element.payload, child);
         default: refuse_path();
     }
 }
 
-static bool find_elements(Part value, Bytes path, Part *child) {
+static bool find_elements(Sliced *document, Part value, Bytes path, Part *child) {
     struct kohiblad_cursor cursor;
     struct kohiblad_place key, element;
     *child = value;
@@ -52,21 +53,22 @@ static bool find_elements(Part value, Bytes path, Part *child) {
         CHECK_FOR_INTERRUPTS();
         status = kohiblad_next(path.at, path.size, &cursor, &key, &element);
         if (status != KOHIBLAD_OK) break;
-        if (!find_element(*child, part_at(path, element), child)) return false;
+        if (!find_element(document, *child, part_at(path, element), child)) return false;
     }
     if (status != KOHIBLAD_NONE) refuse(status, ERRCODE_DATA_CORRUPTED);
     return true;
 }
 
 /* Finds what a path leads to: a text alone names a member as -> does, and no item. */
-static bool find_at(Part value, Bytes path, Part *child) {
+static bool find_at(Sliced *document, Part value, Bytes path, Part *child) {
     Part whole = part_of_document(path);
     switch (whole.type) {
-        case KOHIBLAD_TYPE_NUMBER: return find_number(value, whole, child);
+        case KOHIBLAD_TYPE_NUMBER: return find_number(document, value, whole, child);
         case KOHIBLAD_TYPE_STRING:
-            return is_container(value) && find_key(value.payload, whole.payload, child);
+            return is_container(value)
+                && find_key_in(document, value.payload, whole.payload, child);
         case KOHIBLAD_TYPE_CONTAINER:
-            if (is_array(whole)) return find_elements(value, path, child);
+            if (is_array(whole)) return find_elements(document, value, path, child);
             refuse_path();
         default: refuse_path();
     }
@@ -74,11 +76,14 @@ static bool find_at(Part value, Bytes path, Part *child) {
 
 PG_FUNCTION_INFO_V1(pg_kohiblad_at);
 Datum pg_kohiblad_at(PG_FUNCTION_ARGS) {
-    struct varlena *document = PG_GETARG_VARLENA_PP(0), *path = PG_GETARG_VARLENA_PP(1), *found;
-    Part child;
-    bool is_there = find_at(part_of_document(bytes_of(document)), bytes_of(path), &child);
-    found = is_there ? document_of_part(child) : NULL;
-    PG_FREE_IF_COPY(document, 0);
+    struct varlena *path = PG_GETARG_VARLENA_PP(1), *found = NULL;
+    Sliced document;
+    Part child, whole = open_sliced(&document, PG_GETARG_RAW_VARLENA_P(0));
+    if (find_at(&document, whole, bytes_of(path), &child)) {
+        fetch_part(&document, child);
+        found = document_of_part(child);
+    }
+    close_sliced(&document);
     PG_FREE_IF_COPY(path, 1);
     if (!found) PG_RETURN_NULL();
     PG_RETURN_POINTER(found);

@@ -209,10 +209,8 @@ Datum pg_kohiblad_contained(PG_FUNCTION_ARGS) {
     PG_RETURN_BOOL(result);
 }
 
-/* Looks a key of an object up, which is sooner done than to check all of the document. */
-static bool exists(Bytes document, Bytes key) {
-    Part member;
-    if (kind_of(document).kind == KOHIBLAD_OBJECT) return find_key(document, key, &member);
+/* Whether a document that is no object is a text, or has an item that is this text. */
+static bool has_text(Bytes document, Bytes key) {
     size_t depth = depth_of_size(document.size);
     check_stack_for(stack_of_depth(depth));
     struct kohiblad_truth truth =
@@ -221,11 +219,24 @@ static bool exists(Bytes document, Bytes key) {
     return truth.value;
 }
 
+/* Looks a key of an object up, which is sooner done than to check all of the document. */
+static bool exists(Bytes document, Bytes key) {
+    Part member;
+    if (kind_of(document).kind == KOHIBLAD_OBJECT) return find_key(document, key, &member);
+    return has_text(document, key);
+}
+
 PG_FUNCTION_INFO_V1(pg_kohiblad_exists);
 Datum pg_kohiblad_exists(PG_FUNCTION_ARGS) {
-    struct varlena *document = PG_GETARG_VARLENA_PP(0);
-    bool result = exists(bytes_of(document), utf8_of_text(PG_GETARG_TEXT_PP(1)));
-    PG_FREE_IF_COPY(document, 0);
+    Sliced document;
+    Part member, whole = open_sliced(&document, PG_GETARG_RAW_VARLENA_P(0));
+    Bytes key = utf8_of_text(PG_GETARG_TEXT_PP(1));
+    bool result;
+    if (is_container(whole) && !is_array_in(&document, whole))
+        result = find_key_in(&document, whole.payload, key, &member);
+    else
+        result = has_text(whole_of(&document), key);
+    close_sliced(&document);
     PG_RETURN_BOOL(result);
 }
 

@@ -157,6 +157,11 @@ extern text *plain_text(Part part);
 /* The document of a JSON text in UTF-8, which is refused as the text of a column is. */
 extern struct varlena *document_of_json(Bytes utf8);
 
+/* The same document, made of pieces of at least so many bytes, or of a text that is long. NULL if
+ * it is not made so, and if the text is refused. */
+extern struct varlena *document_of_pieces(Bytes utf8, size_t piece);
+extern struct varlena *document_of_long_json(Bytes utf8);
+
 /* Where and why a text in UTF-8 that is read within a depth is not JSON. */
 extern Fault fault_of_text(Bytes utf8, size_t depth);
 

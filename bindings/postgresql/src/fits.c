@@ -17,6 +17,11 @@ static const char *fault_of_room(size_t bytes) {
 /* A call without room says how long the document is. */
 static const char *fault_of_json(Bytes utf8) {
     size_t length;
+    struct varlena *document = document_of_long_json(utf8);
+    if (document) {
+        pfree(document);
+        return NULL;
+    }
     check_stack_for(KOHIBLAD_CALL_STACK);
     uint32_t status = kohiblad_parse(utf8.at, utf8.size, MAX_DEPTH, KOHIBLAD_EXPONENTS_ALLOWED,
                                      NULL, 0, &length);

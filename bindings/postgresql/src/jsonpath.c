@@ -138,10 +138,11 @@ static Datum call_for_document(FunctionCallInfo fcinfo, PGFunction function) {
 static Datum answer_exists(FunctionCallInfo fcinfo, PGFunction function) {
     const PathPlan *plan = plan_of_call(fcinfo, kept_of(fcinfo));
     if (!plan) return call_with_jsonb(fcinfo, function);
-    struct varlena *document = PG_GETARG_VARLENA_PP(0);
+    Sliced document;
+    Part root = open_sliced(&document, PG_GETARG_RAW_VARLENA_P(0));
     bool answer;
-    bool is_found = find_any(plan, bytes_of(document), &answer);
-    PG_FREE_IF_COPY(document, 0);
+    bool is_found = find_any(plan, &document, root, &answer);
+    close_sliced(&document);
     if (!is_found) return call_with_jsonb(fcinfo, function);
     PG_RETURN_BOOL(answer);
 }
@@ -149,10 +150,11 @@ static Datum answer_exists(FunctionCallInfo fcinfo, PGFunction function) {
 static Datum answer_match(FunctionCallInfo fcinfo, PGFunction function) {
     const PathPlan *plan = plan_of_call(fcinfo, kept_of(fcinfo));
     if (!plan) return call_with_jsonb(fcinfo, function);
-    struct varlena *document = PG_GETARG_VARLENA_PP(0);
+    Sliced document;
+    Part root = open_sliced(&document, PG_GETARG_RAW_VARLENA_P(0));
     uint32_t type;
-    bool is_found = find_truth(plan, bytes_of(document), &type);
-    PG_FREE_IF_COPY(document, 0);
+    bool is_found = find_truth(plan, &document, root, &type);
+    close_sliced(&document);
     if (!is_found) return call_with_jsonb(fcinfo, function);
     if (type == KOHIBLAD_TYPE_NULL) PG_RETURN_NULL();
     PG_RETURN_BOOL(type == KOHIBLAD_TYPE_TRUE);
@@ -160,7 +162,11 @@ static Datum answer_match(FunctionCallInfo fcinfo, PGFunction function) {
 
 static bool values_of_call(FunctionCallInfo fcinfo, Parts *values) {
     const PathPlan *plan = plan_of_call(fcinfo, kept_of(fcinfo));
-    return plan && find_values(plan, bytes_of(PG_GETARG_VARLENA_PP(0)), values);
+    if (!plan) return false;
+    /* The values are in the document, which lasts as long as the call's memory. */
+    Sliced document;
+    Part root = open_sliced(&document, PG_GETARG_RAW_VARLENA_P(0));
+    return find_values(plan, &document, root, values);
 }
 
 static Datum answer_first(FunctionCallInfo fcinfo, PGFunction function) {

@@ -3,7 +3,7 @@
 #ifndef PG_KOHIBLAD_PATHPLAN_H
 #define PG_KOHIBLAD_PATHPLAN_H
 
-#include "document.h"
+#include "slices.h"
 
 #include "utils/jsonpath.h"
 
@@ -69,9 +69,9 @@ extern bool write_number(JsonPathItem *item, uint8_t *out, size_t *size);
 /* What the server's engine answers in a jsonb of the document: whether there is a value, what the
  * predicate says (a boolean or null), and all values, in order. False where that engine has to be
  * asked: it has no dates and other extension values, but their texts. */
-extern bool find_any(const PathPlan *plan, Bytes document, bool *answer);
-extern bool find_truth(const PathPlan *plan, Bytes document, uint32_t *type);
-extern bool find_values(const PathPlan *plan, Bytes document, Parts *values);
+extern bool find_any(const PathPlan *plan, Sliced *document, Part root, bool *answer);
+extern bool find_truth(const PathPlan *plan, Sliced *document, Part root, uint32_t *type);
+extern bool find_values(const PathPlan *plan, Sliced *document, Part root, Parts *values);
 
 #pragma GCC visibility pop
 

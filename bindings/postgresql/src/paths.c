@@ -56,50 +56,29 @@ Path *kept_path(FunctionCallInfo fcinfo) {
     return made_of_argument(fcinfo, 1, make_path);
 }
 
-static bool is_found(struct kohiblad_place place, Bytes document, Part *child) {
-    if (place.status == KOHIBLAD_NONE) return false;
-    if (place.status != KOHIBLAD_OK) refuse(place.status, ERRCODE_DATA_CORRUPTED);
-    *child = part_at(document, place);
-    return true;
-}
-
-bool find_key(Bytes document, Bytes key, Part *child) {
-    return is_found(kohiblad_find_key(document.at, document.size, key.at, key.size), document,
-                    child);
-}
-
-/* Finds an item of an array of so many. */
-static bool find_item(Bytes array, int64 count, int64 index, Part *child) {
-    if (index < 0) index += count;
-    if (index < 0) return false;
-    return is_found(kohiblad_find_index(array.at, array.size, index), array, child);
-}
-
-bool find_index(Bytes document, int64 index, Part *child) {
-    struct kohiblad_value_kind kind = kind_of(document);
-    return kind.kind == KOHIBLAD_ARRAY && find_item(document, kind.count, index, child);
-}
-
-bool find_step(Bytes container, Bytes element, Part *child) {
+bool find_step(Sliced *document, Bytes container, Bytes element, Part *child) {
     int index;
-    if (kind_of(container).kind != KOHIBLAD_ARRAY) return find_key(container, element, child);
-    return index_of_bytes(element, &index) && find_index(container, index, child);
+    struct kohiblad_value_kind kind = kind_in(document, container);
+    if (kind.kind != KOHIBLAD_ARRAY) return find_key_in(document, container, element, child);
+    return index_of_bytes(element, &index)
+        && find_item_in(document, container, kind.count, index, child);
 }
 
-bool follow_element(Bytes container, const Element *element, Part *child) {
-    struct kohiblad_value_kind kind = kind_of(container);
+bool follow_element(Sliced *document, Bytes container, const Element *element, Part *child) {
+    struct kohiblad_value_kind kind = kind_in(document, container);
     if (kind.kind != KOHIBLAD_ARRAY)
-        return find_key(container, utf8_of_text(element->given), child);
-    return element->is_index && find_item(container, kind.count, element->index, child);
+        return find_key_in(document, container, utf8_of_text(element->given), child);
+    return element->is_index
+        && find_item_in(document, container, kind.count, element->index, child);
 }
 
-bool find_path(Bytes document, const Path *path, Part *child) {
-    *child = part_of_document(document);
+bool find_path(Sliced *document, Part value, const Path *path, Part *child) {
+    *child = value;
     for (int i = 0; i < path->count; i++) {
         CHECK_FOR_INTERRUPTS();
         const Element *element = &path->elements[i];
         if (!element->given || !is_container(*child)) return false;
-        if (!follow_element(child->payload, element, child)) return false;
+        if (!follow_element(document, child->payload, element, child)) return false;
     }
     return true;
 }
@@ -132,7 +111,7 @@ static void take_element(Path *path, PathEnd *end) {
 
 static bool find_end(const PathEnd *end, Part *child) {
     Bytes container = end->container.payload;
-    return end->is_array ? find_item(container, end->count, end->index, child)
+    return end->is_array ? find_item_in(NULL, container, end->count, end->index, child)
                          : find_key(container, end->key, child);
 }
 

@@ -5,6 +5,7 @@
 
 #include "kept.h"
 #include "rows.h"
+#include "slices.h"
 
 #include "utils/array.h"
 
@@ -54,15 +55,20 @@ extern Path *path_of_texts(TextPath texts);
 extern Path *kept_path(FunctionCallInfo fcinfo);
 
 /* Finds a member of an object, or an item of an array; a negative index counts from the end. */
-extern bool find_key(Bytes document, Bytes key, Part *child);
-extern bool find_index(Bytes document, int64 index, Part *child);
+static inline bool find_key(Bytes document, Bytes key, Part *child) {
+    return find_key_in(NULL, document, key, child);
+}
+static inline bool find_index(Bytes document, int64 index, Part *child) {
+    return find_index_in(NULL, document, index, child);
+}
 
-/* Finds what an element of a path names: a member, or in an array the item at an index. */
-extern bool find_step(Bytes container, Bytes element, Part *child);
-extern bool follow_element(Bytes container, const Element *element, Part *child);
+/* Finds what an element of a path names: a member, or in an array the item at an index. NULL stands
+ * for a document that is at hand. */
+extern bool find_step(Sliced *document, Bytes container, Bytes element, Part *child);
+extern bool follow_element(Sliced *document, Bytes container, const Element *element, Part *child);
 
-/* Finds what a path leads to. */
-extern bool find_path(Bytes document, const Path *path, Part *child);
+/* Finds what a path leads to from a value. */
+extern bool find_path(Sliced *document, Part value, const Path *path, Part *child);
 
 /* Follows a path, which has an element, as far as it leads but for its last element, which is not
  * looked up. False if it leads to a scalar before its end. Refuses a null element, and for an array

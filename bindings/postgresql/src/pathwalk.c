@@ -11,6 +11,7 @@ enum truth { IS_FALSE, IS_TRUE, IS_UNKNOWN };
 /* A walk over a document. It is lost after it came to a value that the server's engine has in
  * another form: then nothing that it found counts. */
 typedef struct Run {
+    Sliced *document;
     Part root, current;
     bool is_lost;
 } Run;
@@ -20,6 +21,7 @@ typedef struct Run {
 typedef struct Taker {
     bool (*take)(Run *run, struct Taker *taker, Part value);
     bool in_order;
+    bool is_blind; /* whether it does not look at values, whose bytes need not be at hand then */
 } Taker;
 
 typedef struct Gatherer {
@@ -118,24 +120,27 @@ static int64 place_of(Subscript index, int64 count) {
 
 static bool follow_one(Run *run, const Step *step, Bytes array, int64 index, Taker *taker) {
     Part item;
-    return find_index(array, index, &item) && follow(run, step, item, true, taker);
+    return find_index_in(run->document, array, index, &item)
+        && follow(run, step, item, true, taker);
 }
 
 /* What is no array is the only item of one. */
 static bool follow_indexes(Run *run, const Step *step, Part value, Taker *taker) {
-    bool is_alone = !is_array_part(value), is_done = false;
-    int64 count = is_alone ? 1 : kind_of(value.payload).count;
+    bool is_alone = !is_array_in(run->document, value), is_done = false;
+    int64 count = is_alone ? 1 : kind_in(run->document, value.payload).count;
     for (int i = 0; i < step->range_count && !is_done; i++) {
         CHECK_FOR_INTERRUPTS();
         int64 first = Max(place_of(step->ranges[i].first, count), 0);
         int64 last = Min(place_of(step->ranges[i].last, count), count - 1);
         if (first > last) continue;
-        if (is_alone)
+        if (is_alone) {
             is_done = follow(run, step->next, value, true, taker);
-        else if (first == last)
+        } else if (first == last) {
             is_done = follow_one(run, step->next, value.payload, first, taker);
-        else
+        } else {
+            fetch_all(run->document);
             is_done = follow_items(run, step->next, value.payload, first, last, true, taker);
+        }
     }
     return is_done;
 }
@@ -157,15 +162,21 @@ static bool follow(Run *run, const Step *step, Part value, bool unwraps, Taker *
     for (; step && step->type == jpiKey; step = step->next, unwraps = true) {
         CHECK_FOR_INTERRUPTS();
         if (!is_container(value)) return false;
-        if (find_key(value.payload, step->key, &value)) continue;
-        return unwraps && is_array(value) && follow_all_items(run, step, value, false, taker);
+        if (find_key_in(run->document, value.payload, step->key, &value)) continue;
+        if (!unwraps || !is_array_in(run->document, value)) return false;
+        fetch_all(run->document);
+        return follow_all_items(run, step, value, false, taker);
     }
     if (run->is_lost) return true;
-    if (!step) return taker->take(run, taker, value);
+    if (!step) {
+        if (!taker->is_blind) fetch_part(run->document, value);
+        return taker->take(run, taker, value);
+    }
+    if (step->type == jpiIndexArray) return follow_indexes(run, step, value, taker);
+    fetch_all(run->document);
     switch (step->type) {
         case jpiAnyKey: return follow_members(run, step, value, unwraps, taker);
         case jpiAnyArray: return follow_wildcard(run, step, value, taker);
-        case jpiIndexArray: return follow_indexes(run, step, value, taker);
         default: return follow_filter(run, step, value, unwraps, taker);
     }
 }
@@ -184,7 +195,7 @@ static bool take_any(Run *run pg_attribute_unused(), Taker *taker pg_attribute_u
 }
 
 static bool exists(Run *run, const Source *source) {
-    Taker any = {take_any, false};
+    Taker any = {take_any, false, true};
     return follow_source(run, source, &any);
 }
 
@@ -205,7 +216,7 @@ static void add_value(Parts *parts, Part value) {
 static bool take_value(Run *run, Taker *taker, Part value) {
     Gatherer *gatherer = (Gatherer *)taker;
     if (gatherer->unwraps && is_array_part(value)) {
-        Gatherer inner = {{take_value, false}, gatherer->parts, false};
+        Gatherer inner = {{take_value, false, false}, gatherer->parts, false};
         return follow_all_items(run, NULL, value, false, &inner.taker);
     }
     add_value(gatherer->parts, value);
@@ -284,10 +295,10 @@ static enum truth compare_sources(Run *run, const Test *test) {
     Parts others = {&literal, 1, 0};
     if (test->other.type == jpiRoot || test->other.type == jpiCurrent) {
         others = (Parts){0};
-        Gatherer gatherer = {{take_value, false}, &others, true};
+        Gatherer gatherer = {{take_value, false, false}, &others, true};
         follow_source(run, &test->other, &gatherer.taker);
     }
-    Comparer comparer = {{take_compared, false}, test->type, &others, false, false};
+    Comparer comparer = {{take_compared, false, false}, test->type, &others, false, false};
     bool is_true = follow_source(run, &test->source, &comparer.taker);
     if (others.room) pfree(others.at);
     if (is_true) return IS_TRUE;
@@ -319,9 +330,8 @@ static enum truth judge(Run *run, const Test *test) {
     }
 }
 
-static Run run_of(Bytes document) {
-    Part root = part_of_document(document);
-    return (Run){root, root, false};
+static Run run_of(Sliced *document, Part root) {
+    return (Run){document, root, root, false};
 }
 
 static uint32_t type_of_truth(enum truth truth) {
@@ -334,14 +344,14 @@ static uint32_t type_of_truth(enum truth truth) {
 }
 
 /* What a predicate says is a value, whatever it is. */
-bool find_any(const PathPlan *plan, Bytes document, bool *answer) {
-    Run run = run_of(document);
+bool find_any(const PathPlan *plan, Sliced *document, Part root, bool *answer) {
+    Run run = run_of(document, root);
     *answer = plan->test || exists(&run, &plan->source);
     return !run.is_lost;
 }
 
 static bool gather(const PathPlan *plan, Run *run, Parts *values) {
-    Gatherer gatherer = {{take_value, true}, values, false};
+    Gatherer gatherer = {{take_value, true, false}, values, false};
     if (plan->test)
         add_value(values, (Part){type_of_truth(judge(run, plan->test))});
     else
@@ -349,8 +359,8 @@ static bool gather(const PathPlan *plan, Run *run, Parts *values) {
     return !run->is_lost;
 }
 
-bool find_truth(const PathPlan *plan, Bytes document, uint32_t *type) {
-    Run run = run_of(document);
+bool find_truth(const PathPlan *plan, Sliced *document, Part root, uint32_t *type) {
+    Run run = run_of(document, root);
     Parts values = {0};
     if (plan->test) {
         *type = type_of_truth(judge(&run, plan->test));
@@ -366,8 +376,8 @@ static bool has_extension(Part value) {
     return value.type == KOHIBLAD_TYPE_EXTENSION;
 }
 
-bool find_values(const PathPlan *plan, Bytes document, Parts *values) {
-    Run run = run_of(document);
+bool find_values(const PathPlan *plan, Sliced *document, Part root, Parts *values) {
+    Run run = run_of(document, root);
     *values = (Parts){0};
     if (!gather(plan, &run, values)) return false;
     for (size_t i = 0; i < values->count; i++) {

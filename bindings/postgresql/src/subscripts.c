@@ -95,10 +95,14 @@ static Path *path_of(const SubscriptingRefState *reference) {
 
 /* The value at the subscripts, or null. */
 static Datum value_at(Datum given, const Path *path, bool *is_null) {
+    Sliced document;
     Part child;
-    Bytes document = bytes_of(PG_DETOAST_DATUM_PACKED(given));
-    *is_null = !find_path(document, path, &child);
-    return *is_null ? (Datum)0 : PointerGetDatum(document_of_part(child));
+    Part whole = open_sliced(&document, (struct varlena *)DatumGetPointer(given));
+    *is_null = !find_path(&document, whole, path, &child);
+    if (!*is_null) fetch_part(&document, child);
+    Datum value = *is_null ? (Datum)0 : PointerGetDatum(document_of_part(child));
+    close_sliced(&document);
+    return value;
 }
 
 static void fetch(ExprState *state pg_attribute_unused(), ExprEvalStep *step,
@@ -199,7 +203,8 @@ static size_t word_of_last(Bytes array) {
  * item. */
 static Part child_of(Bytes container, const Element *element) {
     Part child;
-    if (!follow_element(container, element, &child)) refuse(KOHIBLAD_NONE, ERRCODE_DATA_CORRUPTED);
+    if (!follow_element(NULL, container, element, &child))
+        refuse(KOHIBLAD_NONE, ERRCODE_DATA_CORRUPTED);
     return child;
 }
 static Part end_of(Bytes container, const Element *element) {

@@ -32,6 +32,8 @@ static uint32_t parse(const uint8_t *given, size_t size, size_t depth, uint8_t *
 }
 
 struct varlena *document_of_json(Bytes utf8) {
+    struct varlena *document = document_of_long_json(utf8);
+    if (document) return document;
     return write_value_of_text(parse, utf8, 4 * utf8.size + SCALAR_FRONT,
                                ERRCODE_INVALID_TEXT_REPRESENTATION);
 }

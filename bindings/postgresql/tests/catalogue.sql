@@ -1,8 +1,8 @@
--- All that the extension has in the catalogue: one line for each object, without OIDs.
+-- All that the extension `extension` has in the catalogue: one line for each object, without OIDs.
 CREATE TEMPORARY VIEW members AS
     SELECT classid, objid FROM pg_depend
     WHERE deptype = 'e' AND refclassid = 'pg_extension'::regclass
-      AND refobjid = (SELECT oid FROM pg_extension WHERE extname = 'kohiblad');
+      AND refobjid = (SELECT oid FROM pg_extension WHERE extname = :'extension');
 SELECT pg_describe_object(classid, objid, 0) AS line, description
 FROM members LEFT JOIN pg_description ON (classoid, objoid, objsubid) = (classid, objid, 0)
 ORDER BY 1;

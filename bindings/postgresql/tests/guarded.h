@@ -23,3 +23,8 @@ static inline void *guarded_palloc0(Size size) {
 
 #define palloc guarded_palloc
 #define palloc0 guarded_palloc0
+
+/* Documents of this size are fetched in slices, and what was not fetched is not to be read. */
+#define SLICED_FROM 2000
+#define MARK_AWAITED __asan_poison_memory_region
+#define MARK_FETCHED __asan_unpoison_memory_region

@@ -106,6 +106,8 @@ kohiblad_path_query_array({d}, {jsonpath}, '{{"x":"\\u0000"}}', {truth})
 {d}::bytea::kohiblad
 {bytes}::bytea::kohiblad
 {text}::kohiblad
+joined({text}, {piece})
+joined({text}, {piece})
 {d} < {e}
 {d} = {e}
 {d} OPERATOR(kohiblad_compat.<) {e}
@@ -142,6 +144,21 @@ UPDATE docs SET d = d || {e} WHERE i < {i}
 INSERT INTO docs VALUES (0, {d})
 ANALYZE damaged
 """.strip().split("\n")
+
+# The document of a text that is parsed in pieces, which must be that of one call.
+JOINED = """
+CREATE FUNCTION joined(json text, piece int) RETURNS kohiblad LANGUAGE plpgsql AS $$
+DECLARE
+    document kohiblad := of_pieces(json, piece);
+BEGIN
+    IF document IS NOT NULL THEN
+        IF NOT kohiblad_fits(json) OR document::bytea <> json::kohiblad::bytea THEN
+            RAISE 'another document' USING ERRCODE = 'XX000';
+        END IF;
+    END IF;
+    RETURN document;
+END $$;
+"""
 
 
 def quoted(text):
@@ -258,6 +275,7 @@ def filled(call):
         "many": many_texts, "truth": lambda: random.choice(["true", "false"]),
         "jsonpath": jsonpath, "bytes": damaged_bytes, "text": lambda: quoted(damaged_text()),
         "far": lambda: str(random.choice([3000, 100000, 2000000, 40000000])),
+        "piece": lambda: str(random.choice([1, 2, 5, 20, 100, 1000, 10000])),
     }
 
     class Arguments(dict):
@@ -311,6 +329,9 @@ def prepare(session):
     """Makes the tables of documents."""
     session.ask("SET client_encoding = 'UTF8';")
     session.ask("CREATE EXTENSION kohiblad; CREATE EXTENSION kohiblad_compat;")
+    session.ask("CREATE FUNCTION of_pieces(json text, piece int) RETURNS kohiblad"
+                " AS '$libdir/kohiblad', 'pg_kohiblad_of_pieces' LANGUAGE C STRICT;")
+    session.ask(JOINED)
     session.ask("CREATE TYPE shape AS (a int, b text, c int[], \"é\" kohiblad, tags jsonb,"
                 " x json);")
     session.ask("CREATE TABLE docs (i int, d kohiblad);")
