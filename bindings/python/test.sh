@@ -8,8 +8,9 @@
 # makes random calls for SOAK_MINUTES, 0.1 if it is not set, with a module that was compiled with
 # sanitizers. tests/kills.py kills programs and servers of bindings/examples, for KILL_SECONDS each,
 # which is 1 with QUICK and 10 without it, at places that are drawn with KILL_SEED. At the end
-# drivers.sh runs the lines of DRIVERS.md. PYTHON names another Python than python3. The last line says how many tests passed, and lines before it which
-# were passed over; the status is 0, 1 after a failure, or 77 if a tool is missing.
+# drivers.sh runs the lines of DRIVERS.md. PYTHON names another Python than python3. The last line
+# says how many tests passed, and lines before it which were passed over; the status is 0, 1 after a
+# failure, or 77 if a tool is missing.
 set -euo pipefail
 name=bindings/python
 python=${PYTHON:-python3}

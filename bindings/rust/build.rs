@@ -8,7 +8,7 @@ use std::path::Path;
 use std::process::Command;
 
 const ARCHIVE: &str = "libkohiblad.a";
-const NEEDED: &str = "kohiblad >= 0.8";
+const NEEDED: &str = "kohiblad >= 0.9";
 
 fn main() {
     for variable in [

@@ -29,7 +29,7 @@ import zipfile
 TOP = os.path.dirname(os.path.dirname(os.path.abspath(__file__)))
 SOURCE = os.path.join(TOP, "src")
 NATIVE = os.path.join(SOURCE, "native")
-LIBRARY = "libkohiblad.so.0.8"
+LIBRARY = "libkohiblad.so.0.9"
 HEADER = "kohiblad.h"
 # Another that is beside it.
 STACK_HEADER = "kohiblad_stack.h"

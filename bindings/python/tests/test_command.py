@@ -19,7 +19,7 @@ NDJSON = "".join(line + "\n" for line in LINES).encode()
 
 
 def stored(*texts):
-    """A file of documents, as docs/COLUMN.md says it."""
+    """A file of documents, as docs/FORMAT.md says it."""
     return stored_documents(map(Document.parse, texts))
 
 

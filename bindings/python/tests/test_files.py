@@ -14,7 +14,7 @@ TEXTS = ['{"id":3,"town":"Oslo"}', "[2]", "1.50"]
 
 
 def stored(*texts):
-    """A file of documents, as docs/COLUMN.md says it."""
+    """A file of documents, as docs/FORMAT.md says it."""
     documents = [bytes(Document.parse(text)) for text in texts]
     return b"".join(len(it).to_bytes(8, "big") + it for it in documents)
 

@@ -107,10 +107,10 @@ pub const EDIT_LEVEL_STACK: usize = 2048;
 /// The same of [`RawJsonb::merge_patch`].
 pub const PATCH_LEVEL_STACK: usize = 2432;
 
-/// The version of the library: millions, thousands and ones. 8000 is 0.8.0.
+/// The version of the library: millions, thousands and ones. 9000 is 0.9.0.
 ///
 /// ```
-/// assert!(kohiblad::version() >= 8000);
+/// assert!(kohiblad::version() >= 9000);
 /// ```
 pub fn version() -> u32 {
     ffi::version()

@@ -7,7 +7,7 @@
 
 Numbers are exact: whole ones and decimals of 128 bits. There is no floating point.
 """
-__version__ = "0.8.0"  # before the imports, since a module that is imported reads it
+__version__ = "0.9.0"  # before the imports, since a module that is imported reads it
 
 from ._changes import DocumentPath
 from ._document import (ArrayDocument, Document, ObjectDocument, ScalarDocument, Value, dumps,
@@ -18,6 +18,7 @@ from ._errors import (ExtensionError, FloatError, InvalidDocumentError, InvalidT
 from ._files import read, read_lines, write
 from ._library import IS_NATIVE
 from ._scalars import Date, Interval, Opaque, Scalar, Timestamp, TimestampTz
+from ._slices import read_path
 from ._stack import DEPTH
 
 __all__ = ["ArrayDocument", "DEPTH", "Date", "Document", "DocumentPath", "ExtensionError",
@@ -25,4 +26,4 @@ __all__ = ["ArrayDocument", "DEPTH", "Date", "Document", "DocumentPath", "Extens
            "KohibladError", "KohibladWarning", "NumberError", "ObjectDocument", "Opaque",
            "OutOfMemoryError", "PathError", "Scalar", "ScalarDocument", "Timestamp", "TimestampTz",
            "TooDeepError", "TooManyStepsError", "UnfitError", "Value", "dumps", "loads", "read",
-           "read_lines", "write"]
+           "read_lines", "read_path", "write"]

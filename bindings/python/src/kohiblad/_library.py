@@ -22,8 +22,8 @@ from ._errors import (ExtensionError, InvalidDocumentError, InvalidTextError, Ko
 
 from ._stack import DEPTH
 
-FILE_NAME = "libkohiblad.so.0.8"
-OLDEST_VERSION = 8000
+FILE_NAME = "libkohiblad.so.0.9"
+OLDEST_VERSION = 9000
 
 OK = 0
 INVALID_EOF = 1
@@ -258,6 +258,8 @@ check = _export("check", c_bool, *_BYTES, c_size_t)
 kind = _export("kind", Kind, *_BYTES)
 find = _export("find_key", Place, *_BYTES, *_BYTES)
 part = _export("find_index", Place, *_BYTES, c_size_t)
+find_in_prefix = _export("find_key_in_prefix", Place, *_BYTES, c_size_t, *_BYTES)
+item_in_prefix = _export("find_index_in_prefix", Place, *_BYTES, c_size_t, c_size_t)
 of_part = _export("copy", c_uint32, c_uint32, *_BYTES, *_OUT)
 number = _export("as_decimal", Number, *_BYTES)
 extension = _export("as_extension", ExtensionValue, *_BYTES)

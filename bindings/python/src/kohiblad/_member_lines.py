@@ -14,7 +14,7 @@ from ._scalars import Date, Interval, Timestamp, TimestampTz
 from ._typed import type_of
 from .arrow import Column, Survey, Typed
 
-# The names of the counts in docs/COLUMN.md.
+# The names of the counts, as `kohiblad survey` writes them.
 _COUNTS = (("rows", "rows"), ("not a document", "not_documents"), ("absent", "absent"),
            ("null", "nulls"), ("boolean", "booleans"), ("int64", "int64s"), ("uint64", "uint64s"),
            ("decimal64", "decimal64s"), ("decimal128", "decimal128s"), ("date", "dates"),

@@ -14,8 +14,8 @@
 #include <stddef.h>
 #include <stdint.h>
 
-#if KOHIBLAD_VERSION < 8000
-#error "the module needs kohiblad.h of version 8000 or newer"
+#if KOHIBLAD_VERSION < 9000
+#error "the module needs kohiblad.h of version 9000 or newer"
 #endif
 
 #if PY_VERSION_HEX < 0x030A0000
