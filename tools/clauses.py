@@ -11,7 +11,7 @@ import re
 
 from rattle import TOP, files_of, functions_of, text_of
 
-PAGES = ("PROOFS", "COLUMN", "COMPARABLE", "TYPED")
+PAGES = ("PROOFS", "COMPARABLE", "TYPED")
 CALLS, CLAUSES = r"(`[\w:]+`(?:, `[\w:]+`)*)", r"(`\w+`(?:, `\w+`)*)"
 ITEM = re.compile(rf"{CALLS}(?: of `\w+`)?: {CLAUSES}")
 ROW = re.compile(r"^\| .* \| ([^|]*) \|$", re.M)

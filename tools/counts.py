@@ -50,8 +50,6 @@ def spread(*names, digits=2):
 
 
 LINE_DEPTH = constant(f"{TOP}/crates/jsonb_cli/src/command.rt", "MAX_WORD_DEPTH")
-ROW_DEPTH = constant(f"{TOP}/crates/jsonb_column_cli/src/answer.rt", "MAX_ROW_DEPTH")
-TEXT_DEPTH = constant(f"{TOP}/crates/jsonb_column_cli/src/answer.rt", "MAX_TEXT_DEPTH")
 WITHOUT_MEMORY = sum("Global" not in it.signature for _, it in exports_for_c())
 # The statuses for C that are neither 0 nor the number of an error of the library.
 OTHER_STATUSES = len(re.findall(r"^abbrev pub \w+ : ℕ$",
@@ -66,7 +64,6 @@ PAGES = {
         (r"tries ([\d,]+) wrong bodies", files("crates/*/must-fail/*.edit")),
         (r"tries ([\d,]+) further wrong bodies", files("crates/*/wrong/*.edit")),
         (r"of\smore than ([\d,]+) levels", LINE_DEPTH),
-        (r"a row of more than ([\d,]*\d)", ROW_DEPTH),
         (rf"a binary tree, at {NUMBER} times the crate's encoder", share("halves 17 canon", 1)),
     ],
     "docs/PROOFS.md": [
@@ -77,8 +74,7 @@ PAGES = {
         (r"([\d,]+) lines of `jsonb_cli`", lines("tests/lines/jsonb_cli/*.in")),
         (r"([\d,]+) of `jsonb_probe`", lines("tests/lines/jsonb_probe/*.in")),
         (r"nests deeper than ([\d,]+) is accepted", LINE_DEPTH),
-        (r"at their limits of ([\d,]+) and", LINE_DEPTH),
-        (r"and ([\d,]+) levels, refuse", ROW_DEPTH),
+        (r"at its limit of ([\d,]+) levels", LINE_DEPTH),
     ],
     "docs/ARCHITECTURE.md": [
         (r"at ([\d,]+) calls of `str::from_utf8_unchecked`", len(lines_with_unsafe())),
@@ -90,14 +86,8 @@ PAGES = {
     "docs/GLOSSARY.md": [
         (r"or one of ([\d,]+) more", OTHER_STATUSES),
     ],
-    "docs/COLUMN.md": [
-        (r"text that nests deeper than ([\d,]+) is refused", TEXT_DEPTH),
-        (r"row that nests deeper than ([\d,]+) as", ROW_DEPTH),
-    ],
     "docs/DECISIONS.md": [
-        (r"A text of a line nests at most ([\d,]+) deep", TEXT_DEPTH),
-        (r"than ([\d,]+) levels on a line of `jsonb_cli`", LINE_DEPTH),
-        (r"a row of more than ([\d,]+) in `jsonb_column_cli`", ROW_DEPTH),
+        (r"than ([\d,]+) levels on a line of its input", LINE_DEPTH),
         (r"the ([\d,]+) exports that take none", WITHOUT_MEMORY),
     ],
     "docs/COMPARABLE.md": [
@@ -108,7 +98,6 @@ PAGES = {
     ],
     "bench/README.md": [
         (r"limit of `jsonb_cli`, ([\d,]+) levels", LINE_DEPTH),
-        (r"that of a row, ([\d,]+), less", ROW_DEPTH),
         (rf"keys that begin alike take {NUMBER} to {NUMBER}", spread(ALIKE)),
         (rf"Keys that differ early take {NUMBER} to {NUMBER}",
          spread(r"(?:middle|last) of \d+ scattered")),

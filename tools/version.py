@@ -14,9 +14,9 @@ SONAME = "libkohiblad.so.<minor>"
 # The places by their files. A place may be there more than once.
 PLACES = {
     "README.md": ["This is version <version> of"],
-    "crates/jsonb_column_cli/src/arguments.rt": ['"jsonb_column_cli <version>\\n"'],
+    "bench/typed/columns.py": [SONAME],
     "crates/jsonb_probe/src/arguments.rt": ['"jsonb_probe <version>\\n"'],
-    "crates/kohiblad_shell/src/arguments.rt": ['.version("<version>")'],
+    "crates/kohiblad_shell/src/command_line.rt": ['.version("<version>")'],
     "tests/shell/wrong_input.md": ["kohiblad <version>"],
     "crates/kohiblad/src/answer.rt": ["const VERSION: u32 = <number>;",
                                       "ensures { result ≡ <number> }"],
@@ -40,8 +40,11 @@ PLACES = {
     "bindings/rust/build.rs": ["kohiblad >= <minor>"],
     "bindings/rust/src/lib.rs": ["<number> is <version>.", "kohiblad::version() >= <first>"],
     "bindings/sqlite/FUNCTIONS.md": ["the version of the library, as `<version>`"],
-    "docs/RELEASE.md": ["libkohiblad<minor>_*.deb", "need `libkohiblad<minor>`"],
+    "docs/RELEASE.md": ["libkohiblad<minor>_*.deb", "need `libkohiblad<minor>`",
+                        "minor version, as <minor>:"],
+    "docs/STABILITY.md": ["within a minor version, as <minor> "],
     "docs/C.md": [SONAME, "`KOHIBLAD_<minor>`"],
+    "tools/install": [SONAME],
 }
 
 
