@@ -31,7 +31,6 @@ pub mod ScalarReads
 pub mod ScalarValues
 pub mod StoredRooms
 pub mod Walks
-pub mod WithinLaws
 pub mod Yielded
 pub mod NamedPathLaws
 pub mod TakingLaws

@@ -16,7 +16,7 @@ use Rattle.jsonb_codec.proofs.Decision.{decide}
 use Rattle.jsonb_codec.proofs.Unique.{Doc-unique}
 use Rattle.jsonb_codec.proofs.WellFormed.{IsTree-Doc}
 use Rattle.jsonb.specs.Within.{meaning_within}
-use Rattle.jsonb.proofs.WithinLaws.{bytes_within}
+use Rattle.jsonb.proofs.WithinLaws.{bytes_within, document_within}
 use Rattle.jsonb_functions.specs.Edited.{Operation, put, create, insert, remove, edited_whole}
 use Rattle.jsonb_functions.specs.Joined.{joined}
 use Rattle.jsonb_functions.specs.StoredPath.{StepView, path_in, step_view}
@@ -28,7 +28,6 @@ use Rattle.kohiblad.proofs.EditRooms.{whole_room}
 use Rattle.kohiblad.proofs.JoinedRooms.{given_path_room, joined_room}
 use Rattle.kohiblad.proofs.Rooms.{operation_room, path_room, room}
 use Rattle.kohiblad.proofs.StoredRooms.{canon_room, document_room}
-use Rattle.kohiblad.proofs.WithinLaws.{document_within}
 
 -- bytes that mean a tree are a document of it
 meant_shallow : (d : ℕ) (b : List ℕ) (t u : Tree) → Doc b u → meaning_within d b ≡ document t

@@ -5,12 +5,9 @@ ghost use Rattle.kohiblad.specs.Words.{meaning_cmp, Tree, IsDocumentWithin, Doc,
 ghost use Rattle.kohiblad.specs.Words.{kind_of_tree, meaning_within, sign, kind_answer};
 
 use crate::answer::{OK, code};
-use jsonb::layer::document_text;
-use jsonb::{JsonbItemType, RawJsonb, SortKey, is_document_within};
+use jsonb::layer::cmp_within;
+use jsonb::{JsonbItemType, RawJsonb, is_document_within};
 use std::cmp::Ordering;
-
-// Bytes of at most this length are compared by their meaning at once: checking takes few steps.
-const QUICK_TO_CHECK: usize = 128;
 
 /// Whether the bytes are a document of at most this depth.
 #[unsafe(no_mangle)]
@@ -29,25 +26,6 @@ pub extern "C" fn kohiblad_compare(left: &[u8], right: &[u8], depth: usize) -> i
         (meaning_within depth right.now)) }
 {
     sign(cmp_within(left, right, depth))
-}
-
-// Compares byte strings by their meaning, where a document that nests deeper than `depth` levels
-// means its bytes.
-fn cmp_within(left: &[u8], right: &[u8], depth: usize) -> Ordering
-    ensures { result ≡ meaning_cmp (meaning_within depth left.now)
-        (meaning_within depth right.now) }
-{
-    // Strings are compared most often, and two words suffice to recognize them.
-    if let (Some(left), Some(right)) = (document_text(left), document_text(right)) {
-        return left.cmp(right);
-    }
-    // Equal bytes mean the same, whatever they are, and a check of both sides costs more than this.
-    if left.len() > QUICK_TO_CHECK && left == right {
-        return Ordering::Equal;
-    }
-    let left = SortKey::within(left, depth);
-    let right = SortKey::within(right, depth);
-    left.cmp(&right)
 }
 
 // An order as C has it.

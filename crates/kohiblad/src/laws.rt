@@ -24,7 +24,7 @@ pub fn any_depth_laws()
 
 /// A document that does not nest deeper than the depth means its tree (`meaning`). Its text is the
 /// compact text of the tree (`text`), and its pretty text is that of the tree (`pretty`).
-#[tactic(auto, using(crate::proofs::WithinLaws::document_within))]
+#[tactic(auto, using(jsonb::proofs::WithinLaws::document_within))]
 pub fn within_laws()
     ensures meaning { (b : List ℕ) (t : Tree) (d : ℕ) → Doc b t → depth t ≤ d
         → meaning_within d b ≡ document t }

@@ -1,6 +1,6 @@
 use Rattle.std.proofs.Common.{ap}
 use Rattle.jsonb.specs.Texts.{lined_text, plain_text}
-use Rattle.kohiblad.proofs.WithinLaws.{any_document, any_meaning}
+use Rattle.jsonb.proofs.WithinLaws.{any_document, any_meaning}
 use Rattle.kohiblad.proofs.laws.any_depth_laws.Goals as goal
 
 pub returns-clause-document : goal.returns-clause-document
