@@ -5,3 +5,4 @@ pub mod RowLaws
 pub mod WrittenLaws
 pub mod OneRowLaws
 pub mod PlaceLaws
+pub mod ToldLaws

@@ -1,12 +1,16 @@
 -- Which bytes are a file of typed columns.
-use Rattle.std.specs.Prelude.{◌≡◌, ◌<◌, ◌≤◌, ◌-◌, ◌/◌, ◌%◌, ⊤, ℕ, nat_lt, List, [], ◌∷◌}
-use Rattle.std.specs.Prelude.{IfSome, Option, None, Some, bytes_eq, if◌then◌else◌, length}
+use Rattle.std.specs.Prelude.{◌≡◌, ◌<◌, ◌≤◌, ◌-◌, ◌/◌, ◌%◌, ◌↔◌, ◌⊎◌, ◌++◌, ⊤, ℕ, nat_lt, List}
+use Rattle.std.specs.Prelude.{[], ◌∷◌, IfSome, IsSomeAnd, Option, None, Some, bytes_eq}
+use Rattle.std.specs.Prelude.{if◌then◌else◌, length}
 use Rattle.std.specs.Cmp.Lexicographic.{slice_cmp}
 use Rattle.std.specs.Ordering.{nat_cmp}
 use Rattle.std.specs.declared.cmp.Ordering.TheVariants.{Less}
 use Rattle.jsonb_codec.specs.Depth.{IsDocumentWithin}
 use Rattle.jsonb_codec.specs.Doc.{IsDocument}
-use Rattle.jsonb_typed_file.specs.Layout.{Contents, IsLayout, Parts}
+use Rattle.jsonb_typed_file.specs.declared.error.FileError.{FileError}
+use Rattle.jsonb_typed_file.specs.declared.error.FileError.TheVariants as errors
+use Rattle.jsonb_typed_file.specs.Layout.{Contents, HasNoMagic, HasOtherVersion, HasTrailingData}
+use Rattle.jsonb_typed_file.specs.Layout.{IsCutOff, IsLayout, Parts}
 use Rattle.jsonb_typed_file.specs.Values.{AreTexts, HasRows, IsWithin, string_at}
 
 -- The number of rows, one fewer than there are offsets of eight bytes.
@@ -28,6 +32,22 @@ pub record LengthsFit (f : Contents) : Type 0 where
   pub some : 8 ≤ length f.offsets
   pub whole : length f.offsets % 8 ≡ 0
   pub columns : HaveRows (row_count f) f.columns
+
+-- The error that is told of the bytes, if one is, says the truth of how they are laid out.
+pub record IsLayoutTold (bytes : List ℕ) (error : Option FileError) : Type 0 where
+  pub magic : error ≡ Some errors.BadMagic ↔ HasNoMagic bytes
+  pub version : error ≡ Some errors.UnknownVersion ↔ HasOtherVersion bytes
+  pub cut : error ≡ Some errors.Cut → (f : Contents) (front more : List ℕ) → IsLayout f front
+      → bytes ≡ front ++ more → ⊥
+  pub cut_refused : IsCutOff bytes → IsSomeAnd error (λ e. (e ≡ errors.BadMagic)
+      ⊎ ((e ≡ errors.Cut) ⊎ (e ≡ errors.OutOfMemory)))
+  pub trailing : error ≡ Some errors.TrailingData → HasTrailingData bytes
+  pub trailing_refused : HasTrailingData bytes
+      → IsSomeAnd error (λ e. (e ≡ errors.TrailingData) ⊎ (e ≡ errors.OutOfMemory))
+  pub lengths : error ≡ Some errors.WrongLength → (f : Contents) → IsLayout f bytes
+      → LengthsFit f → ⊥
+  pub lengths_refused : (f : Contents) → IsLayout f bytes → (LengthsFit f → ⊥)
+      → IsSomeAnd error (λ e. (e ≡ errors.WrongLength) ⊎ (e ≡ errors.OutOfMemory))
 
 -- The names ascend strictly by their bytes.
 abbrev pub AscendNames : Option (List ℕ) → List Parts → Type 0

@@ -17,7 +17,8 @@ pub use Rattle.jsonb_typed_file.specs.Values.{number_at, number_size, string_at,
 pub use Rattle.jsonb_typed_file.specs.Values.{value_size, value_tree, zoned_timestamp_in}
 pub use Rattle.jsonb_typed_file.specs.ValueViews.{members_view, value_code, value_view}
 pub use Rattle.jsonb_typed_file.specs.File.{AscendNames, IsFile, IsInForm, IsRest, LengthsFit}
-pub use Rattle.jsonb_typed_file.specs.File.{HaveRows, HaveTexts, IsFileWithin, NestWithin}
+pub use Rattle.jsonb_typed_file.specs.File.{HaveRows, HaveTexts, IsFileWithin, IsLayoutTold}
+pub use Rattle.jsonb_typed_file.specs.File.{NestWithin}
 pub use Rattle.jsonb_typed_file.specs.File.{column_named, rest_at, row_count}
 pub use Rattle.jsonb_typed_file.specs.Rows.{IsMade, column_members, row_tree}
 pub use Rattle.jsonb_typed_file.specs.Rows.{with_members}

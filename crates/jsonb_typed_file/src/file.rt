@@ -1,11 +1,11 @@
 //! A file of typed columns, which borrows its bytes.
 
-ghost use Rattle.std.specs.Prelude.{◌≡◌, ◌≢◌, ◌++◌, ◌⊎◌, ◌↔◌, ℕ, List, Err, IfErr, IfOk, IsErrAnd};
+ghost use Rattle.std.specs.Prelude.{◌≡◌, ◌≢◌, ◌⊎◌, Err, IfErr, IfOk};
 ghost use Rattle.std.specs.Prelude.{◌<◌, ◌≤◌, IfSome, MatchOption, None, Some, length, map};
 ghost use Rattle.std.specs.Prelude.{option_map};
-ghost use Rattle.jsonb_typed_file.specs.Words.{Contents, HasNoMagic, HasOtherVersion};
-ghost use Rattle.jsonb_typed_file.specs.Words.{HasTrailingData, IsFile, IsFileWithin, IsInForm};
-ghost use Rattle.jsonb_typed_file.specs.Words.{IsCutOff, IsLayout, layout_view};
+ghost use Rattle.std.specs.Result.{result_err};
+ghost use Rattle.jsonb_typed_file.specs.Words.{Contents, IsFile, IsFileWithin, IsInForm};
+ghost use Rattle.jsonb_typed_file.specs.Words.{IsLayout, IsLayoutTold, layout_view};
 ghost use Rattle.jsonb_typed_file.specs.Words.{LengthsFit, buffers_view, column_named};
 ghost use Rattle.jsonb_typed_file.specs.Words.{IsMade, document_bytes, rest_at, row_count};
 ghost use Rattle.jsonb_typed_file.specs.Words.{HaveRows, HaveTexts, NestWithin, row_tree};
@@ -67,21 +67,7 @@ impl<'a> TypedFile<'a> {
             → IfOk result (λ file. file ≡ f) }
         ensures memory { (f : Contents) → IsFile f bytes.entry.now
             → IfErr result (λ e. e ≡ FileError.OutOfMemory) }
-        ensures magic { result ≡ Err FileError.BadMagic ↔ HasNoMagic bytes.entry.now }
-        ensures version { result ≡ Err FileError.UnknownVersion ↔ HasOtherVersion bytes.entry.now }
-        ensures cut { result ≡ Err FileError.Cut → (f : Contents) (front more : List ℕ)
-            → IsLayout f front → bytes.entry.now ≡ front ++ more → ⊥ }
-        ensures cut_refused { IsCutOff bytes.entry.now → IsErrAnd result
-            (λ e. (e ≡ FileError.BadMagic)
-            ⊎ ((e ≡ FileError.Cut) ⊎ (e ≡ FileError.OutOfMemory))) }
-        ensures trailing { result ≡ Err FileError.TrailingData → HasTrailingData bytes.entry.now }
-        ensures trailing_refused { HasTrailingData bytes.entry.now → IsErrAnd result
-            (λ e. (e ≡ FileError.TrailingData) ⊎ (e ≡ FileError.OutOfMemory)) }
-        ensures length { result ≡ Err FileError.WrongLength → (f : Contents)
-            → IsLayout f bytes.entry.now → LengthsFit f → ⊥ }
-        ensures length_refused { (f : Contents) → IsLayout f bytes.entry.now
-            → (LengthsFit f → ⊥) → IsErrAnd result
-            (λ e. (e ≡ FileError.WrongLength) ⊎ (e ≡ FileError.OutOfMemory)) }
+        ensures layout { IsLayoutTold bytes.entry.now (result_err result) }
         ensures form { result ≡ Err FileError.OutOfForm → (f : Contents)
             → IsFile f bytes.entry.now → ⊥ }
         ensures deep { IfErr result (λ e. e ≢ FileError.TooDeep) }
@@ -99,21 +85,7 @@ impl<'a> TypedFile<'a> {
             → IfOk result (λ file. file ≡ f) }
         ensures memory { (f : Contents) → IsFileWithin (Some depth) f bytes.entry.now
             → IfErr result (λ e. e ≡ FileError.OutOfMemory) }
-        ensures magic { result ≡ Err FileError.BadMagic ↔ HasNoMagic bytes.entry.now }
-        ensures version { result ≡ Err FileError.UnknownVersion ↔ HasOtherVersion bytes.entry.now }
-        ensures cut { result ≡ Err FileError.Cut → (f : Contents) (front more : List ℕ)
-            → IsLayout f front → bytes.entry.now ≡ front ++ more → ⊥ }
-        ensures cut_refused { IsCutOff bytes.entry.now → IsErrAnd result
-            (λ e. (e ≡ FileError.BadMagic)
-            ⊎ ((e ≡ FileError.Cut) ⊎ (e ≡ FileError.OutOfMemory))) }
-        ensures trailing { result ≡ Err FileError.TrailingData → HasTrailingData bytes.entry.now }
-        ensures trailing_refused { HasTrailingData bytes.entry.now → IsErrAnd result
-            (λ e. (e ≡ FileError.TrailingData) ⊎ (e ≡ FileError.OutOfMemory)) }
-        ensures length { result ≡ Err FileError.WrongLength → (f : Contents)
-            → IsLayout f bytes.entry.now → LengthsFit f → ⊥ }
-        ensures length_refused { (f : Contents) → IsLayout f bytes.entry.now
-            → (LengthsFit f → ⊥) → IsErrAnd result
-            (λ e. (e ≡ FileError.WrongLength) ⊎ (e ≡ FileError.OutOfMemory)) }
+        ensures layout { IsLayoutTold bytes.entry.now (result_err result) }
         ensures form { result ≡ Err FileError.OutOfForm → (f : Contents)
             → IsFile f bytes.entry.now → ⊥ }
         ensures deep { result ≡ Err FileError.TooDeep → (f : Contents)
@@ -131,21 +103,7 @@ impl<'a> TypedFile<'a> {
             → IfOk result (λ file. file ≡ f) }
         ensures memory { (f : Contents) → IsFileWithin depth f bytes.entry.now
             → IfErr result (λ e. e ≡ FileError.OutOfMemory) }
-        ensures magic { result ≡ Err FileError.BadMagic ↔ HasNoMagic bytes.entry.now }
-        ensures version { result ≡ Err FileError.UnknownVersion ↔ HasOtherVersion bytes.entry.now }
-        ensures cut { result ≡ Err FileError.Cut → (f : Contents) (front more : List ℕ)
-            → IsLayout f front → bytes.entry.now ≡ front ++ more → ⊥ }
-        ensures cut_refused { IsCutOff bytes.entry.now → IsErrAnd result
-            (λ e. (e ≡ FileError.BadMagic)
-            ⊎ ((e ≡ FileError.Cut) ⊎ (e ≡ FileError.OutOfMemory))) }
-        ensures trailing { result ≡ Err FileError.TrailingData → HasTrailingData bytes.entry.now }
-        ensures trailing_refused { HasTrailingData bytes.entry.now → IsErrAnd result
-            (λ e. (e ≡ FileError.TrailingData) ⊎ (e ≡ FileError.OutOfMemory)) }
-        ensures length { result ≡ Err FileError.WrongLength → (f : Contents)
-            → IsLayout f bytes.entry.now → LengthsFit f → ⊥ }
-        ensures length_refused { (f : Contents) → IsLayout f bytes.entry.now
-            → (LengthsFit f → ⊥) → IsErrAnd result
-            (λ e. (e ≡ FileError.WrongLength) ⊎ (e ≡ FileError.OutOfMemory)) }
+        ensures layout { IsLayoutTold bytes.entry.now (result_err result) }
         ensures form { result ≡ Err FileError.OutOfForm → (f : Contents)
             → IsFile f bytes.entry.now → ⊥ }
         ensures deep { result ≡ Err FileError.TooDeep → (f : Contents)
@@ -195,21 +153,7 @@ impl<'a> TypedFile<'a> {
             → LengthsFit f → IsRowInForm f index) }
         ensures deep { result ≡ Err FileError.TooDeep → (f : Contents)
             → IsLayout f bytes.entry.now → LengthsFit f → IsRowWithin depth f index → ⊥ }
-        ensures magic { result ≡ Err FileError.BadMagic ↔ HasNoMagic bytes.entry.now }
-        ensures version { result ≡ Err FileError.UnknownVersion ↔ HasOtherVersion bytes.entry.now }
-        ensures cut { result ≡ Err FileError.Cut → (f : Contents) (front more : List ℕ)
-            → IsLayout f front → bytes.entry.now ≡ front ++ more → ⊥ }
-        ensures cut_refused { IsCutOff bytes.entry.now → IsErrAnd result
-            (λ e. (e ≡ FileError.BadMagic)
-            ⊎ ((e ≡ FileError.Cut) ⊎ (e ≡ FileError.OutOfMemory))) }
-        ensures trailing { result ≡ Err FileError.TrailingData → HasTrailingData bytes.entry.now }
-        ensures trailing_refused { HasTrailingData bytes.entry.now → IsErrAnd result
-            (λ e. (e ≡ FileError.TrailingData) ⊎ (e ≡ FileError.OutOfMemory)) }
-        ensures length { result ≡ Err FileError.WrongLength → (f : Contents)
-            → IsLayout f bytes.entry.now → LengthsFit f → ⊥ }
-        ensures length_refused { (f : Contents) → IsLayout f bytes.entry.now
-            → (LengthsFit f → ⊥) → IsErrAnd result
-            (λ e. (e ≡ FileError.WrongLength) ⊎ (e ≡ FileError.OutOfMemory)) }
+        ensures layout { IsLayoutTold bytes.entry.now (result_err result) }
     {
         let layout = read_sized(alloc, bytes)?;
         if layout.rows() <= index {
@@ -306,19 +250,7 @@ pub(crate) fn read_sized(alloc: Global, bytes: &[u8]) -> Result<Layout<'_>, File
         → IfOk result (λ l. layout_view l ≡ f) }
     ensures memory { (f : Contents) → IsLayout f bytes.now → LengthsFit f
         → IfErr result (λ e. e ≡ FileError.OutOfMemory) }
-    ensures magic { result ≡ Err FileError.BadMagic ↔ HasNoMagic bytes.now }
-    ensures version { result ≡ Err FileError.UnknownVersion ↔ HasOtherVersion bytes.now }
-    ensures cut { result ≡ Err FileError.Cut → (f : Contents) (front more : List ℕ)
-        → IsLayout f front → bytes.now ≡ front ++ more → ⊥ }
-    ensures cut_refused { IsCutOff bytes.now → IsErrAnd result (λ e. (e ≡ FileError.BadMagic)
-        ⊎ ((e ≡ FileError.Cut) ⊎ (e ≡ FileError.OutOfMemory))) }
-    ensures trailing { result ≡ Err FileError.TrailingData → HasTrailingData bytes.now }
-    ensures trailing_refused { HasTrailingData bytes.now → IsErrAnd result
-        (λ e. (e ≡ FileError.TrailingData) ⊎ (e ≡ FileError.OutOfMemory)) }
-    ensures length { result ≡ Err FileError.WrongLength → (f : Contents)
-        → IsLayout f bytes.now → LengthsFit f → ⊥ }
-    ensures length_refused { (f : Contents) → IsLayout f bytes.now → (LengthsFit f → ⊥)
-        → IsErrAnd result (λ e. (e ≡ FileError.WrongLength) ⊎ (e ≡ FileError.OutOfMemory)) }
+    ensures layout { IsLayoutTold bytes.now (result_err result) }
     ensures deep { IfErr result (λ e. e ≢ FileError.TooDeep) }
 {
     let layout = read_layout(alloc, bytes)?;

@@ -1,11 +1,11 @@
 //! Where the columns of a file lie in its bytes.
 
-ghost use Rattle.std.specs.Prelude.{◌≡◌, ◌≢◌, ◌<◌, ◌⊎◌, ◌+◌, ◌++◌, ◌^◌, ◌↔◌, ℕ, List, Err};
-ghost use Rattle.std.specs.Prelude.{IfErr, IfOk, IsErrAnd, length, map};
+ghost use Rattle.std.specs.Prelude.{◌≡◌, ◌≢◌, ◌<◌, ◌+◌, ◌++◌, ◌^◌, ℕ, List, IfErr, IfOk};
+ghost use Rattle.std.specs.Prelude.{length, map};
 ghost use Rattle.std.specs.List.{AllZip};
+ghost use Rattle.std.specs.Result.{result_err};
 ghost use Rattle.jsonb_typed_file.specs.Places.{IsColumnAt};
-ghost use Rattle.jsonb_typed_file.specs.Words.{Contents, HasNoMagic, HasOtherVersion};
-ghost use Rattle.jsonb_typed_file.specs.Words.{HasTrailingData, IsCutOff, IsLayout, LengthsFit};
+ghost use Rattle.jsonb_typed_file.specs.Words.{Contents, IsLayout, IsLayoutTold, LengthsFit};
 ghost use Rattle.jsonb_typed_file.specs.Words.{buffers_view, column_bytes, columns_bytes};
 ghost use Rattle.jsonb_typed_file.specs.Words.{row_count};
 
@@ -51,19 +51,7 @@ pub fn column_places(alloc: Global, bytes: &[u8]) -> Result<Vec<ColumnPlaces>, F
         places.items))) }
     ensures memory { (f : Contents) → IsLayout f bytes.now → LengthsFit f
         → IfErr result (λ e. e ≡ FileError.OutOfMemory) }
-    ensures magic { result ≡ Err FileError.BadMagic ↔ HasNoMagic bytes.now }
-    ensures version { result ≡ Err FileError.UnknownVersion ↔ HasOtherVersion bytes.now }
-    ensures cut { result ≡ Err FileError.Cut → (f : Contents) (front more : List ℕ)
-        → IsLayout f front → bytes.now ≡ front ++ more → ⊥ }
-    ensures cut_refused { IsCutOff bytes.now → IsErrAnd result (λ e. (e ≡ FileError.BadMagic)
-        ⊎ ((e ≡ FileError.Cut) ⊎ (e ≡ FileError.OutOfMemory))) }
-    ensures trailing { result ≡ Err FileError.TrailingData → HasTrailingData bytes.now }
-    ensures trailing_refused { HasTrailingData bytes.now → IsErrAnd result
-        (λ e. (e ≡ FileError.TrailingData) ⊎ (e ≡ FileError.OutOfMemory)) }
-    ensures length { result ≡ Err FileError.WrongLength → (f : Contents)
-        → IsLayout f bytes.now → LengthsFit f → ⊥ }
-    ensures length_refused { (f : Contents) → IsLayout f bytes.now → (LengthsFit f → ⊥)
-        → IsErrAnd result (λ e. (e ≡ FileError.WrongLength) ⊎ (e ≡ FileError.OutOfMemory)) }
+    ensures layout { IsLayoutTold bytes.now (result_err result) }
     ensures deep { IfErr result (λ e. e ≢ FileError.TooDeep) }
 {
     let layout = read_sized(alloc, bytes)?;

@@ -1,8 +1,7 @@
 -- What C receives of files of typed columns.
-use Rattle.std.proofs.Common.{◌≡◌, ◌≢◌, ◌⊎◌, inl, inr, ℕ, ◌<◌, ◌≤◌, List, [], ◌∷◌, ◌++◌, map}
-use Rattle.std.proofs.Common.{get_or, refl, sym, ap, subst}
+use Rattle.std.proofs.Common.{◌≡◌, ◌⊎◌, inl, inr, ℕ, ◌<◌, ◌≤◌, List, [], ◌∷◌, map}
+use Rattle.std.proofs.Common.{get_or, sym, ap, subst}
 use Rattle.std.proofs.Common.{arith, Result, Ok, Err}
-use Rattle.std.specs.Prelude.{◌↔◌}
 use Rattle.std.specs.List.{AllZip}
 use Rattle.jsonb_value.specs.declared.error.Error.{Error}
 use Rattle.jsonb_value.specs.declared.error.Error.TheVariants.{InvalidJsonb, OutOfMemory}
@@ -13,16 +12,14 @@ use Rattle.jsonb.specs.Owned.{result_bytes}
 use Rattle.jsonb_typed_file.specs.declared.error.FileError.{FileError}
 use Rattle.jsonb_typed_file.specs.declared.error.FileError.TheVariants as errors
 use Rattle.jsonb_typed_file.specs.declared.places.ColumnPlaces.{ColumnPlaces}
-use Rattle.jsonb_typed_file.specs.File.{LengthsFit, row_count}
-use Rattle.jsonb_typed_file.specs.Layout.{Contents, HasNoMagic, HasOtherVersion, HasTrailingData}
-use Rattle.jsonb_typed_file.specs.Layout.{IsCutOff, IsLayout, Parts}
+use Rattle.jsonb_typed_file.specs.File.{row_count}
+use Rattle.jsonb_typed_file.specs.Layout.{Contents, Parts}
 use Rattle.jsonb_typed.specs.Scalars.{type_bytes}
-use Rattle.jsonb_typed_file.specs.OneRow.{IsRowInForm, IsRowOf, IsRowWithin}
+use Rattle.jsonb_typed_file.specs.OneRow.{IsRowOf, IsRowWithin}
 use Rattle.jsonb_typed_file.specs.Places.{IsColumnAt}
 use Rattle.jsonb_typed_file.specs.Rows.{IsMade, row_tree}
 use Rattle.kohiblad.specs.Status.{IsAnswered, IsRefused, code, too_deep}
-use Rattle.kohiblad.specs.TypedFiles.{IsColumnPlaced, IsFileRow, IsLayoutRefused}
-use Rattle.kohiblad.specs.TypedFiles.{IsRowRefused, column_struct, file_code}
+use Rattle.kohiblad.specs.TypedFiles.{IsColumnPlaced, IsFileRow, column_struct, file_code}
 use Rattle.kohiblad.specs.WithMemory.{WritesWithMemory}
 
 -- The structs of columns lie where the columns do.
@@ -124,96 +121,3 @@ is_memory e = 0
 
 pub not_memory : (e : FileError) → errors.OutOfMemory ≡ e → is_memory e ≡ 0 → ⊥
 not_memory e is other = omega (arith, ap is_memory is, other)
-
--- Bytes are refused with the error with which their columns are.
-pub layout_refused : (bytes : List ℕ) (A : Type 0) (e : FileError)
-    → ((f : Contents) → IsLayout f bytes → LengthsFit f → e ≡ errors.OutOfMemory)
-    → (◌≡◌ {A = Result A FileError} (Err e) (Err errors.BadMagic) ↔ HasNoMagic bytes)
-    → (◌≡◌ {A = Result A FileError} (Err e) (Err errors.UnknownVersion)
-    ↔ HasOtherVersion bytes)
-    → (◌≡◌ {A = Result A FileError} (Err e) (Err errors.Cut) → (f : Contents)
-    (front more : List ℕ) → IsLayout f front → bytes ≡ front ++ more → ⊥)
-    → (IsCutOff bytes
-    → (e ≡ errors.BadMagic) ⊎ ((e ≡ errors.Cut) ⊎ (e ≡ errors.OutOfMemory)))
-    → (◌≡◌ {A = Result A FileError} (Err e) (Err errors.TrailingData) → HasTrailingData bytes)
-    → (HasTrailingData bytes → (e ≡ errors.TrailingData) ⊎ (e ≡ errors.OutOfMemory))
-    → (◌≡◌ {A = Result A FileError} (Err e) (Err errors.WrongLength) → (f : Contents)
-    → IsLayout f bytes → LengthsFit f → ⊥)
-    → ((f : Contents) → IsLayout f bytes → (LengthsFit f → ⊥)
-    → (e ≡ errors.WrongLength) ⊎ (e ≡ errors.OutOfMemory))
-    → e ≢ errors.TooDeep
-    → IsLayoutRefused bytes e
-layout_refused bytes A e memory magic version cut off trailing more lengths unfit shallow = record {
-  memory = memory;
-  magic = (λ is. magic.0 (ap Err is), λ none. cc (magic.1 none));
-  version = (λ is. version.0 (ap Err is), λ other. cc (version.1 other));
-  cut = λ is. cut (ap Err is);
-  cut_refused = off;
-  trailing = λ is. trailing (ap Err is);
-  trailing_refused = more;
-  lengths = λ is. lengths (ap Err is);
-  lengths_refused = unfit;
-  shallow = shallow;
-}
-
--- Bytes are refused with the error with which their row is.
-pub row_refused : (depth index : ℕ) (bytes : List ℕ) (A : Type 0) (e : FileError)
-    → (◌≡◌ {A = Result A FileError} (Err e) (Err errors.BadMagic) ↔ HasNoMagic bytes)
-    → (◌≡◌ {A = Result A FileError} (Err e) (Err errors.UnknownVersion)
-    ↔ HasOtherVersion bytes)
-    → (◌≡◌ {A = Result A FileError} (Err e) (Err errors.Cut) → (f : Contents)
-    (front more : List ℕ) → IsLayout f front → bytes ≡ front ++ more → ⊥)
-    → (IsCutOff bytes
-    → (e ≡ errors.BadMagic) ⊎ ((e ≡ errors.Cut) ⊎ (e ≡ errors.OutOfMemory)))
-    → (◌≡◌ {A = Result A FileError} (Err e) (Err errors.TrailingData) → HasTrailingData bytes)
-    → (HasTrailingData bytes → (e ≡ errors.TrailingData) ⊎ (e ≡ errors.OutOfMemory))
-    → (◌≡◌ {A = Result A FileError} (Err e) (Err errors.WrongLength) → (f : Contents)
-    → IsLayout f bytes → LengthsFit f → ⊥)
-    → ((f : Contents) → IsLayout f bytes → (LengthsFit f → ⊥)
-    → (e ≡ errors.WrongLength) ⊎ (e ≡ errors.OutOfMemory))
-    → ((f : Contents) → IsLayout f bytes → LengthsFit f → IsRowInForm f index
-    → (e ≡ errors.TooDeep) ⊎ (e ≡ errors.OutOfMemory))
-    → (◌≡◌ {A = Result A FileError} (Err e) (Err errors.TooDeep) → (f : Contents)
-    → IsLayout f bytes → LengthsFit f → IsRowWithin depth f index → ⊥)
-    → IsRowRefused depth index bytes e
-row_refused depth index bytes A e magic version cut off trailing more lengths unfit form deep =
-    record {
-      magic = (λ is. magic.0 (ap Err is), λ none. cc (magic.1 none));
-      version = (λ is. version.0 (ap Err is), λ other. cc (version.1 other));
-      cut = λ is. cut (ap Err is);
-      cut_refused = off;
-      trailing = λ is. trailing (ap Err is);
-      trailing_refused = more;
-      lengths = λ is. lengths (ap Err is);
-      lengths_refused = unfit;
-      form = form;
-      deep = λ is. deep (ap Err is);
-    }
-
--- For want of memory only bytes are refused that are laid out as a file.
-pub memory_refused : (bytes : List ℕ) (A : Type 0) (a : A)
-    → (◌≡◌ {A = Result A FileError} (Ok a) (Err errors.BadMagic) ↔ HasNoMagic bytes)
-    → (◌≡◌ {A = Result A FileError} (Ok a) (Err errors.UnknownVersion)
-    ↔ HasOtherVersion bytes)
-    → IsLayoutRefused bytes errors.OutOfMemory
-memory_refused bytes A a magic version = record {
-  memory = λ f layout fits. refl;
-  magic = (
-    λ is. absurd (not_memory errors.BadMagic is refl),
-    λ none. absurd (no_both (magic.1 none)),
-  );
-  version = (
-    λ is. absurd (not_memory errors.UnknownVersion is refl),
-    λ other. absurd (no_both (version.1 other)),
-  );
-  cut = λ is. absurd (not_memory errors.Cut is refl);
-  cut_refused = λ off. inr (inr refl);
-  trailing = λ is. absurd (not_memory errors.TrailingData is refl);
-  trailing_refused = λ more. inr refl;
-  lengths = λ is. absurd (not_memory errors.WrongLength is refl);
-  lengths_refused = λ f layout unfit. inr refl;
-  shallow = λ is. not_memory errors.TooDeep is refl;
-}
-  where
-    no_both : {e : FileError} → ◌≡◌ {A = Result A FileError} (Ok a) (Err e) → ⊥
-    no_both both = absurd cc

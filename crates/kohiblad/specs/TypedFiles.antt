@@ -1,14 +1,15 @@
 -- Files of typed columns, as C receives what is read of them.
-use Rattle.std.specs.Prelude.{◌≡◌, ◌≢◌, ◌<◌, ◌≤◌, ◌⊎◌, ◌↔◌, ◌++◌, ℕ, List, length, get_or}
-use Rattle.std.specs.Prelude.{Result, Ok, Err, IfErr, IfOk, IsErrAnd, Some}
+use Rattle.std.specs.Prelude.{◌≡◌, ◌≢◌, ◌<◌, ◌≤◌, ◌⊎◌, ℕ, List, length, get_or}
+use Rattle.std.specs.Prelude.{Result, Ok, Err, IfErr, IfOk, Some}
 use Rattle.std.specs.List.{AllZip}
+use Rattle.std.specs.Result.{result_err}
 use Rattle.jsonb_value.specs.declared.error.Error.TheVariants.{InvalidEOF, OutOfMemory}
 use Rattle.jsonb_typed_file.specs.declared.error.FileError.{FileError}
 use Rattle.jsonb_typed_file.specs.declared.error.FileError.TheVariants as errors
 use Rattle.jsonb_typed_file.specs.declared.places.ColumnPlaces.{ColumnPlaces}
-use Rattle.jsonb_typed_file.specs.File.{IsFile, IsFileWithin, LengthsFit, NestWithin, row_count}
-use Rattle.jsonb_typed_file.specs.Layout.{Contents, HasNoMagic, HasOtherVersion, HasTrailingData}
-use Rattle.jsonb_typed_file.specs.Layout.{IsCutOff, IsLayout, Parts}
+use Rattle.jsonb_typed_file.specs.File.{IsFile, IsFileWithin, IsLayoutTold, LengthsFit}
+use Rattle.jsonb_typed_file.specs.File.{NestWithin, row_count}
+use Rattle.jsonb_typed_file.specs.Layout.{Contents, IsLayout, Parts}
 use Rattle.jsonb_typed.specs.Scalars.{type_bytes}
 use Rattle.jsonb_typed_file.specs.OneRow.{IsRowInForm, IsRowWithin}
 use Rattle.jsonb_typed_file.specs.Places.{LiesAt}
@@ -43,19 +44,7 @@ pub record IsFileRead (depth : ℕ) (bytes : List ℕ) (read : Result Contents F
   pub file : IfOk read (λ f. IsFileWithin (Some depth) f bytes)
   pub memory : (f : Contents) → IsFileWithin (Some depth) f bytes
       → IfErr read (λ e. e ≡ errors.OutOfMemory)
-  pub magic : read ≡ Err errors.BadMagic ↔ HasNoMagic bytes
-  pub version : read ≡ Err errors.UnknownVersion ↔ HasOtherVersion bytes
-  pub cut : read ≡ Err errors.Cut → (f : Contents) (front more : List ℕ) → IsLayout f front
-      → bytes ≡ front ++ more → ⊥
-  pub cut_refused : IsCutOff bytes → IsErrAnd read (λ e. (e ≡ errors.BadMagic)
-      ⊎ ((e ≡ errors.Cut) ⊎ (e ≡ errors.OutOfMemory)))
-  pub trailing : read ≡ Err errors.TrailingData → HasTrailingData bytes
-  pub trailing_refused : HasTrailingData bytes
-      → IsErrAnd read (λ e. (e ≡ errors.TrailingData) ⊎ (e ≡ errors.OutOfMemory))
-  pub lengths : read ≡ Err errors.WrongLength → (f : Contents) → IsLayout f bytes
-      → LengthsFit f → ⊥
-  pub lengths_refused : (f : Contents) → IsLayout f bytes → (LengthsFit f → ⊥)
-      → IsErrAnd read (λ e. (e ≡ errors.WrongLength) ⊎ (e ≡ errors.OutOfMemory))
+  pub layout : IsLayoutTold bytes (result_err read)
   pub form : read ≡ Err errors.OutOfForm → (f : Contents) → IsFile f bytes → ⊥
   pub deep : read ≡ Err errors.TooDeep → (f : Contents) → IsLayout f bytes → LengthsFit f
       → NestWithin (Some depth) f → ⊥
@@ -106,19 +95,7 @@ AreColumnsOf bytes columns = (f : Contents) × (IsLayout f bytes
 -- The bytes are refused with an error, which says the truth.
 pub record IsLayoutRefused (bytes : List ℕ) (error : FileError) : Type 0 where
   pub memory : (f : Contents) → IsLayout f bytes → LengthsFit f → error ≡ errors.OutOfMemory
-  pub magic : error ≡ errors.BadMagic ↔ HasNoMagic bytes
-  pub version : error ≡ errors.UnknownVersion ↔ HasOtherVersion bytes
-  pub cut : error ≡ errors.Cut → (f : Contents) (front more : List ℕ) → IsLayout f front
-      → bytes ≡ front ++ more → ⊥
-  pub cut_refused : IsCutOff bytes
-      → (error ≡ errors.BadMagic) ⊎ ((error ≡ errors.Cut) ⊎ (error ≡ errors.OutOfMemory))
-  pub trailing : error ≡ errors.TrailingData → HasTrailingData bytes
-  pub trailing_refused : HasTrailingData bytes
-      → (error ≡ errors.TrailingData) ⊎ (error ≡ errors.OutOfMemory)
-  pub lengths : error ≡ errors.WrongLength → (f : Contents) → IsLayout f bytes
-      → LengthsFit f → ⊥
-  pub lengths_refused : (f : Contents) → IsLayout f bytes → (LengthsFit f → ⊥)
-      → (error ≡ errors.WrongLength) ⊎ (error ≡ errors.OutOfMemory)
+  pub layout : IsLayoutTold bytes (Some error)
   pub shallow : error ≢ errors.TooDeep
 
 -- The columns of the file are handed over, or the bytes are refused.
@@ -139,19 +116,7 @@ IsStatusAnswered (Err reason) before after size status =
 
 -- The bytes, or what is read of them for the row, are refused with an error, which says the truth.
 pub record IsRowRefused (depth index : ℕ) (bytes : List ℕ) (error : FileError) : Type 0 where
-  pub magic : error ≡ errors.BadMagic ↔ HasNoMagic bytes
-  pub version : error ≡ errors.UnknownVersion ↔ HasOtherVersion bytes
-  pub cut : error ≡ errors.Cut → (f : Contents) (front more : List ℕ) → IsLayout f front
-      → bytes ≡ front ++ more → ⊥
-  pub cut_refused : IsCutOff bytes
-      → (error ≡ errors.BadMagic) ⊎ ((error ≡ errors.Cut) ⊎ (error ≡ errors.OutOfMemory))
-  pub trailing : error ≡ errors.TrailingData → HasTrailingData bytes
-  pub trailing_refused : HasTrailingData bytes
-      → (error ≡ errors.TrailingData) ⊎ (error ≡ errors.OutOfMemory)
-  pub lengths : error ≡ errors.WrongLength → (f : Contents) → IsLayout f bytes
-      → LengthsFit f → ⊥
-  pub lengths_refused : (f : Contents) → IsLayout f bytes → (LengthsFit f → ⊥)
-      → (error ≡ errors.WrongLength) ⊎ (error ≡ errors.OutOfMemory)
+  pub layout : IsLayoutTold bytes (Some error)
   pub form : (f : Contents) → IsLayout f bytes → LengthsFit f → IsRowInForm f index
       → (error ≡ errors.TooDeep) ⊎ (error ≡ errors.OutOfMemory)
   pub deep : error ≡ errors.TooDeep → (f : Contents) → IsLayout f bytes → LengthsFit f

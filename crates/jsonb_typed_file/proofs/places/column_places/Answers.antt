@@ -1,13 +1,15 @@
-use Rattle.std.proofs.Common.{◌≡◌, ◌⊎◌, ◌++◌, ℕ, List, map, sym, ap, subst, ◌∙◌}
+use Rattle.std.proofs.Common.{rules, ◌≡◌, ◌++◌, ℕ, List, map, sym, ap, subst, ◌∙◌, arith}
+use Rattle.std.specs.Prelude.{IsErrAnd}
 use Rattle.std.specs.List.{AllZip}
 use Rattle.jsonb_typed_file.specs.File.{row_count}
 use Rattle.jsonb_typed_file.specs.Layout.{columns_bytes}
 use Rattle.jsonb_typed_file.specs.Places.{IsColumnAt}
 use Rattle.jsonb_typed_file.specs.Views.{buffers_view, layout_view}
 use Rattle.jsonb_typed_file.specs.declared.buffers.Buffers.{Buffers}
-use Rattle.jsonb_typed_file.specs.declared.error.FileError.TheVariants.{OutOfMemory, WrongLength}
-use Rattle.jsonb_typed_file.proofs.LayoutLaws.{told, told_refusal}
+use Rattle.jsonb_typed_file.specs.declared.error.FileError.TheVariants.{OutOfMemory}
+use Rattle.jsonb_typed_file.proofs.LayoutLaws.{told}
 use Rattle.jsonb_typed_file.proofs.PlaceLaws.{before_columns, before_length, behind_columns}
+use Rattle.jsonb_typed_file.proofs.ToldLaws.{other_told, told_layout}
 use Rattle.jsonb_typed_file.proofs.places.column_places.Goals as goal
 
 pub returns-in_err-layout-clause-memory : goal.returns-in_err-layout-clause-memory
@@ -41,8 +43,14 @@ returns-clause-places c =
       ),
     )
 
-pub returns-in_err-layout-clause-length_refused : goal.returns-in_err-layout-clause-length_refused
-returns-in_err-layout-clause-length_refused c f layout unfit =
-    told_refusal c.from_residual.result c.in_err-layout.field-0.0
-    (λ e. (e ≡ WrongLength) ⊎ (e ≡ OutOfMemory)) c.from_residual.ensures.1
-    (c.in_err-layout.ensures.length_refused f layout unfit)
+pub returns-in_err-layout-clause-layout : goal.returns-in_err-layout-clause-layout
+returns-in_err-layout-clause-layout c =
+    told_layout c.args.bytes.now c.from_residual.result c.in_err-layout.field-0.0
+    c.from_residual.ensures.1 c.in_err-layout.ensures.layout
+
+pub returns-in_err-places_of-clause-layout : goal.returns-in_err-places_of-clause-layout
+returns-in_err-places_of-clause-layout c =
+    let is : IsErrAnd c.from_residual-in_err-places_of.result (λ e. e ≡ OutOfMemory) =
+    search rules in
+    told_layout c.args.bytes.now c.from_residual-in_err-places_of.result OutOfMemory is
+    (other_told c.args.bytes.now OutOfMemory (omega arith) c.in_ok-layout.ensures.layout)

@@ -1,13 +1,12 @@
-use Rattle.std.proofs.Common.{rules, ◌≡◌, map, sym, ap, subst, ◌∙◌}
+use Rattle.std.proofs.Common.{rules, ◌≡◌, map, refl, sym, ap, subst, ◌∙◌, arith}
 use Rattle.std.specs.Prelude.{IsErrAnd}
-use Rattle.std.specs.Global.{Vec}
 use Rattle.std.specs.List.{AllZip}
-use Rattle.jsonb_typed_file.specs.declared.error.FileError.TheVariants.{OutOfMemory}
-use Rattle.jsonb_typed_file.specs.declared.places.ColumnPlaces.{ColumnPlaces}
+use Rattle.jsonb_typed_file.specs.declared.error.FileError.TheVariants.{OutOfMemory, TooDeep}
 use Rattle.jsonb_typed_file.specs.File.{row_count}
 use Rattle.jsonb_typed_file.proofs.LayoutLaws.{told}
+use Rattle.jsonb_typed_file.proofs.ToldLaws.{other_told}
 use Rattle.kohiblad.specs.TypedFiles.{IsColumnPlaced, IsLayoutRefused, column_struct}
-use Rattle.kohiblad.proofs.TypedFileLaws.{layout_refused, memory_refused, structs_placed}
+use Rattle.kohiblad.proofs.TypedFileLaws.{not_memory, structs_placed}
 use Rattle.kohiblad.proofs.typed_files.columns_of.Goals as goal
 
 pub returns-clause-ok : goal.returns-clause-ok
@@ -31,12 +30,11 @@ pub returns-in_err-places-clause-err : goal.returns-in_err-places-clause-err
 returns-in_err-places-clause-err c =
     told c.from_residual.result c.in_err-places.field-0.0 (IsLayoutRefused c.args.bytes.now)
     c.from_residual.ensures.1
-    (layout_refused c.args.bytes.now (Vec ColumnPlaces) c.in_err-places.field-0.0
-    c.in_err-places.ensures.memory c.in_err-places.ensures.magic c.in_err-places.ensures.version
-    c.in_err-places.ensures.cut c.in_err-places.ensures.cut_refused
-    c.in_err-places.ensures.trailing
-    c.in_err-places.ensures.trailing_refused c.in_err-places.ensures.length
-    c.in_err-places.ensures.length_refused c.in_err-places.ensures.deep)
+    (record {
+      memory = c.in_err-places.ensures.memory;
+      layout = c.in_err-places.ensures.layout;
+      shallow = c.in_err-places.ensures.deep;
+    })
 
 pub returns-in_err-column_structs-clause-err : goal.returns-in_err-column_structs-clause-err
 returns-in_err-column_structs-clause-err c =
@@ -44,5 +42,8 @@ returns-in_err-column_structs-clause-err c =
     search rules in
     told c.from_residual-in_err-column_structs.result OutOfMemory
     (IsLayoutRefused c.args.bytes.now) is
-    (memory_refused c.args.bytes.now (Vec ColumnPlaces) c.in_ok-places.places
-    c.in_ok-places.ensures.magic c.in_ok-places.ensures.version)
+    (record {
+      memory = λ f layout fits. refl;
+      layout = other_told c.args.bytes.now OutOfMemory (omega arith) c.in_ok-places.ensures.layout;
+      shallow = λ is. not_memory TooDeep is refl;
+    })

@@ -1,12 +1,11 @@
-use Rattle.std.proofs.Common.{ℕ, ◌<◌, ◌≤◌, Option, inl, inr, subst}
+use Rattle.std.proofs.Common.{ℕ, ◌<◌, ◌≤◌, Err, Option, inl, inr, ap, subst}
 use Rattle.std.specs.Prelude.{IfSome, MatchOption}
 use Rattle.jsonb_typed_file.specs.File.{row_count}
 use Rattle.jsonb_typed_file.specs.Layout.{Contents}
 use Rattle.jsonb_typed_file.specs.OneRow.{IsRowOf, IsRowWithin}
-use Rattle.jsonb_typed_file.specs.declared.file.TypedFile.{TypedFile}
 use Rattle.kohiblad.specs.Status.{IsRefused}
 use Rattle.kohiblad.proofs.TypedFileLaws.{deep_refused, has_a_row, nests_alike, no_memory}
-use Rattle.kohiblad.proofs.TypedFileLaws.{none_within, not_deep, row_handed, row_refused}
+use Rattle.kohiblad.proofs.TypedFileLaws.{none_within, not_deep, row_handed}
 use Rattle.kohiblad.proofs.typed_files.kohiblad_typed_row.Goals as goal
 
 -- What is told of the row of a file.
@@ -106,10 +105,11 @@ returns c =
       answered = inr (
         c.in-Err.error,
         (
-          row_refused c.args.depth c.args.index c.args.bytes.now (Option TypedFile) c.in-Err.error
-              c.in-Err.ensures.magic c.in-Err.ensures.version c.in-Err.ensures.cut
-              c.in-Err.ensures.cut_refused c.in-Err.ensures.trailing c.in-Err.ensures.trailing_refused c.in-Err.ensures.length
-              c.in-Err.ensures.length_refused c.in-Err.ensures.refused c.in-Err.ensures.deep,
+          record {
+            layout = c.in-Err.ensures.layout;
+            form = c.in-Err.ensures.refused;
+            deep = λ is. c.in-Err.ensures.deep (ap Err is);
+          },
           refused,
         ),
       );

@@ -1,9 +1,10 @@
-use Rattle.std.proofs.Common.{rules, ◌≡◌, false, sym, subst, ◌⊎◌, inr}
+use Rattle.std.proofs.Common.{rules, ◌≡◌, false, sym, subst, ◌⊎◌, inr, arith}
 use Rattle.jsonb_typed_file.specs.File.{IsInForm, NestWithin}
 use Rattle.jsonb_typed_file.specs.declared.error.FileError.TheVariants.{OutOfForm, OutOfMemory}
-use Rattle.jsonb_typed_file.specs.declared.error.FileError.TheVariants.{TooDeep, WrongLength}
+use Rattle.jsonb_typed_file.specs.declared.error.FileError.TheVariants.{TooDeep}
 use Rattle.jsonb_typed_file.proofs.FormLaws.{form_or_memory, not_both}
-use Rattle.jsonb_typed_file.proofs.LayoutLaws.{told, told_error, told_refusal}
+use Rattle.jsonb_typed_file.proofs.LayoutLaws.{told, told_error}
+use Rattle.jsonb_typed_file.proofs.ToldLaws.{other_told, told_layout}
 use Rattle.jsonb_typed_file.proofs.file.TypedFile.checked.Goals as goal
 
 pub returns-in_err-layout-clause-memory : goal.returns-in_err-layout-clause-memory
@@ -65,8 +66,15 @@ returns-then-not-is_in_form-clause-refused c f file =
     absurd (not_both c.is_in_form.result failed
     (c.is_in_form.ensures.1 (subst IsInForm (sym same) file.form)))
 
-pub returns-in_err-layout-clause-length_refused : goal.returns-in_err-layout-clause-length_refused
-returns-in_err-layout-clause-length_refused c f layout unfit =
-    told_refusal c.from_residual.result c.in_err-layout.field-0.0
-    (λ e. (e ≡ WrongLength) ⊎ (e ≡ OutOfMemory)) c.from_residual.ensures.1
-    (c.in_err-layout.ensures.length_refused f layout unfit)
+pub returns-in_err-layout-clause-layout : goal.returns-in_err-layout-clause-layout
+returns-in_err-layout-clause-layout c =
+    told_layout c.args.bytes.now c.from_residual.result c.in_err-layout.field-0.0
+    c.from_residual.ensures.1 c.in_err-layout.ensures.layout
+
+pub returns-then-nest_deeper-clause-layout : goal.returns-then-nest_deeper-clause-layout
+returns-then-nest_deeper-clause-layout c =
+    other_told c.args.bytes.now TooDeep (omega arith) c.in_ok-layout.ensures.layout
+
+pub returns-then-not-is_in_form-clause-layout : goal.returns-then-not-is_in_form-clause-layout
+returns-then-not-is_in_form-clause-layout c =
+    other_told c.args.bytes.now OutOfForm (omega arith) c.in_ok-layout.ensures.layout

@@ -1,13 +1,14 @@
-use Rattle.std.proofs.Common.{rules, ◌≡◌, ◌<◌, ◌⊎◌, Some, false, inr, sym, ap, subst, ◌∙◌}
-use Rattle.std.specs.Prelude.{IsTrue}
+use Rattle.std.proofs.Common.{rules, ◌≡◌, ◌<◌, ◌⊎◌, Some, false, inr, sym, ap, subst, ◌∙◌, arith}
+use Rattle.std.specs.Prelude.{IsErrAnd, IsTrue}
 use Rattle.jsonb_typed_file.specs.File.{IsInForm, LengthsFit, NestWithin, row_count}
 use Rattle.jsonb_typed_file.specs.OneRow.{IsRowOf, file_of_row}
 use Rattle.jsonb_typed_file.specs.Views.{layout_view}
+use Rattle.jsonb_typed_file.specs.declared.error.FileError.TheVariants.{OutOfForm}
 use Rattle.jsonb_typed_file.specs.declared.error.FileError.TheVariants.{OutOfMemory, TooDeep}
-use Rattle.jsonb_typed_file.specs.declared.error.FileError.TheVariants.{WrongLength}
 use Rattle.jsonb_typed_file.proofs.FormLaws.{not_both}
-use Rattle.jsonb_typed_file.proofs.LayoutLaws.{told, told_error, told_refusal}
+use Rattle.jsonb_typed_file.proofs.LayoutLaws.{told, told_error}
 use Rattle.jsonb_typed_file.proofs.OneRowLaws.{form_of_row, row_fits, row_of, row_within}
+use Rattle.jsonb_typed_file.proofs.ToldLaws.{other_told, told_layout}
 use Rattle.jsonb_typed_file.proofs.file.TypedFile.of_row.Goals as goal
 
 pub returns-in_err-layout-clause-memory : goal.returns-in_err-layout-clause-memory
@@ -114,12 +115,6 @@ invariant_of-result c =
       c.is_in_form.ensures.0 formed,
     )
 
-pub returns-in_err-layout-clause-length_refused : goal.returns-in_err-layout-clause-length_refused
-returns-in_err-layout-clause-length_refused c f layout unfit =
-    told_refusal c.from_residual.result c.in_err-layout.field-0.0
-    (λ e. (e ≡ WrongLength) ⊎ (e ≡ OutOfMemory)) c.from_residual.ensures.1
-    (c.in_err-layout.ensures.length_refused f layout unfit)
-
 pub returns-in_err-layout-clause-each : goal.returns-in_err-layout-clause-each
 returns-in_err-layout-clause-each c f file =
     form_of_row f c.args.bytes.now c.args.index file
@@ -135,3 +130,22 @@ returns-then-nest_deeper-clause-each c f file =
 pub returns-then-not-is_in_form-clause-each : goal.returns-then-not-is_in_form-clause-each
 returns-then-not-is_in_form-clause-each c f file =
     form_of_row f c.args.bytes.now c.args.index file
+
+pub returns-in_err-layout-clause-layout : goal.returns-in_err-layout-clause-layout
+returns-in_err-layout-clause-layout c =
+    told_layout c.args.bytes.now c.from_residual.result c.in_err-layout.field-0.0
+    c.from_residual.ensures.1 c.in_err-layout.ensures.layout
+
+pub returns-in_err-one-clause-layout : goal.returns-in_err-one-clause-layout
+returns-in_err-one-clause-layout c =
+    let is : IsErrAnd c.from_residual-in_err-one.result (λ e. e ≡ OutOfMemory) = search rules in
+    told_layout c.args.bytes.now c.from_residual-in_err-one.result OutOfMemory is
+    (other_told c.args.bytes.now OutOfMemory (omega arith) c.in_ok-layout.ensures.layout)
+
+pub returns-then-nest_deeper-clause-layout : goal.returns-then-nest_deeper-clause-layout
+returns-then-nest_deeper-clause-layout c =
+    other_told c.args.bytes.now TooDeep (omega arith) c.in_ok-layout.ensures.layout
+
+pub returns-then-not-is_in_form-clause-layout : goal.returns-then-not-is_in_form-clause-layout
+returns-then-not-is_in_form-clause-layout c =
+    other_told c.args.bytes.now OutOfForm (omega arith) c.in_ok-layout.ensures.layout
