@@ -69,6 +69,18 @@ pub record TextBuffers : Type 0 where
   pub states : List ℕ
   pub states_after : List ℕ
 
+-- The same of these buffers.
+abbrev pub text_outputs : List ℕ → List ℕ → ℕ → List ℕ → List ℕ → List ℕ → List ℕ → TextBuffers
+text_outputs texts texts_after size offsets offsets_after states states_after = record {
+  texts = texts;
+  texts_after = texts_after;
+  size = size;
+  offsets = offsets;
+  offsets_after = offsets_after;
+  states = states;
+  states_after = states_after;
+}
+
 -- The buffers are unchanged.
 abbrev pub AreTextsKept : TextBuffers → Type 0
 AreTextsKept b = (b.texts_after ≡ b.texts)

@@ -111,6 +111,15 @@ pub record Buffers (V : Type 0) : Type 0 where
   pub states : List ℕ
   pub states_after : List ℕ
 
+-- The same of these buffers.
+abbrev pub outputs : {V : Type 0} → List V → List V → List ℕ → List ℕ → Buffers V
+outputs values values_after states states_after = record {
+  values = values;
+  values_after = values_after;
+  states = states;
+  states_after = states_after;
+}
+
 -- The buffers are unchanged.
 abbrev pub AreKept : {V : Type 0} → Buffers V → Type 0
 AreKept b = (b.values_after ≡ b.values) × (b.states_after ≡ b.states)

@@ -3,6 +3,7 @@
 ghost use Rattle.std.specs.Prelude.{◌≡◌, ◌≤◌, ℕ, List, length, map};
 ghost use Rattle.kohiblad.specs.Located.{IsTakenAt};
 ghost use Rattle.kohiblad.specs.Taking.{AreRowsPut, AreRowsTaken, HoldsScalars, taken_answer};
+ghost use Rattle.kohiblad.specs.Taking.{outputs};
 
 use crate::answer::NO_ROOM;
 use crate::located::{Places, payload_at};
@@ -22,12 +23,7 @@ pub fn take_at<T: ColumnType>(
 ) -> KohibladTaken
     requires { HoldsScalars (T.stands column_type.now) }
     ensures { AreRowsTaken (IsTakenAt (T.stands column_type.now) blank bytes.now) places.entry
-        (record {
-          values = values.old;
-          values_after = values.new;
-          states = states.old;
-          states_after = states.new;
-        }) result }
+        (outputs values.old values.new states.old states.new) result }
 {
     if !places.fit_in(values.len().min(states.len())) {
         return not_taken(NO_ROOM);
@@ -49,12 +45,7 @@ fn put_places<T: ColumnType>(
     requires scalars { HoldsScalars (T.stands column_type.now) }
     ensures { (taken : List (T.Value × ℕ))
         × (AreRowsPut (IsTakenAt (T.stands column_type.now) blank bytes.now) places.entry
-        (record {
-          values = values.old;
-          values_after = values.new;
-          states = states.old;
-          states_after = states.new;
-        }) taken
+        (outputs values.old values.new states.old states.new) taken
         × (result ≡ taken_answer (map (λ row. row.1) taken))) }
 {
     let mut left = places;

@@ -5,6 +5,7 @@ ghost use Rattle.jsonb_typed.specs.Words.{IsBinary};
 ghost use Rattle.kohiblad.specs.Taking.{IsTakenRow, IsTakenUnchecked};
 ghost use Rattle.kohiblad.specs.TakenTexts.{AreTextsHandedOver, AreTextsTaken};
 ghost use Rattle.kohiblad.specs.Words.{meaning_within};
+ghost use Rattle.kohiblad.specs.TakenTexts.{text_outputs};
 
 use crate::taken_texts::{BytesType, take_texts};
 use crate::taking::{KohibladTaken, Source};
@@ -29,15 +30,8 @@ pub extern "C" fn kohiblad_take_binary(
 ) -> KohibladTaken
     ensures { AreTextsTaken AreTextsHandedOver (IsTakenRow IsBinary [] depth) bytes.now offsets.now
         (meaning_within depth path.now)
-        (record {
-          texts = out.old;
-          texts_after = out.new;
-          size = length.new;
-          offsets = value_offsets.old;
-          offsets_after = value_offsets.new;
-          states = states.old;
-          states_after = states.new;
-        }) result }
+        (text_outputs out.old out.new length.new value_offsets.old value_offsets.new
+        states.old states.new) result }
 {
     let source = Source::checked(bytes, offsets, path, depth);
     take_texts(
@@ -68,15 +62,8 @@ pub extern "C" fn kohiblad_take_binary_unchecked(
 ) -> KohibladTaken
     ensures { AreTextsTaken AreTextsHandedOver (IsTakenUnchecked IsBinary []) bytes.now offsets.now
         (meaning_within depth path.now)
-        (record {
-          texts = out.old;
-          texts_after = out.new;
-          size = length.new;
-          offsets = value_offsets.old;
-          offsets_after = value_offsets.new;
-          states = states.old;
-          states_after = states.new;
-        }) result }
+        (text_outputs out.old out.new length.new value_offsets.old value_offsets.new
+        states.old states.new) result }
 {
     let source = Source::unchecked(bytes, offsets, path, depth);
     take_texts(

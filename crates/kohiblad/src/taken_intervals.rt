@@ -3,6 +3,7 @@
 ghost use Rattle.std.specs.Prelude.{◌≡◌, pos};
 ghost use Rattle.kohiblad.specs.Taking.{AreTaken, IsInterval, IsTakenRow, IsTakenUnchecked};
 ghost use Rattle.kohiblad.specs.Words.{meaning_within};
+ghost use Rattle.kohiblad.specs.Taking.{outputs};
 
 use crate::taking::{KohibladTaken, Source, take};
 use jsonb::Node;
@@ -35,12 +36,7 @@ pub extern "C" fn kohiblad_take_interval(
     ensures { AreTaken (IsTakenRow IsInterval
         (record { months = pos 0; days = pos 0; micros = pos 0 }) depth) bytes.now offsets.now
         (meaning_within depth path.now)
-        (record {
-          values = values.old;
-          values_after = values.new;
-          states = states.old;
-          states_after = states.new;
-        }) result }
+        (outputs values.old values.new states.old states.new) result }
 {
     let blank = KohibladInterval {
         months: 0,
@@ -67,12 +63,7 @@ pub extern "C" fn kohiblad_take_interval_unchecked(
     ensures { AreTaken (IsTakenUnchecked IsInterval
         (record { months = pos 0; days = pos 0; micros = pos 0 })) bytes.now offsets.now
         (meaning_within depth path.now)
-        (record {
-          values = values.old;
-          values_after = values.new;
-          states = states.old;
-          states_after = states.new;
-        }) result }
+        (outputs values.old values.new states.old states.new) result }
 {
     let blank = KohibladInterval {
         months: 0,

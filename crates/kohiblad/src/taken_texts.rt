@@ -11,6 +11,7 @@ ghost use Rattle.kohiblad.specs.TakenTexts.{AreTextsHandedOver, AreTextsMade, Ar
 ghost use Rattle.kohiblad.specs.TakenTexts.{IsBytes, IsBytesRow, IsBytesUnchecked};
 ghost use Rattle.kohiblad.specs.TakenTexts.{IsTextUnchecked, IsTextsOf};
 ghost use Rattle.kohiblad.specs.Words.{meaning_within, node_tree};
+ghost use Rattle.kohiblad.specs.TakenTexts.{text_outputs};
 
 use crate::answer::{NO_ROOM, code};
 use crate::row_paths::steps_of;
@@ -53,15 +54,8 @@ pub extern "C" fn kohiblad_take_text(
 ) -> KohibladTaken
     ensures { AreTextsTaken AreTextsHandedOver (IsTakenRow IsText [] depth) bytes.now offsets.now
         (meaning_within depth path.now)
-        (record {
-          texts = out.old;
-          texts_after = out.new;
-          size = length.new;
-          offsets = text_offsets.old;
-          offsets_after = text_offsets.new;
-          states = states.old;
-          states_after = states.new;
-        }) result }
+        (text_outputs out.old out.new length.new text_offsets.old text_offsets.new
+        states.old states.new) result }
 {
     let source = Source::checked(bytes, offsets, path, depth);
     take_texts(
@@ -92,15 +86,8 @@ pub extern "C" fn kohiblad_take_text_unchecked(
 ) -> KohibladTaken
     ensures { AreTextsTaken AreTextsHandedOver IsTextUnchecked bytes.now offsets.now
         (meaning_within depth path.now)
-        (record {
-          texts = out.old;
-          texts_after = out.new;
-          size = length.new;
-          offsets = text_offsets.old;
-          offsets_after = text_offsets.new;
-          states = states.old;
-          states_after = states.new;
-        }) result }
+        (text_outputs out.old out.new length.new text_offsets.old text_offsets.new
+        states.old states.new) result }
 {
     let source = Source::unchecked(bytes, offsets, path, depth);
     take_texts(
@@ -136,15 +123,8 @@ pub fn take_texts(
         (IsBytesRow source.entry.reading bytes_type)
         source.entry.bytes.now source.entry.offsets.now
         (meaning_within source.entry.depth source.entry.path.now)
-        (record {
-          texts = out.old;
-          texts_after = out.new;
-          size = size.new;
-          offsets = text_offsets.old;
-          offsets_after = text_offsets.new;
-          states = states.old;
-          states_after = states.new;
-        }) result }
+        (text_outputs out.old out.new size.new text_offsets.old text_offsets.new
+        states.old states.new) result }
 {
     *size = 0;
     match source_texts(alloc, source, bytes_type) {
@@ -238,15 +218,8 @@ pub fn hand_over_texts(
     states: &mut [u8],
 ) -> KohibladTaken
     ensures { (rows : List (List ℕ × ℕ)) → IsTextsOf rows taken.now → AreTextsHandedOver rows
-        (record {
-          texts = out.old;
-          texts_after = out.new;
-          size = size.new;
-          offsets = text_offsets.old;
-          offsets_after = text_offsets.new;
-          states = states.old;
-          states_after = states.new;
-        }) result }
+        (text_outputs out.old out.new size.new text_offsets.old text_offsets.new
+        states.old states.new) result }
 {
     *size = taken.texts.len();
     if out.len() < taken.texts.len()

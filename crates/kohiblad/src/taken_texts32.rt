@@ -7,6 +7,7 @@ ghost use Rattle.kohiblad.specs.Taking.{IsTakenRow};
 ghost use Rattle.kohiblad.specs.TakenTexts.{AreTextsTaken, AreTextsWithin, IsBytesRow};
 ghost use Rattle.kohiblad.specs.TakenTexts.{IsTextUnchecked, IsTextsOf, low_half};
 ghost use Rattle.kohiblad.specs.Words.{meaning_within};
+ghost use Rattle.kohiblad.specs.TakenTexts.{text_outputs};
 
 use crate::answer::NO_ROOM;
 use crate::taken_texts::{BytesType, TakenTexts, copy_in, source_texts};
@@ -33,15 +34,8 @@ pub extern "C" fn kohiblad_take_text32(
 ) -> KohibladTaken
     ensures { AreTextsTaken (AreTextsWithin (2 ^ 31 - 1)) (IsTakenRow IsText [] depth) bytes.now
         offsets.now (meaning_within depth path.now)
-        (record {
-          texts = out.old;
-          texts_after = out.new;
-          size = length.new;
-          offsets = text_offsets.old;
-          offsets_after = text_offsets.new;
-          states = states.old;
-          states_after = states.new;
-        }) result }
+        (text_outputs out.old out.new length.new text_offsets.old text_offsets.new
+        states.old states.new) result }
 {
     let source = Source::checked(bytes, offsets, path, depth);
     take_texts32(alloc, source, out, length, text_offsets, states)
@@ -64,15 +58,8 @@ pub extern "C" fn kohiblad_take_text32_unchecked(
 ) -> KohibladTaken
     ensures { AreTextsTaken (AreTextsWithin (2 ^ 31 - 1)) IsTextUnchecked bytes.now offsets.now
         (meaning_within depth path.now)
-        (record {
-          texts = out.old;
-          texts_after = out.new;
-          size = length.new;
-          offsets = text_offsets.old;
-          offsets_after = text_offsets.new;
-          states = states.old;
-          states_after = states.new;
-        }) result }
+        (text_outputs out.old out.new length.new text_offsets.old text_offsets.new
+        states.old states.new) result }
 {
     let source = Source::unchecked(bytes, offsets, path, depth);
     take_texts32(alloc, source, out, length, text_offsets, states)
@@ -92,15 +79,8 @@ fn take_texts32(
         (IsBytesRow source.entry.reading BytesType.Text)
         source.entry.bytes.now source.entry.offsets.now
         (meaning_within source.entry.depth source.entry.path.now)
-        (record {
-          texts = out.old;
-          texts_after = out.new;
-          size = size.new;
-          offsets = text_offsets.old;
-          offsets_after = text_offsets.new;
-          states = states.old;
-          states_after = states.new;
-        }) result }
+        (text_outputs out.old out.new size.new text_offsets.old text_offsets.new
+        states.old states.new) result }
 {
     *size = 0;
     match source_texts(alloc, source, BytesType::Text) {
@@ -120,15 +100,8 @@ pub fn hand_over_texts32(
 ) -> KohibladTaken
     ensures { (rows : List (List ℕ × ℕ)) → IsTextsOf rows taken.now
         → AreTextsWithin (2 ^ 31 - 1) rows
-        (record {
-          texts = out.old;
-          texts_after = out.new;
-          size = size.new;
-          offsets = text_offsets.old;
-          offsets_after = text_offsets.new;
-          states = states.old;
-          states_after = states.new;
-        }) result }
+        (text_outputs out.old out.new size.new text_offsets.old text_offsets.new
+        states.old states.new) result }
 {
     *size = taken.texts.len();
     if OFFSET_LIMIT < taken.texts.len()

@@ -3,6 +3,7 @@
 ghost use Rattle.std.specs.Prelude.{◌≡◌, pos};
 ghost use Rattle.kohiblad.specs.Taking.{AreTaken, IsTakenRow, IsTakenUnchecked, IsTimestamp};
 ghost use Rattle.kohiblad.specs.Words.{meaning_within};
+ghost use Rattle.kohiblad.specs.Taking.{outputs};
 
 use crate::taking::{KohibladTaken, Source, take};
 use jsonb::Node;
@@ -25,12 +26,7 @@ pub extern "C" fn kohiblad_take_timestamp(
 ) -> KohibladTaken
     ensures { AreTaken (IsTakenRow IsTimestamp (pos 0) depth) bytes.now offsets.now
         (meaning_within depth path.now)
-        (record {
-          values = values.old;
-          values_after = values.new;
-          states = states.old;
-          states_after = states.new;
-        }) result }
+        (outputs values.old values.new states.old states.new) result }
 {
     let source = Source::checked(bytes, offsets, path, depth);
     take(alloc, source, &TimestampNumbers, 0, values, states)
@@ -51,12 +47,7 @@ pub extern "C" fn kohiblad_take_timestamp_unchecked(
 ) -> KohibladTaken
     ensures { AreTaken (IsTakenUnchecked IsTimestamp (pos 0)) bytes.now offsets.now
         (meaning_within depth path.now)
-        (record {
-          values = values.old;
-          values_after = values.new;
-          states = states.old;
-          states_after = states.new;
-        }) result }
+        (outputs values.old values.new states.old states.new) result }
 {
     let source = Source::unchecked(bytes, offsets, path, depth);
     take(alloc, source, &TimestampNumbers, 0, values, states)

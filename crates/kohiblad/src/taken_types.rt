@@ -8,6 +8,7 @@ ghost use Rattle.jsonb_typed.specs.Words.{IsInt64, IsUInt64, node_tree};
 ghost use Rattle.kohiblad.specs.Taking.{AreKept, AreTaken, IsInt128, IsTakenRow, IsTruth};
 ghost use Rattle.kohiblad.specs.Taking.{fit_of, int128_whole, not_taken};
 ghost use Rattle.kohiblad.specs.Words.{Error, code, from_halves, meaning_within};
+ghost use Rattle.kohiblad.specs.Taking.{outputs};
 
 use crate::answer::code;
 use crate::scalar::whole_of;
@@ -101,12 +102,7 @@ pub extern "C" fn kohiblad_take_int64(
 ) -> KohibladTaken
     ensures { AreTaken (IsTakenRow (λ v t. IsInt64 (fit_of fit) v t) (pos 0) depth) bytes.now
         offsets.now (meaning_within depth path.now)
-        (record {
-          values = values.old;
-          values_after = values.new;
-          states = states.old;
-          states_after = states.new;
-        }) result }
+        (outputs values.old values.new states.old states.new) result }
 {
     let column_type = Int64 { fit: fit_of(fit) };
     let source = Source::checked(bytes, offsets, path, depth);
@@ -129,12 +125,7 @@ pub extern "C" fn kohiblad_take_uint64(
 ) -> KohibladTaken
     ensures { AreTaken (IsTakenRow (λ v t. IsUInt64 (fit_of fit) v t) 0 depth) bytes.now
         offsets.now (meaning_within depth path.now)
-        (record {
-          values = values.old;
-          values_after = values.new;
-          states = states.old;
-          states_after = states.new;
-        }) result }
+        (outputs values.old values.new states.old states.new) result }
 {
     let column_type = UInt64 { fit: fit_of(fit) };
     let source = Source::checked(bytes, offsets, path, depth);
@@ -161,21 +152,11 @@ pub extern "C" fn kohiblad_take_decimal(
     states: &mut [u8],
 ) -> KohibladTaken
     ensures scale { 255 < scale → (result ≡ not_taken (code Error.InvalidJsonb))
-        × AreKept (record {
-          values = values.old;
-          values_after = values.new;
-          states = states.old;
-          states_after = states.new;
-        }) }
+        × AreKept (outputs values.old values.new states.old states.new) }
     ensures taken { scale ≤ 255 → AreTaken (IsTakenRow (IsInt128 (fit_of fit) scale)
         (record { low = 0; high = pos 0 }) depth) bytes.now offsets.now
         (meaning_within depth path.now)
-        (record {
-          values = values.old;
-          values_after = values.new;
-          states = states.old;
-          states_after = states.new;
-        }) result }
+        (outputs values.old values.new states.old states.new) result }
 {
     let Ok(scale) = u8::try_from(scale) else {
         return not_taken(code(Error::InvalidJsonb));
@@ -238,12 +219,7 @@ pub extern "C" fn kohiblad_take_boolean(
 ) -> KohibladTaken
     ensures { AreTaken (IsTakenRow IsTruth 0 depth) bytes.now offsets.now
         (meaning_within depth path.now)
-        (record {
-          values = values.old;
-          values_after = values.new;
-          states = states.old;
-          states_after = states.new;
-        }) result }
+        (outputs values.old values.new states.old states.new) result }
 {
     let blank = 0;
     let source = Source::checked(bytes, offsets, path, depth);

@@ -11,6 +11,7 @@ ghost use Rattle.kohiblad.specs.Taking.{IsReadRow, IsSomeTaken, IsTakenCell, IsT
 ghost use Rattle.kohiblad.specs.Taking.{IsTakenUnchecked, bytes_state, first_unfit, fit_of};
 ghost use Rattle.kohiblad.specs.Taking.{not_taken, taken_answer, tree_state, unfit_count};
 ghost use Rattle.kohiblad.specs.Words.{IsPayloadOf, Tree, document_tree, meaning_within, node_tree};
+ghost use Rattle.kohiblad.specs.Taking.{outputs};
 
 use crate::answer::{NO_ROOM, OK, code};
 use crate::row_paths::steps_of;
@@ -121,12 +122,7 @@ pub fn take<T: ColumnType>(
     ensures { AreTaken (IsReadRow (T.stands column_type.now) blank source.entry.reading)
         source.entry.bytes.now source.entry.offsets.now
         (meaning_within source.entry.depth source.entry.path.now)
-        (record {
-          values = values.old;
-          values_after = values.new;
-          states = states.old;
-          states_after = states.new;
-        }) result }
+        (outputs values.old values.new states.old states.new) result }
 {
     let Ok(rows) = Rows::new(source.bytes, source.offsets) else {
         return not_taken(code(Error::InvalidEOF));
@@ -157,12 +153,7 @@ fn take_rows<T: ColumnType>(
 ) -> KohibladTaken
     requires { HoldsScalars (T.stands column_type.now) }
     ensures { AreRowsTaken (IsReadRow (T.stands column_type.now) blank reading path.now) rows.entry
-        (record {
-          values = values.old;
-          values_after = values.new;
-          states = states.old;
-          states_after = states.new;
-        }) result }
+        (outputs values.old values.new states.old states.new) result }
 {
     if values.len() < rows.len() || states.len() < rows.len() {
         return not_taken(NO_ROOM);
@@ -185,12 +176,7 @@ fn put_rows<T: ColumnType>(
     requires scalars { HoldsScalars (T.stands column_type.now) }
     ensures { (taken : List (T.Value × ℕ))
         × (AreRowsPut (IsReadRow (T.stands column_type.now) blank reading path.now) rows.entry
-        (record {
-          values = values.old;
-          values_after = values.new;
-          states = states.old;
-          states_after = states.new;
-        }) taken
+        (outputs values.old values.new states.old states.new) taken
         × (result ≡ taken_answer (map (λ row. row.1) taken))) }
 {
     let mut left = rows;

@@ -7,6 +7,7 @@ ghost use Rattle.kohiblad.specs.Located.{IsTakenAt, each_of};
 ghost use Rattle.kohiblad.specs.TakenTexts.{AreRowTextsTaken, AreTextsHandedOver};
 ghost use Rattle.kohiblad.specs.TakenTexts.{AreTextsWithin, IsBytesAt, IsTextAt, IsTextsOf};
 ghost use Rattle.kohiblad.specs.Words.{Error};
+ghost use Rattle.kohiblad.specs.TakenTexts.{text_outputs};
 
 use crate::answer::code;
 use crate::located::{Places, member_at};
@@ -37,15 +38,8 @@ pub extern "C" fn kohiblad_take_text_at(
 ) -> KohibladTaken
     ensures { AreRowTextsTaken AreTextsHandedOver (IsTextAt bytes.now)
         (each_of step places.now)
-        (record {
-          texts = out.old;
-          texts_after = out.new;
-          size = length.new;
-          offsets = text_offsets.old;
-          offsets_after = text_offsets.new;
-          states = states.old;
-          states_after = states.new;
-        }) result }
+        (text_outputs out.old out.new length.new text_offsets.old text_offsets.new
+        states.old states.new) result }
 {
     let places = Places::new(places, step);
     take_texts_at(
@@ -75,15 +69,8 @@ pub extern "C" fn kohiblad_take_binary_at(
 ) -> KohibladTaken
     ensures { AreRowTextsTaken AreTextsHandedOver (IsTakenAt IsBinary [] bytes.now)
         (each_of step places.now)
-        (record {
-          texts = out.old;
-          texts_after = out.new;
-          size = length.new;
-          offsets = value_offsets.old;
-          offsets_after = value_offsets.new;
-          states = states.old;
-          states_after = states.new;
-        }) result }
+        (text_outputs out.old out.new length.new value_offsets.old value_offsets.new
+        states.old states.new) result }
 {
     let places = Places::new(places, step);
     take_texts_at(
@@ -114,15 +101,8 @@ pub extern "C" fn kohiblad_take_text32_at(
 ) -> KohibladTaken
     ensures { AreRowTextsTaken (AreTextsWithin (2 ^ 31 - 1)) (IsTextAt bytes.now)
         (each_of step places.now)
-        (record {
-          texts = out.old;
-          texts_after = out.new;
-          size = length.new;
-          offsets = text_offsets.old;
-          offsets_after = text_offsets.new;
-          states = states.old;
-          states_after = states.new;
-        }) result }
+        (text_outputs out.old out.new length.new text_offsets.old text_offsets.new
+        states.old states.new) result }
 {
     *length = 0;
     match texts_at(alloc, bytes, Places::new(places, step), BytesType::Text) {
@@ -144,15 +124,8 @@ fn take_texts_at(
 ) -> KohibladTaken
     ensures { AreRowTextsTaken AreTextsHandedOver (IsBytesAt bytes_type bytes.now)
         places.entry
-        (record {
-          texts = out.old;
-          texts_after = out.new;
-          size = size.new;
-          offsets = text_offsets.old;
-          offsets_after = text_offsets.new;
-          states = states.old;
-          states_after = states.new;
-        }) result }
+        (text_outputs out.old out.new size.new text_offsets.old text_offsets.new
+        states.old states.new) result }
 {
     *size = 0;
     match texts_at(alloc, bytes, places, bytes_type) {

@@ -7,6 +7,7 @@ ghost use Rattle.kohiblad.specs.Located.{IsTakenAt, each_of};
 ghost use Rattle.kohiblad.specs.Taking.{AreKept, AreRowsTaken, IsDate, IsInt128, IsInterval};
 ghost use Rattle.kohiblad.specs.Taking.{IsTimestamp, IsTruth, IsZonedTimestamp, fit_of, not_taken};
 ghost use Rattle.kohiblad.specs.Words.{Error, code};
+ghost use Rattle.kohiblad.specs.Taking.{outputs};
 
 use crate::answer::code;
 use crate::located::Places;
@@ -46,12 +47,7 @@ pub extern "C" fn kohiblad_take_int64_at(
 ) -> KohibladTaken
     ensures { AreRowsTaken (IsTakenAt (λ v t. IsInt64 (fit_of fit) v t) (pos 0) bytes.now)
         (each_of step places.now)
-        (record {
-          values = values.old;
-          values_after = values.new;
-          states = states.old;
-          states_after = states.new;
-        }) result }
+        (outputs values.old values.new states.old states.new) result }
 {
     let column_type = Int64 { fit: fit_of(fit) };
     let places = Places::new(places, step);
@@ -72,12 +68,7 @@ pub extern "C" fn kohiblad_take_uint64_at(
 ) -> KohibladTaken
     ensures { AreRowsTaken (IsTakenAt (λ v t. IsUInt64 (fit_of fit) v t) 0 bytes.now)
         (each_of step places.now)
-        (record {
-          values = values.old;
-          values_after = values.new;
-          states = states.old;
-          states_after = states.new;
-        }) result }
+        (outputs values.old values.new states.old states.new) result }
 {
     let column_type = UInt64 { fit: fit_of(fit) };
     let places = Places::new(places, step);
@@ -99,21 +90,11 @@ pub extern "C" fn kohiblad_take_decimal_at(
     states: &mut [u8],
 ) -> KohibladTaken
     ensures scale { 255 < scale → (result ≡ not_taken (code Error.InvalidJsonb))
-        × AreKept (record {
-          values = values.old;
-          values_after = values.new;
-          states = states.old;
-          states_after = states.new;
-        }) }
+        × AreKept (outputs values.old values.new states.old states.new) }
     ensures taken { scale ≤ 255 → AreRowsTaken (IsTakenAt (IsInt128 (fit_of fit) scale)
         (record { low = 0; high = pos 0 }) bytes.now)
         (each_of step places.now)
-        (record {
-          values = values.old;
-          values_after = values.new;
-          states = states.old;
-          states_after = states.new;
-        }) result }
+        (outputs values.old values.new states.old states.new) result }
 {
     let Ok(scale) = u8::try_from(scale) else {
         return not_taken(code(Error::InvalidJsonb));
@@ -139,12 +120,7 @@ pub extern "C" fn kohiblad_take_boolean_at(
     states: &mut [u8],
 ) -> KohibladTaken
     ensures { AreRowsTaken (IsTakenAt IsTruth 0 bytes.now) (each_of step places.now)
-        (record {
-          values = values.old;
-          values_after = values.new;
-          states = states.old;
-          states_after = states.new;
-        }) result }
+        (outputs values.old values.new states.old states.new) result }
 {
     let blank = 0;
     let places = Places::new(places, step);
@@ -163,12 +139,7 @@ pub extern "C" fn kohiblad_take_date_at(
     states: &mut [u8],
 ) -> KohibladTaken
     ensures { AreRowsTaken (IsTakenAt IsDate (pos 0) bytes.now) (each_of step places.now)
-        (record {
-          values = values.old;
-          values_after = values.new;
-          states = states.old;
-          states_after = states.new;
-        }) result }
+        (outputs values.old values.new states.old states.new) result }
 {
     let places = Places::new(places, step);
     take_at(bytes, places, &DateNumbers, 0, values, states)
@@ -186,12 +157,7 @@ pub extern "C" fn kohiblad_take_timestamp_at(
     states: &mut [u8],
 ) -> KohibladTaken
     ensures { AreRowsTaken (IsTakenAt IsTimestamp (pos 0) bytes.now) (each_of step places.now)
-        (record {
-          values = values.old;
-          values_after = values.new;
-          states = states.old;
-          states_after = states.new;
-        }) result }
+        (outputs values.old values.new states.old states.new) result }
 {
     let places = Places::new(places, step);
     take_at(bytes, places, &TimestampNumbers, 0, values, states)
@@ -210,12 +176,7 @@ pub extern "C" fn kohiblad_take_timestamp_tz_at(
 ) -> KohibladTaken
     ensures { AreRowsTaken (IsTakenAt IsZonedTimestamp (record { value = pos 0; seconds = pos 0 })
         bytes.now) (each_of step places.now)
-        (record {
-          values = values.old;
-          values_after = values.new;
-          states = states.old;
-          states_after = states.new;
-        }) result }
+        (outputs values.old values.new states.old states.new) result }
 {
     let blank = KohibladTimestampTz {
         value: 0,
@@ -239,12 +200,7 @@ pub extern "C" fn kohiblad_take_interval_at(
     ensures { AreRowsTaken (IsTakenAt IsInterval
         (record { months = pos 0; days = pos 0; micros = pos 0 }) bytes.now)
         (each_of step places.now)
-        (record {
-          values = values.old;
-          values_after = values.new;
-          states = states.old;
-          states_after = states.new;
-        }) result }
+        (outputs values.old values.new states.old states.new) result }
 {
     let blank = KohibladInterval {
         months: 0,

@@ -5,6 +5,7 @@ ghost use Rattle.jsonb_typed.specs.Words.{IsInt64, IsUInt64};
 ghost use Rattle.kohiblad.specs.Taking.{AreKept, AreTaken, IsInt128, IsTakenUnchecked, IsTruth};
 ghost use Rattle.kohiblad.specs.Taking.{fit_of, not_taken};
 ghost use Rattle.kohiblad.specs.Words.{Error, code, meaning_within};
+ghost use Rattle.kohiblad.specs.Taking.{outputs};
 
 use crate::answer::code;
 use crate::taken_types::{Halves, KohibladInt128, TruthBytes};
@@ -34,12 +35,7 @@ pub extern "C" fn kohiblad_take_int64_unchecked(
 ) -> KohibladTaken
     ensures { AreTaken (IsTakenUnchecked (λ v t. IsInt64 (fit_of fit) v t) (pos 0)) bytes.now
         offsets.now (meaning_within depth path.now)
-        (record {
-          values = values.old;
-          values_after = values.new;
-          states = states.old;
-          states_after = states.new;
-        }) result }
+        (outputs values.old values.new states.old states.new) result }
 {
     let column_type = Int64 { fit: fit_of(fit) };
     let source = Source::unchecked(bytes, offsets, path, depth);
@@ -62,12 +58,7 @@ pub extern "C" fn kohiblad_take_uint64_unchecked(
 ) -> KohibladTaken
     ensures { AreTaken (IsTakenUnchecked (λ v t. IsUInt64 (fit_of fit) v t) 0) bytes.now
         offsets.now (meaning_within depth path.now)
-        (record {
-          values = values.old;
-          values_after = values.new;
-          states = states.old;
-          states_after = states.new;
-        }) result }
+        (outputs values.old values.new states.old states.new) result }
 {
     let column_type = UInt64 { fit: fit_of(fit) };
     let source = Source::unchecked(bytes, offsets, path, depth);
@@ -90,21 +81,11 @@ pub extern "C" fn kohiblad_take_decimal_unchecked(
     states: &mut [u8],
 ) -> KohibladTaken
     ensures scale { 255 < scale → (result ≡ not_taken (code Error.InvalidJsonb))
-        × AreKept (record {
-          values = values.old;
-          values_after = values.new;
-          states = states.old;
-          states_after = states.new;
-        }) }
+        × AreKept (outputs values.old values.new states.old states.new) }
     ensures taken { scale ≤ 255 → AreTaken (IsTakenUnchecked (IsInt128 (fit_of fit) scale)
         (record { low = 0; high = pos 0 })) bytes.now offsets.now
         (meaning_within depth path.now)
-        (record {
-          values = values.old;
-          values_after = values.new;
-          states = states.old;
-          states_after = states.new;
-        }) result }
+        (outputs values.old values.new states.old states.new) result }
 {
     let Ok(scale) = u8::try_from(scale) else {
         return not_taken(code(Error::InvalidJsonb));
@@ -133,12 +114,7 @@ pub extern "C" fn kohiblad_take_boolean_unchecked(
 ) -> KohibladTaken
     ensures { AreTaken (IsTakenUnchecked IsTruth 0) bytes.now offsets.now
         (meaning_within depth path.now)
-        (record {
-          values = values.old;
-          values_after = values.new;
-          states = states.old;
-          states_after = states.new;
-        }) result }
+        (outputs values.old values.new states.old states.new) result }
 {
     let source = Source::unchecked(bytes, offsets, path, depth);
     let blank = 0;

@@ -1,7 +1,7 @@
 use Rattle.std.proofs.Common.{◌≡◌, ℕ, pos, rules, subst}
 use Rattle.jsonb.specs.Within.{meaning_within}
 use Rattle.jsonb_typed.specs.declared.numbers.Fit.{Fit}
-use Rattle.kohiblad.specs.Taking.{AreTaken, IsInt128, IsTakenRow, fit_of}
+use Rattle.kohiblad.specs.Taking.{AreTaken, IsInt128, IsTakenRow, fit_of, outputs}
 use Rattle.kohiblad.proofs.taken_types.kohiblad_take_decimal.Goals as goal
 
 pub returns-clause-taken : goal.returns-clause-taken
@@ -11,22 +11,12 @@ returns-clause-taken c = λ small.
     (λ (fit : Fit). AreTaken
     (IsTakenRow (IsInt128 fit c.in-Ok.scale) (record { low = 0; high = pos 0 }) c.args.depth)
     c.args.bytes.now c.args.offsets.now (meaning_within c.args.depth c.args.path.now)
-    (record {
-      values = c.args.values.now;
-      values_after = c.take.new.values;
-      states = c.args.states.now;
-      states_after = c.take.new.states;
-    }) c.take.result)
+    (outputs c.args.values.now c.take.new.values c.args.states.now c.take.new.states) c.take.result)
     c.fit_of-fit.ensures (rw c.checked-source.ensures at c.take.ensures) in
     subst
     (λ (scale : ℕ). AreTaken
     (IsTakenRow (IsInt128 (fit_of c.args.fit) scale) (record { low = 0; high = pos 0 })
     c.args.depth)
     c.args.bytes.now c.args.offsets.now (meaning_within c.args.depth c.args.path.now)
-    (record {
-      values = c.args.values.now;
-      values_after = c.take.new.values;
-      states = c.args.states.now;
-      states_after = c.take.new.states;
-    }) c.take.result)
+    (outputs c.args.values.now c.take.new.values c.args.states.now c.take.new.states) c.take.result)
     scale at_fit

@@ -2,7 +2,7 @@ use Rattle.std.proofs.Common.{◌≡◌, true, length, List, inr, subst, ◌∙�
 use Rattle.jsonb.specs.Within.{meaning_within}
 use Rattle.jsonb_functions.specs.declared.path.Step.{Step}
 use Rattle.kohiblad.specs.Rows.{are_offsets, rows}
-use Rattle.kohiblad.specs.Taking.{AreKept, AreRowsTaken, IsReadRow, not_taken}
+use Rattle.kohiblad.specs.Taking.{AreKept, AreRowsTaken, IsReadRow, not_taken, outputs}
 use Rattle.kohiblad.proofs.OverRowsLaws.{not_refused, same_path}
 use Rattle.kohiblad.proofs.taking.take.Goals as goal
 
@@ -15,23 +15,13 @@ returns-in-Ok-steps_of g c =
       good,
       same_path _
           (λ status. (c.take_rows.result ≡ not_taken status)
-          × AreKept (record {
-            values = c.args.values.now;
-            values_after = c.take_rows.new.values;
-            states = c.args.states.now;
-            states_after = c.take_rows.new.states;
-          }))
+          × AreKept (outputs c.args.values.now c.take_rows.new.values c.args.states.now c.take_rows.new.states))
           _
           (λ path. AreRowsTaken
           (IsReadRow (g.T.ColumnType.stands c.args.column_type.now) c.args.blank source.reading
           path)
           (rows source.bytes.now source.offsets.now)
-          (record {
-            values = c.args.values.now;
-            values_after = c.take_rows.new.values;
-            states = c.args.states.now;
-            states_after = c.take_rows.new.states;
-          }) c.take_rows.result)
+          (outputs c.args.values.now c.take_rows.new.values c.args.states.now c.take_rows.new.states) c.take_rows.result)
           (λ status refused. absurd (not_refused c.in-Ok-steps_of.steps status refused))
           (λ path is.
           subst
@@ -39,12 +29,7 @@ returns-in-Ok-steps_of g c =
           (IsReadRow (g.T.ColumnType.stands c.args.column_type.now) c.args.blank source.reading
           path)
           (rows source.bytes.now source.offsets.now)
-          (record {
-            values = c.args.values.now;
-            values_after = c.take_rows.new.values;
-            states = c.args.states.now;
-            states_after = c.take_rows.new.states;
-          }) c.take_rows.result)
+          (outputs c.args.values.now c.take_rows.new.values c.args.states.now c.take_rows.new.states) c.take_rows.result)
           (c.deref.ensures.value ∙ is) (rw all at c.take_rows.ensures))
           (meaning_within source.depth source.path.now) c.in-Ok-steps_of.ensures,
     )

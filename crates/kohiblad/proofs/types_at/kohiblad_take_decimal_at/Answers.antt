@@ -1,7 +1,7 @@
 use Rattle.std.proofs.Common.{◌≡◌, ℕ, pos, rules, subst}
 use Rattle.jsonb_typed.specs.declared.numbers.Fit.{Fit}
 use Rattle.kohiblad.specs.Located.{IsTakenAt, each_of}
-use Rattle.kohiblad.specs.Taking.{AreRowsTaken, IsInt128, fit_of}
+use Rattle.kohiblad.specs.Taking.{AreRowsTaken, IsInt128, fit_of, outputs}
 use Rattle.kohiblad.proofs.types_at.kohiblad_take_decimal_at.Goals as goal
 
 pub returns-clause-taken : goal.returns-clause-taken
@@ -11,22 +11,12 @@ returns-clause-taken c = λ small.
     (λ (fit : Fit). AreRowsTaken
     (IsTakenAt (IsInt128 fit c.in-Ok.scale) (record { low = 0; high = pos 0 }) c.args.bytes.now)
     (each_of c.args.step c.args.places.now)
-    (record {
-      values = c.args.values.now;
-      values_after = c.take_at.new.values;
-      states = c.args.states.now;
-      states_after = c.take_at.new.states;
-    }) c.take_at.result)
+    (outputs c.args.values.now c.take_at.new.values c.args.states.now c.take_at.new.states) c.take_at.result)
     c.fit_of-fit.ensures (rw c.new-places.ensures at c.take_at.ensures) in
     subst
     (λ (scale : ℕ). AreRowsTaken
     (IsTakenAt (IsInt128 (fit_of c.args.fit) scale) (record { low = 0; high = pos 0 })
     c.args.bytes.now)
     (each_of c.args.step c.args.places.now)
-    (record {
-      values = c.args.values.now;
-      values_after = c.take_at.new.values;
-      states = c.args.states.now;
-      states_after = c.take_at.new.states;
-    }) c.take_at.result)
+    (outputs c.args.values.now c.take_at.new.values c.args.states.now c.take_at.new.states) c.take_at.result)
     scale at_fit
