@@ -1,6 +1,7 @@
 pub mod Cells
 pub mod LeastTypes
 pub mod Numbers
+pub mod ScalarLaws
 pub mod Scalars
 pub mod Surveys
 pub mod TypeNames

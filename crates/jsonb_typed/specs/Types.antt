@@ -2,8 +2,13 @@
 use Rattle.std.specs.Prelude.{◌≡◌, ◌<◌, ◌^◌, List, ℕ, ℤ, pos, FitsSigned, Option, None, Some}
 use Rattle.std.specs.Int.{w64, w128}
 use Rattle.jsonb_value.specs.Tree.{Tree, number, text, extension, binary}
+use Rattle.jsonb.specs.Node.{IsContainer}
 use Rattle.jsonb_typed.specs.declared.numbers.Fit.{Fit}
 use Rattle.jsonb_typed.specs.Numbers.{IsNumberAt}
+
+-- No value stands for an array or object.
+abbrev pub HoldsScalars : {V : Type 0} → (V → Tree → Type 0) → Type 0
+HoldsScalars {V = V} Stands = (v : V) (t : Tree) → IsContainer t → Stands v t → ⊥
 
 -- The value / 10^scale is this member, a number, as the fit says.
 abbrev pub IsNumber : Fit → ℕ → ℤ → Tree → Type 0

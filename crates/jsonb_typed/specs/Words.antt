@@ -19,8 +19,9 @@ pub use Rattle.typed_vector.specs.Cells.{Cell, rest_cell}
 pub use Rattle.jsonb_typed.specs.Cells.{HasCell, IsCellAt, IsCellOf, IsCellOfRow}
 pub use Rattle.jsonb_typed.specs.Numbers.{IsNumberAt}
 pub use Rattle.jsonb_typed.specs.Types.{IsBinary, IsDecimal, IsInt64, IsNumber, IsText, IsUInt64}
-pub use Rattle.jsonb_typed.specs.Types.{extension_tree}
+pub use Rattle.jsonb_typed.specs.Types.{HoldsScalars, extension_tree}
 pub use Rattle.jsonb_typed.specs.Scalars.{IsScalar, ScalarOf, Stands, type_bytes}
+pub use Rattle.jsonb_typed.specs.ScalarLaws.{scalar_boolean, scalar_extension, scalar_number}
 pub use Rattle.jsonb_typed.specs.LeastTypes.{IsFirstHeld, IsHeld, IsHeldAt, IsValueOf}
 pub use Rattle.jsonb_typed.specs.LeastTypes.{greatest_scale, member_scale, types_in_order}
 pub use Rattle.jsonb_typed.specs.TypeNames.{IsScale, IsType, ends_word, scale_of_digits}

@@ -1,10 +1,11 @@
 //! The types of columns.
 
-ghost use Rattle.std.specs.Prelude.{◌≡◌, ◌↔◌, ℤ, Some, FitsSigned, option_map};
+ghost use Rattle.std.specs.Prelude.{◌≡◌, ◌↔◌, ℤ, Some, FitsSigned, false, option_map, pos};
 ghost use Rattle.jsonb_typed.specs.Words.{w128, node_tree, HoldsNoScalar, IsNumber, IsInt64};
 ghost use Rattle.jsonb_typed.specs.Words.{IsUInt64, IsDecimal, boolean, extension, date};
 ghost use Rattle.jsonb_typed.specs.Words.{timestamp, timestamp_tz, interval, extension_of};
-ghost use Rattle.jsonb_typed.specs.Words.{extension_tree};
+ghost use Rattle.jsonb_typed.specs.Words.{extension_tree, scalar_boolean, scalar_extension};
+ghost use Rattle.jsonb_typed.specs.Words.{scalar_number};
 
 use crate::column_type::ColumnType;
 use crate::numbers::{Fit, value_at_scale};
@@ -20,6 +21,10 @@ impl ColumnType for Int64 {
     type Value = i64;
 
     ghost stands = { λ s v t. IsInt64 s.fit v t };
+
+    ghost scalars = { λ s v t is stands. scalar_number s.fit 0 v t is stands.1 };
+
+    ghost blank = { λ s. pos 0 };
 
     fn blank(&self) -> i64 {
         0
@@ -41,6 +46,10 @@ impl ColumnType for UInt64 {
     type Value = u64;
 
     ghost stands = { λ s v t. IsUInt64 s.fit v t };
+
+    ghost scalars = { λ s v t is stands. scalar_number s.fit 0 (pos v) t is stands.1 };
+
+    ghost blank = { λ s. 0 };
 
     fn blank(&self) -> u64 {
         0
@@ -64,6 +73,10 @@ impl ColumnType for Decimal {
 
     ghost stands = { λ s v t. IsDecimal s.fit s.scale v t };
 
+    ghost scalars = { λ s v t is stands. scalar_number s.fit s.scale v t is stands.1 };
+
+    ghost blank = { λ s. pos 0 };
+
     fn blank(&self) -> i128 {
         0
     }
@@ -82,6 +95,10 @@ impl ColumnType for Boolean {
     type Value = bool;
 
     ghost stands = { λ s v t. t ≡ boolean v };
+
+    ghost scalars = { λ s v t. scalar_boolean v t };
+
+    ghost blank = { λ s. false };
 
     fn blank(&self) -> bool {
         false
@@ -104,6 +121,10 @@ impl ColumnType for Dates {
 
     ghost stands = { λ s v t. t ≡ extension (date v) };
 
+    ghost scalars = { λ s v t. scalar_extension (date v) t };
+
+    ghost blank = { λ s. record { value = pos 0 } };
+
     fn blank(&self) -> Date {
         Date { value: 0 }
     }
@@ -125,6 +146,10 @@ impl ColumnType for Timestamps {
 
     ghost stands = { λ s v t. t ≡ extension (timestamp v) };
 
+    ghost scalars = { λ s v t. scalar_extension (timestamp v) t };
+
+    ghost blank = { λ s. record { value = pos 0 } };
+
     fn blank(&self) -> Timestamp {
         Timestamp { value: 0 }
     }
@@ -145,6 +170,10 @@ impl ColumnType for ZonedTimestamps {
     type Value = TimestampTz;
 
     ghost stands = { λ s v t. t ≡ extension (timestamp_tz v) };
+
+    ghost scalars = { λ s v t. scalar_extension (timestamp_tz v) t };
+
+    ghost blank = { λ s. record { offset = pos 0; value = pos 0 } };
 
     fn blank(&self) -> TimestampTz {
         TimestampTz {
@@ -170,6 +199,10 @@ impl ColumnType for Intervals {
 
     ghost stands = { λ s v t. t ≡ extension (interval v) };
 
+    ghost scalars = { λ s v t. scalar_extension (interval v) t };
+
+    ghost blank = { λ s. record { months = pos 0; days = pos 0; micros = pos 0 } };
+
     fn blank(&self) -> Interval {
         Interval {
             months: 0,
@@ -194,6 +227,10 @@ impl ColumnType for Nothing {
     type Value = ();
 
     ghost stands = { λ s v t. ⊥ };
+
+    ghost scalars = { λ s v t is stands. stands };
+
+    ghost blank = { λ s. tt };
 
     fn blank(&self) {}
 

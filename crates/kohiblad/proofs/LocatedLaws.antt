@@ -11,12 +11,13 @@ use Rattle.jsonb.specs.Node.{node_tree}
 use Rattle.jsonb.specs.declared.node.Node.{Node}
 use Rattle.typed_vector.specs.Cells.{Cell, absent, value, other}
 use Rattle.jsonb_typed.specs.Surveys.{member_cell}
+use Rattle.jsonb_typed.specs.Types.{HoldsScalars}
 use Rattle.kohiblad.specs.declared.places.KohibladPlace.{KohibladPlace}
 use Rattle.kohiblad.specs.Located.{HoldsNone, IsCellRead, IsNowhere, IsPayloadRead, IsPlaceOf}
 use Rattle.kohiblad.specs.Located.{IsTakenAt, IsThere, each_after, each_of, entry_state}
 use Rattle.kohiblad.specs.Located.{place_state}
 use Rattle.kohiblad.specs.Status.{none}
-use Rattle.kohiblad.specs.Taking.{HoldsScalars, IsSomeTaken, IsTakenCell}
+use Rattle.kohiblad.specs.Taking.{IsSomeTaken, IsTakenCell}
 use Rattle.kohiblad.proofs.UncheckedLaws.{known_state, some_taken, state_found}
 
 -- The elements after some are those of what is left after these.

@@ -24,8 +24,7 @@ use Rattle.jsonb_functions.specs.Found.{found_at, if_there}
 use Rattle.jsonb_functions.specs.declared.path.Step.{Step}
 use Rattle.jsonb_functions.specs.declared.path.Step.TheVariants.{Key}
 use Rattle.jsonb_typed.specs.Surveys.{member_cell}
-use Rattle.jsonb_typed.specs.Types.{IsBinary, IsInt64, IsText, IsUInt64}
-use Rattle.jsonb_typed.specs.declared.numbers.Fit.{Fit}
+use Rattle.jsonb_typed.specs.Types.{HoldsScalars, IsBinary, IsText}
 use Rattle.jsonb_typed.proofs.DocumentLaws as typed
 use Rattle.typed_vector.specs.Cells.{value}
 use Rattle.jsonb_functions.specs.PathPlaces.{HoldsFound, path_place_in, whole_place}
@@ -34,9 +33,7 @@ use Rattle.kohiblad.specs.declared.taken_texts.BytesType.{BytesType}
 use Rattle.kohiblad.specs.declared.taken_texts.BytesType.TheVariants as bytes_types
 use Rattle.jsonb.specs.Prefix.{is_name}
 use Rattle.kohiblad.specs.Places.{IsValuePlace}
-use Rattle.kohiblad.specs.Taking.{HoldsScalars, IsSomeTaken, IsTakenCell, IsTakenUnchecked}
-use Rattle.kohiblad.specs.Taking.{IsDate, IsInt128, IsInterval, IsTimestamp, IsTruth}
-use Rattle.kohiblad.specs.Taking.{IsZonedTimestamp}
+use Rattle.kohiblad.specs.Taking.{IsSomeTaken, IsTakenCell, IsTakenUnchecked}
 use Rattle.kohiblad.specs.TakenTexts.{IsBytes}
 use Rattle.kohiblad.specs.UncheckedRows.{IsReadAs}
 use Rattle.kohiblad.proofs.ScalarReads.{number_read}
@@ -264,38 +261,3 @@ scalar_binaries s t is same =
 pub scalar_bytes : (bytes_type : BytesType) → HoldsScalars (IsBytes bytes_type)
 scalar_bytes bytes_types.Text = scalar_texts
 scalar_bytes bytes_types.Binary = scalar_binaries
-
-pub scalar_int64s : (fit : Fit) → HoldsScalars (λ v t. IsInt64 fit v t)
-scalar_int64s fit v t is stands =
-    container_cases (λ (u : Tree). IsInt64 fit v u → ⊥) t is (λ ts h. h.1) (λ ps h. h.1) stands
-
-pub scalar_uint64s : (fit : Fit) → HoldsScalars (λ n t. IsUInt64 fit n t)
-scalar_uint64s fit n t is stands =
-    container_cases (λ (u : Tree). IsUInt64 fit n u → ⊥) t is (λ ts h. h.1) (λ ps h. h.1) stands
-
-pub scalar_int128s : (fit : Fit) (scale : ℕ) → HoldsScalars (IsInt128 fit scale)
-scalar_int128s fit scale v t is stands =
-    container_cases (λ (u : Tree). IsInt128 fit scale v u → ⊥) t is (λ ts h. h.1) (λ ps h. h.1)
-    stands
-
-pub scalar_truths : HoldsScalars IsTruth
-scalar_truths v t is (b, (truth, same)) =
-    container_cases (λ (u : Tree). u ≡ trees.boolean b → ⊥) t is (λ ts other. cc) (λ ps other. cc)
-    same
-
-pub scalar_dates : HoldsScalars IsDate
-scalar_dates v t is same =
-    container_cases (λ (u : Tree). IsDate v u → ⊥) t is (λ ts other. cc) (λ ps other. cc) same
-
-pub scalar_timestamps : HoldsScalars IsTimestamp
-scalar_timestamps v t is same =
-    container_cases (λ (u : Tree). IsTimestamp v u → ⊥) t is (λ ts other. cc) (λ ps other. cc) same
-
-pub scalar_zoned_timestamps : HoldsScalars IsZonedTimestamp
-scalar_zoned_timestamps v t is same =
-    container_cases (λ (u : Tree). IsZonedTimestamp v u → ⊥) t is (λ ts other. cc)
-    (λ ps other. cc) same
-
-pub scalar_intervals : HoldsScalars IsInterval
-scalar_intervals v t is same =
-    container_cases (λ (u : Tree). IsInterval v u → ⊥) t is (λ ts other. cc) (λ ps other. cc) same

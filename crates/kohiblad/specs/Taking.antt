@@ -7,7 +7,6 @@ use Rattle.jsonb_value.specs.Meaning.{Meaning}
 use Rattle.jsonb_value.specs.Tree as trees
 use Rattle.jsonb_value.specs.Tree.{Tree}
 use Rattle.jsonb_codec.specs.Doc.{Doc}
-use Rattle.jsonb.specs.Node.{IsContainer}
 use Rattle.jsonb_functions.specs.Found.{found_at}
 use Rattle.jsonb_functions.specs.declared.path.Step.{Step}
 use Rattle.typed_vector.specs.Cells.{Cell, absent, value, other}
@@ -69,10 +68,6 @@ abbrev pub IsReadRow : {V : Type 0} → (V → Tree → Type 0) → V → Readin
 IsReadRow Stands blank (Checked depth) path row taken =
     IsTakenRow Stands blank depth path row taken
 IsReadRow Stands blank Unchecked path row taken = IsTakenUnchecked Stands blank path row taken
-
--- No value stands for an array or object.
-abbrev pub HoldsScalars : {V : Type 0} → (V → Tree → Type 0) → Type 0
-HoldsScalars {V = V} Stands = (v : V) (t : Tree) → IsContainer t → Stands v t → ⊥
 
 -- The values that are written for rows, and their states.
 abbrev pub values_of : {V : Type 0} → List (V × ℕ) → List V

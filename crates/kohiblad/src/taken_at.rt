@@ -1,8 +1,9 @@
 //! Values at the places of members, written to the caller's buffers.
 
 ghost use Rattle.std.specs.Prelude.{◌≡◌, ◌≤◌, ℕ, List, length, map};
+ghost use Rattle.jsonb_typed.specs.Words.{HoldsScalars};
 ghost use Rattle.kohiblad.specs.Located.{IsTakenAt};
-ghost use Rattle.kohiblad.specs.Taking.{AreRowsPut, AreRowsTaken, HoldsScalars, taken_answer};
+ghost use Rattle.kohiblad.specs.Taking.{AreRowsPut, AreRowsTaken, taken_answer};
 ghost use Rattle.kohiblad.specs.Taking.{outputs};
 
 use crate::answer::NO_ROOM;
@@ -14,6 +15,28 @@ use jsonb_typed::ColumnType;
 /// Takes the members at places as values of a type, and writes them and the states of their rows to
 /// the buffers.
 pub fn take_at<T: ColumnType>(
+    bytes: &[u8],
+    places: Places<'_>,
+    column_type: &T,
+    values: &mut [T::Value],
+    states: &mut [u8],
+) -> KohibladTaken
+    ensures { AreRowsTaken (IsTakenAt (T.stands column_type.now) (T.blank column_type.now)
+        bytes.now) places.entry
+        (outputs values.old values.new states.old states.new) result }
+{
+    take_places(
+        bytes,
+        places,
+        column_type,
+        column_type.blank(),
+        values,
+        states,
+    )
+}
+
+// Takes the members at the places, if the buffers have room for them.
+fn take_places<T: ColumnType>(
     bytes: &[u8],
     places: Places<'_>,
     column_type: &T,

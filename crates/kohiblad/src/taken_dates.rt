@@ -1,6 +1,7 @@
 //! The calls that take the members of rows as dates.
 
 ghost use Rattle.std.specs.Prelude.{◌≡◌, pos};
+ghost use Rattle.jsonb_typed.specs.Words.{date, scalar_extension};
 ghost use Rattle.kohiblad.specs.Taking.{AreTaken, IsDate, IsTakenRow, IsTakenUnchecked};
 ghost use Rattle.kohiblad.specs.Words.{meaning_within};
 ghost use Rattle.kohiblad.specs.Taking.{outputs};
@@ -13,7 +14,6 @@ use std::alloc::Global;
 /// Takes the members of rows at the end of a path as dates, each the number that is stored for it.
 /// The format does not say what it counts; writers store the days since 1970. All else is as
 /// `kohiblad_take_int64` has it.
-#[tactic(auto, using(crate::proofs::UncheckedLaws::scalar_dates))]
 #[unsafe(no_mangle)]
 pub extern "C" fn kohiblad_take_date(
     alloc: Global,
@@ -29,12 +29,11 @@ pub extern "C" fn kohiblad_take_date(
         (outputs values.old values.new states.old states.new) result }
 {
     let source = Source::checked(bytes, offsets, path, depth);
-    take(alloc, source, &DateNumbers, 0, values, states)
+    take(alloc, source, &DateNumbers, values, states)
 }
 
 /// Takes the members of rows at the end of a path as dates, as `kohiblad_take_date` has them,
 /// without checking the rows. All else is as `kohiblad_take_int64_unchecked` has it.
-#[tactic(auto, using(crate::proofs::UncheckedLaws::scalar_dates))]
 #[unsafe(no_mangle)]
 pub extern "C" fn kohiblad_take_date_unchecked(
     alloc: Global,
@@ -50,7 +49,7 @@ pub extern "C" fn kohiblad_take_date_unchecked(
         (outputs values.old values.new states.old states.new) result }
 {
     let source = Source::unchecked(bytes, offsets, path, depth);
-    take(alloc, source, &DateNumbers, 0, values, states)
+    take(alloc, source, &DateNumbers, values, states)
 }
 
 /// Dates as their numbers.
@@ -61,6 +60,10 @@ impl ColumnType for DateNumbers {
     type Value = i32;
 
     ghost stands = { λ s v t. IsDate v t };
+
+    ghost scalars = { λ s v t. scalar_extension (date (record { value = v })) t };
+
+    ghost blank = { λ s. pos 0 };
 
     fn blank(&self) -> i32 {
         0

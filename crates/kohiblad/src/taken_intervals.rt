@@ -1,6 +1,7 @@
 //! The calls that take the members of rows as intervals.
 
 ghost use Rattle.std.specs.Prelude.{◌≡◌, pos};
+ghost use Rattle.jsonb_typed.specs.Words.{interval, scalar_extension};
 ghost use Rattle.kohiblad.specs.Taking.{AreTaken, IsInterval, IsTakenRow, IsTakenUnchecked};
 ghost use Rattle.kohiblad.specs.Words.{meaning_within};
 ghost use Rattle.kohiblad.specs.Taking.{outputs};
@@ -22,7 +23,6 @@ pub struct KohibladInterval {
 /// Takes the members of rows at the end of a path as intervals, each the three numbers that are
 /// stored for it. All else is as `kohiblad_take_int64` has it, and a blank value is 0 in all three
 /// fields.
-#[tactic(auto, using(crate::proofs::UncheckedLaws::scalar_intervals))]
 #[unsafe(no_mangle)]
 pub extern "C" fn kohiblad_take_interval(
     alloc: Global,
@@ -38,18 +38,12 @@ pub extern "C" fn kohiblad_take_interval(
         (meaning_within depth path.now)
         (outputs values.old values.new states.old states.new) result }
 {
-    let blank = KohibladInterval {
-        months: 0,
-        days: 0,
-        micros: 0,
-    };
     let source = Source::checked(bytes, offsets, path, depth);
-    take(alloc, source, &IntervalNumbers, blank, values, states)
+    take(alloc, source, &IntervalNumbers, values, states)
 }
 
 /// Takes the members of rows at the end of a path as intervals, as `kohiblad_take_interval` has
 /// them, without checking the rows. All else is as `kohiblad_take_int64_unchecked` has it.
-#[tactic(auto, using(crate::proofs::UncheckedLaws::scalar_intervals))]
 #[unsafe(no_mangle)]
 pub extern "C" fn kohiblad_take_interval_unchecked(
     alloc: Global,
@@ -65,13 +59,8 @@ pub extern "C" fn kohiblad_take_interval_unchecked(
         (meaning_within depth path.now)
         (outputs values.old values.new states.old states.new) result }
 {
-    let blank = KohibladInterval {
-        months: 0,
-        days: 0,
-        micros: 0,
-    };
     let source = Source::unchecked(bytes, offsets, path, depth);
-    take(alloc, source, &IntervalNumbers, blank, values, states)
+    take(alloc, source, &IntervalNumbers, values, states)
 }
 
 /// Intervals as their numbers.
@@ -82,6 +71,11 @@ impl ColumnType for IntervalNumbers {
     type Value = KohibladInterval;
 
     ghost stands = { λ s v t. IsInterval v t };
+
+    ghost scalars = { λ s v t. scalar_extension
+        (interval (record { months = v.months; days = v.days; micros = v.micros })) t };
+
+    ghost blank = { λ s. record { months = pos 0; days = pos 0; micros = pos 0 } };
 
     fn blank(&self) -> KohibladInterval {
         KohibladInterval {

@@ -1,6 +1,7 @@
 //! The calls that take the members of rows as timestamps.
 
 ghost use Rattle.std.specs.Prelude.{◌≡◌, pos};
+ghost use Rattle.jsonb_typed.specs.Words.{scalar_extension, timestamp};
 ghost use Rattle.kohiblad.specs.Taking.{AreTaken, IsTakenRow, IsTakenUnchecked, IsTimestamp};
 ghost use Rattle.kohiblad.specs.Words.{meaning_within};
 ghost use Rattle.kohiblad.specs.Taking.{outputs};
@@ -13,7 +14,6 @@ use std::alloc::Global;
 /// Takes the members of rows at the end of a path as timestamps without a time zone, each the
 /// number that is stored for it. The format does not say what it counts; writers store the
 /// microseconds since 1970. All else is as `kohiblad_take_int64` has it.
-#[tactic(auto, using(crate::proofs::UncheckedLaws::scalar_timestamps))]
 #[unsafe(no_mangle)]
 pub extern "C" fn kohiblad_take_timestamp(
     alloc: Global,
@@ -29,12 +29,11 @@ pub extern "C" fn kohiblad_take_timestamp(
         (outputs values.old values.new states.old states.new) result }
 {
     let source = Source::checked(bytes, offsets, path, depth);
-    take(alloc, source, &TimestampNumbers, 0, values, states)
+    take(alloc, source, &TimestampNumbers, values, states)
 }
 
 /// Takes the members of rows at the end of a path as timestamps, as `kohiblad_take_timestamp` has
 /// them, without checking the rows. All else is as `kohiblad_take_int64_unchecked` has it.
-#[tactic(auto, using(crate::proofs::UncheckedLaws::scalar_timestamps))]
 #[unsafe(no_mangle)]
 pub extern "C" fn kohiblad_take_timestamp_unchecked(
     alloc: Global,
@@ -50,7 +49,7 @@ pub extern "C" fn kohiblad_take_timestamp_unchecked(
         (outputs values.old values.new states.old states.new) result }
 {
     let source = Source::unchecked(bytes, offsets, path, depth);
-    take(alloc, source, &TimestampNumbers, 0, values, states)
+    take(alloc, source, &TimestampNumbers, values, states)
 }
 
 /// Timestamps as their numbers.
@@ -61,6 +60,10 @@ impl ColumnType for TimestampNumbers {
     type Value = i64;
 
     ghost stands = { λ s v t. IsTimestamp v t };
+
+    ghost scalars = { λ s v t. scalar_extension (timestamp (record { value = v })) t };
+
+    ghost blank = { λ s. pos 0 };
 
     fn blank(&self) -> i64 {
         0

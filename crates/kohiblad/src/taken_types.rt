@@ -4,7 +4,8 @@ ghost use Rattle.std.specs.Prelude.{◌≡◌, ◌<◌, ◌≤◌, ◌^◌, Some
 ghost use Rattle.std.specs.Cmp.{int_cmp_total, int_eq_equiv, on_equiv, on_per, on_po, on_total};
 ghost use Rattle.std.specs.Cmp.{partial_equiv_from_equiv, signed_po};
 ghost use Rattle.std.specs.Ordering.{int_cmp, int_eq, on};
-ghost use Rattle.jsonb_typed.specs.Words.{IsInt64, IsUInt64, node_tree};
+ghost use Rattle.jsonb_typed.specs.Words.{IsInt64, IsUInt64, node_tree, scalar_boolean};
+ghost use Rattle.jsonb_typed.specs.Words.{scalar_number};
 ghost use Rattle.kohiblad.specs.Taking.{AreKept, AreTaken, IsInt128, IsTakenRow, IsTruth};
 ghost use Rattle.kohiblad.specs.Taking.{fit_of, int128_whole, not_taken};
 ghost use Rattle.kohiblad.specs.Words.{Error, code, from_halves, meaning_within};
@@ -88,7 +89,6 @@ impl Ord for KohibladInt128 {
 /// `values` or `states` has fewer places than there are rows. If the status is not `OK`, `values`
 /// and `states` are unchanged, and the counts are 0. A scalar has depth 0, an array or object one
 /// more than its deepest child, and at least 1. Deeper levels are not examined.
-#[tactic(auto, using(crate::proofs::UncheckedLaws::scalar_int64s))]
 #[unsafe(no_mangle)]
 pub extern "C" fn kohiblad_take_int64(
     alloc: Global,
@@ -106,12 +106,11 @@ pub extern "C" fn kohiblad_take_int64(
 {
     let column_type = Int64 { fit: fit_of(fit) };
     let source = Source::checked(bytes, offsets, path, depth);
-    take(alloc, source, &column_type, 0, values, states)
+    take(alloc, source, &column_type, values, states)
 }
 
 /// Takes the members of rows at the end of a path as whole numbers of 64 bits without a sign. All
 /// else is as `kohiblad_take_int64` has it.
-#[tactic(auto, using(crate::proofs::UncheckedLaws::scalar_uint64s))]
 #[unsafe(no_mangle)]
 pub extern "C" fn kohiblad_take_uint64(
     alloc: Global,
@@ -129,7 +128,7 @@ pub extern "C" fn kohiblad_take_uint64(
 {
     let column_type = UInt64 { fit: fit_of(fit) };
     let source = Source::checked(bytes, offsets, path, depth);
-    take(alloc, source, &column_type, 0, values, states)
+    take(alloc, source, &column_type, values, states)
 }
 
 /// Takes the members of rows at the end of a path as decimals with `scale` digits after the point,
@@ -138,7 +137,6 @@ pub extern "C" fn kohiblad_take_uint64(
 /// digits have in a JSON text, with as many of them after the point: 1.50, and not 1.5.
 /// `InvalidJsonb` also, before all others, if the scale is above 255. All else is as
 /// `kohiblad_take_int64` has it.
-#[tactic(auto, using(crate::proofs::UncheckedLaws::scalar_int128s))]
 #[unsafe(no_mangle)]
 pub extern "C" fn kohiblad_take_decimal(
     alloc: Global,
@@ -165,9 +163,8 @@ pub extern "C" fn kohiblad_take_decimal(
     let column_type = Halves {
         decimal: Decimal { scale, fit },
     };
-    let blank = KohibladInt128 { low: 0, high: 0 };
     let source = Source::checked(bytes, offsets, path, depth);
-    take(alloc, source, &column_type, blank, values, states)
+    take(alloc, source, &column_type, values, states)
 }
 
 /// Decimals in two halves.
@@ -181,8 +178,13 @@ impl ColumnType for Halves {
 
     ghost stands = { λ s v t. IsInt128 s.decimal.fit s.decimal.scale v t };
 
+    ghost scalars = { λ s v t is stands.
+        scalar_number s.decimal.fit s.decimal.scale (int128_whole v) t is stands.1 };
+
+    ghost blank = { λ s. record { low = 0; high = pos 0 } };
+
     fn blank(&self) -> KohibladInt128 {
-        halves_of(self.decimal.blank())
+        KohibladInt128 { low: 0, high: 0 }
     }
 
     fn value_of(&self, member: Node<'_>) -> Option<KohibladInt128> {
@@ -206,7 +208,6 @@ fn halves_of(value: i128) -> KohibladInt128
 
 /// Takes the members of rows at the end of a path as truth values, 0 or 1. All else is as
 /// `kohiblad_take_int64` has it.
-#[tactic(auto, using(crate::proofs::UncheckedLaws::scalar_truths))]
 #[unsafe(no_mangle)]
 pub extern "C" fn kohiblad_take_boolean(
     alloc: Global,
@@ -221,9 +222,8 @@ pub extern "C" fn kohiblad_take_boolean(
         (meaning_within depth path.now)
         (outputs values.old values.new states.old states.new) result }
 {
-    let blank = 0;
     let source = Source::checked(bytes, offsets, path, depth);
-    take(alloc, source, &TruthBytes, blank, values, states)
+    take(alloc, source, &TruthBytes, values, states)
 }
 
 /// Truth values as bytes.
@@ -234,6 +234,10 @@ impl ColumnType for TruthBytes {
     type Value = u8;
 
     ghost stands = { λ s v t. IsTruth v t };
+
+    ghost scalars = { λ s v t is stands. scalar_boolean stands.0 t is stands.1.1 };
+
+    ghost blank = { λ s. 0 };
 
     fn blank(&self) -> u8 {
         0

@@ -1,6 +1,7 @@
 //! The calls that take the members of rows as timestamps with a time zone.
 
 ghost use Rattle.std.specs.Prelude.{◌≡◌, pos};
+ghost use Rattle.jsonb_typed.specs.Words.{scalar_extension, timestamp_tz};
 ghost use Rattle.kohiblad.specs.Taking.{AreTaken, IsTakenRow, IsTakenUnchecked, IsZonedTimestamp};
 ghost use Rattle.kohiblad.specs.Words.{meaning_within};
 ghost use Rattle.kohiblad.specs.Taking.{outputs};
@@ -23,7 +24,6 @@ pub struct KohibladTimestampTz {
 /// that is stored for it and the offset of its zone in seconds. The format does not say what the
 /// number counts; writers store the microseconds since 1970 in UTC. All else is as
 /// `kohiblad_take_int64` has it, and a blank value is 0 in both fields.
-#[tactic(auto, using(crate::proofs::UncheckedLaws::scalar_zoned_timestamps))]
 #[unsafe(no_mangle)]
 pub extern "C" fn kohiblad_take_timestamp_tz(
     alloc: Global,
@@ -38,18 +38,13 @@ pub extern "C" fn kohiblad_take_timestamp_tz(
         depth) bytes.now offsets.now (meaning_within depth path.now)
         (outputs values.old values.new states.old states.new) result }
 {
-    let blank = KohibladTimestampTz {
-        value: 0,
-        seconds: 0,
-    };
     let source = Source::checked(bytes, offsets, path, depth);
-    take(alloc, source, &ZonedNumbers, blank, values, states)
+    take(alloc, source, &ZonedNumbers, values, states)
 }
 
 /// Takes the members of rows at the end of a path as timestamps with a time zone, as
 /// `kohiblad_take_timestamp_tz` has them, without checking the rows. All else is as
 /// `kohiblad_take_int64_unchecked` has it.
-#[tactic(auto, using(crate::proofs::UncheckedLaws::scalar_zoned_timestamps))]
 #[unsafe(no_mangle)]
 pub extern "C" fn kohiblad_take_timestamp_tz_unchecked(
     alloc: Global,
@@ -65,12 +60,8 @@ pub extern "C" fn kohiblad_take_timestamp_tz_unchecked(
         (meaning_within depth path.now)
         (outputs values.old values.new states.old states.new) result }
 {
-    let blank = KohibladTimestampTz {
-        value: 0,
-        seconds: 0,
-    };
     let source = Source::unchecked(bytes, offsets, path, depth);
-    take(alloc, source, &ZonedNumbers, blank, values, states)
+    take(alloc, source, &ZonedNumbers, values, states)
 }
 
 /// Timestamps with a time zone as their numbers.
@@ -81,6 +72,11 @@ impl ColumnType for ZonedNumbers {
     type Value = KohibladTimestampTz;
 
     ghost stands = { λ s v t. IsZonedTimestamp v t };
+
+    ghost scalars = { λ s v t.
+        scalar_extension (timestamp_tz (record { offset = v.seconds; value = v.value })) t };
+
+    ghost blank = { λ s. record { value = pos 0; seconds = pos 0 } };
 
     fn blank(&self) -> KohibladTimestampTz {
         KohibladTimestampTz {

@@ -4,10 +4,10 @@ ghost use Rattle.std.specs.Prelude.{◌≡◌, ◌≤◌, ℕ, IfSome, List, Som
 ghost use Rattle.std.specs.Prelude.{option_map};
 ghost use Rattle.jsonb_codec.specs.declared.constants.TheConstants.{NUMBER_TAG};
 ghost use Rattle.jsonb_functions.specs.Found.{found_at};
-ghost use Rattle.jsonb_typed.specs.Words.{HoldsNoScalar, member_cell};
+ghost use Rattle.jsonb_typed.specs.Words.{HoldsNoScalar, HoldsScalars, member_cell};
 ghost use Rattle.kohiblad.specs.Located.{entry_state};
-ghost use Rattle.kohiblad.specs.Taking.{AreRowsPut, AreRowsTaken, AreTaken, HoldsScalars};
-ghost use Rattle.kohiblad.specs.Taking.{IsReadRow, IsSomeTaken, IsTakenCell, IsTakenRow};
+ghost use Rattle.kohiblad.specs.Taking.{AreRowsPut, AreRowsTaken, AreTaken, IsReadRow};
+ghost use Rattle.kohiblad.specs.Taking.{IsSomeTaken, IsTakenCell, IsTakenRow};
 ghost use Rattle.kohiblad.specs.Taking.{IsTakenUnchecked, bytes_state, first_unfit, fit_of};
 ghost use Rattle.kohiblad.specs.Taking.{not_taken, taken_answer, tree_state, unfit_count};
 ghost use Rattle.kohiblad.specs.Words.{IsPayloadOf, Tree, document_tree, meaning_within, node_tree};
@@ -114,12 +114,11 @@ pub fn take<T: ColumnType>(
     alloc: Global,
     source: Source<'_>,
     column_type: &T,
-    blank: T::Value,
     values: &mut [T::Value],
     states: &mut [u8],
 ) -> KohibladTaken
-    requires { HoldsScalars (T.stands column_type.now) }
-    ensures { AreTaken (IsReadRow (T.stands column_type.now) blank source.entry.reading)
+    ensures { AreTaken (IsReadRow (T.stands column_type.now) (T.blank column_type.now)
+        source.entry.reading)
         source.entry.bytes.now source.entry.offsets.now
         (meaning_within source.entry.depth source.entry.path.now)
         (outputs values.old values.new states.old states.new) result }
@@ -133,7 +132,7 @@ pub fn take<T: ColumnType>(
             &steps,
             source.reading,
             column_type,
-            blank,
+            column_type.blank(),
             values,
             states,
         ),

@@ -35,7 +35,6 @@ use jsonb_typed::{Decimal, Int64, UInt64};
 /// have in a JSON text. The answer counts the rows of states 3 and 4, and names the first of them,
 /// or their number if there is none. `NO_ROOM` if `values` or `states` has fewer places than are
 /// read; they are then unchanged, and the counts are 0.
-#[tactic(auto, using(crate::proofs::UncheckedLaws::scalar_int64s))]
 #[unsafe(no_mangle)]
 pub extern "C" fn kohiblad_take_int64_at(
     bytes: &[u8],
@@ -51,12 +50,11 @@ pub extern "C" fn kohiblad_take_int64_at(
 {
     let column_type = Int64 { fit: fit_of(fit) };
     let places = Places::new(places, step);
-    take_at(bytes, places, &column_type, 0, values, states)
+    take_at(bytes, places, &column_type, values, states)
 }
 
 /// Takes the members at places as whole numbers of 64 bits without a sign. All else is as
 /// `kohiblad_take_int64_at` has it.
-#[tactic(auto, using(crate::proofs::UncheckedLaws::scalar_uint64s))]
 #[unsafe(no_mangle)]
 pub extern "C" fn kohiblad_take_uint64_at(
     bytes: &[u8],
@@ -72,13 +70,12 @@ pub extern "C" fn kohiblad_take_uint64_at(
 {
     let column_type = UInt64 { fit: fit_of(fit) };
     let places = Places::new(places, step);
-    take_at(bytes, places, &column_type, 0, values, states)
+    take_at(bytes, places, &column_type, values, states)
 }
 
 /// Takes the members at places as decimals, as `kohiblad_take_decimal` has them. `InvalidJsonb`
 /// also, before all others, if the scale is above 255. All else is as `kohiblad_take_int64_at` has
 /// it.
-#[tactic(auto, using(crate::proofs::UncheckedLaws::scalar_int128s))]
 #[unsafe(no_mangle)]
 pub extern "C" fn kohiblad_take_decimal_at(
     bytes: &[u8],
@@ -103,14 +100,12 @@ pub extern "C" fn kohiblad_take_decimal_at(
     let column_type = Halves {
         decimal: Decimal { scale, fit },
     };
-    let blank = KohibladInt128 { low: 0, high: 0 };
     let places = Places::new(places, step);
-    take_at(bytes, places, &column_type, blank, values, states)
+    take_at(bytes, places, &column_type, values, states)
 }
 
 /// Takes the members at places as truth values, 0 or 1. All else is as `kohiblad_take_int64_at` has
 /// it.
-#[tactic(auto, using(crate::proofs::UncheckedLaws::scalar_truths))]
 #[unsafe(no_mangle)]
 pub extern "C" fn kohiblad_take_boolean_at(
     bytes: &[u8],
@@ -122,14 +117,12 @@ pub extern "C" fn kohiblad_take_boolean_at(
     ensures { AreRowsTaken (IsTakenAt IsTruth 0 bytes.now) (each_of step places.now)
         (outputs values.old values.new states.old states.new) result }
 {
-    let blank = 0;
     let places = Places::new(places, step);
-    take_at(bytes, places, &TruthBytes, blank, values, states)
+    take_at(bytes, places, &TruthBytes, values, states)
 }
 
 /// Takes the members at places as dates, as `kohiblad_take_date` has them. All else is as
 /// `kohiblad_take_int64_at` has it.
-#[tactic(auto, using(crate::proofs::UncheckedLaws::scalar_dates))]
 #[unsafe(no_mangle)]
 pub extern "C" fn kohiblad_take_date_at(
     bytes: &[u8],
@@ -142,12 +135,11 @@ pub extern "C" fn kohiblad_take_date_at(
         (outputs values.old values.new states.old states.new) result }
 {
     let places = Places::new(places, step);
-    take_at(bytes, places, &DateNumbers, 0, values, states)
+    take_at(bytes, places, &DateNumbers, values, states)
 }
 
 /// Takes the members at places as timestamps without a time zone, as `kohiblad_take_timestamp` has
 /// them. All else is as `kohiblad_take_int64_at` has it.
-#[tactic(auto, using(crate::proofs::UncheckedLaws::scalar_timestamps))]
 #[unsafe(no_mangle)]
 pub extern "C" fn kohiblad_take_timestamp_at(
     bytes: &[u8],
@@ -160,12 +152,11 @@ pub extern "C" fn kohiblad_take_timestamp_at(
         (outputs values.old values.new states.old states.new) result }
 {
     let places = Places::new(places, step);
-    take_at(bytes, places, &TimestampNumbers, 0, values, states)
+    take_at(bytes, places, &TimestampNumbers, values, states)
 }
 
 /// Takes the members at places as timestamps with a time zone, as `kohiblad_take_timestamp_tz` has
 /// them. All else is as `kohiblad_take_int64_at` has it.
-#[tactic(auto, using(crate::proofs::UncheckedLaws::scalar_zoned_timestamps))]
 #[unsafe(no_mangle)]
 pub extern "C" fn kohiblad_take_timestamp_tz_at(
     bytes: &[u8],
@@ -178,17 +169,12 @@ pub extern "C" fn kohiblad_take_timestamp_tz_at(
         bytes.now) (each_of step places.now)
         (outputs values.old values.new states.old states.new) result }
 {
-    let blank = KohibladTimestampTz {
-        value: 0,
-        seconds: 0,
-    };
     let places = Places::new(places, step);
-    take_at(bytes, places, &ZonedNumbers, blank, values, states)
+    take_at(bytes, places, &ZonedNumbers, values, states)
 }
 
 /// Takes the members at places as intervals, as `kohiblad_take_interval` has them. All else is as
 /// `kohiblad_take_int64_at` has it.
-#[tactic(auto, using(crate::proofs::UncheckedLaws::scalar_intervals))]
 #[unsafe(no_mangle)]
 pub extern "C" fn kohiblad_take_interval_at(
     bytes: &[u8],
@@ -202,11 +188,6 @@ pub extern "C" fn kohiblad_take_interval_at(
         (each_of step places.now)
         (outputs values.old values.new states.old states.new) result }
 {
-    let blank = KohibladInterval {
-        months: 0,
-        days: 0,
-        micros: 0,
-    };
     let places = Places::new(places, step);
-    take_at(bytes, places, &IntervalNumbers, blank, values, states)
+    take_at(bytes, places, &IntervalNumbers, values, states)
 }

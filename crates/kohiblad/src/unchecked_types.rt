@@ -21,7 +21,6 @@ use std::alloc::Global;
 /// value 0 unless it is 1; so rows from outside are checked once, by `kohiblad_check` or by the
 /// state 4 of a call that checks them. The depth is that of the path. All else is as
 /// `kohiblad_take_int64` has it.
-#[tactic(auto, using(crate::proofs::UncheckedLaws::scalar_int64s))]
 #[unsafe(no_mangle)]
 pub extern "C" fn kohiblad_take_int64_unchecked(
     alloc: Global,
@@ -39,12 +38,11 @@ pub extern "C" fn kohiblad_take_int64_unchecked(
 {
     let column_type = Int64 { fit: fit_of(fit) };
     let source = Source::unchecked(bytes, offsets, path, depth);
-    take(alloc, source, &column_type, 0, values, states)
+    take(alloc, source, &column_type, values, states)
 }
 
 /// Takes the members of rows at the end of a path as whole numbers of 64 bits without a sign,
 /// without checking the rows. All else is as `kohiblad_take_int64_unchecked` has it.
-#[tactic(auto, using(crate::proofs::UncheckedLaws::scalar_uint64s))]
 #[unsafe(no_mangle)]
 pub extern "C" fn kohiblad_take_uint64_unchecked(
     alloc: Global,
@@ -62,12 +60,11 @@ pub extern "C" fn kohiblad_take_uint64_unchecked(
 {
     let column_type = UInt64 { fit: fit_of(fit) };
     let source = Source::unchecked(bytes, offsets, path, depth);
-    take(alloc, source, &column_type, 0, values, states)
+    take(alloc, source, &column_type, values, states)
 }
 
 /// Takes the members of rows at the end of a path as decimals, as `kohiblad_take_decimal` has them,
 /// without checking the rows. All else is as `kohiblad_take_int64_unchecked` has it.
-#[tactic(auto, using(crate::proofs::UncheckedLaws::scalar_int128s))]
 #[unsafe(no_mangle)]
 pub extern "C" fn kohiblad_take_decimal_unchecked(
     alloc: Global,
@@ -94,14 +91,12 @@ pub extern "C" fn kohiblad_take_decimal_unchecked(
     let column_type = Halves {
         decimal: Decimal { scale, fit },
     };
-    let blank = KohibladInt128 { low: 0, high: 0 };
     let source = Source::unchecked(bytes, offsets, path, depth);
-    take(alloc, source, &column_type, blank, values, states)
+    take(alloc, source, &column_type, values, states)
 }
 
 /// Takes the members of rows at the end of a path as truth values, 0 or 1, without checking the
 /// rows. All else is as `kohiblad_take_int64_unchecked` has it.
-#[tactic(auto, using(crate::proofs::UncheckedLaws::scalar_truths))]
 #[unsafe(no_mangle)]
 pub extern "C" fn kohiblad_take_boolean_unchecked(
     alloc: Global,
@@ -117,6 +112,5 @@ pub extern "C" fn kohiblad_take_boolean_unchecked(
         (outputs values.old values.new states.old states.new) result }
 {
     let source = Source::unchecked(bytes, offsets, path, depth);
-    let blank = 0;
-    take(alloc, source, &TruthBytes, blank, values, states)
+    take(alloc, source, &TruthBytes, values, states)
 }

@@ -18,18 +18,21 @@ returns-in-Ok-steps_of g c =
           × AreKept (outputs c.args.values.now c.take_rows.new.values c.args.states.now c.take_rows.new.states))
           _
           (λ path. AreRowsTaken
-          (IsReadRow (g.T.ColumnType.stands c.args.column_type.now) c.args.blank source.reading
-          path)
+          (IsReadRow (g.T.ColumnType.stands c.args.column_type.now)
+          (g.T.ColumnType.blank c.args.column_type.now) source.reading path)
           (rows source.bytes.now source.offsets.now)
           (outputs c.args.values.now c.take_rows.new.values c.args.states.now c.take_rows.new.states) c.take_rows.result)
           (λ status refused. absurd (not_refused c.in-Ok-steps_of.steps status refused))
           (λ path is.
           subst
           (λ (path : List Step). AreRowsTaken
-          (IsReadRow (g.T.ColumnType.stands c.args.column_type.now) c.args.blank source.reading
-          path)
+          (IsReadRow (g.T.ColumnType.stands c.args.column_type.now)
+          (g.T.ColumnType.blank c.args.column_type.now) source.reading path)
           (rows source.bytes.now source.offsets.now)
           (outputs c.args.values.now c.take_rows.new.values c.args.states.now c.take_rows.new.states) c.take_rows.result)
-          (c.deref.ensures.value ∙ is) (rw all at c.take_rows.ensures))
+          (c.deref.ensures.value ∙ is) (rw c.blank.ensures at (rw all at c.take_rows.ensures)))
           (meaning_within source.depth source.path.now) c.in-Ok-steps_of.ensures,
     )
+
+pub take_rows-requires : goal.take_rows-requires
+take_rows-requires g c = g.T.ColumnType.scalars c.args.column_type.now
