@@ -14,16 +14,17 @@ use Rattle.jsonb_value.specs.Meaning.{Meaning}
 use Rattle.jsonb_functions.specs.declared.path.Step.{Step}
 use Rattle.kohiblad.specs.Located.{IsTakenAt}
 use Rattle.kohiblad.specs.OverRows.{OverRows}
-use Rattle.kohiblad.specs.Taking.{IsTakenUnchecked, values_of}
+use Rattle.kohiblad.specs.Taking.{IsTakenBy, values_of}
+use Rattle.kohiblad.specs.declared.taking.Reading.TheVariants.{Unchecked}
 use Rattle.kohiblad.specs.TakenTexts.{AreRowTextsTaken, AreTextsMade, AreTextsRefused}
 use Rattle.kohiblad.specs.TakenTexts.{AreTextsTaken, HandingOver, IsBytes, IsBytesAt}
 use Rattle.kohiblad.specs.TakenTexts.{IsBytesUnchecked, IsTextsOf, TextBuffers, ends_from}
 use Rattle.kohiblad.specs.TakenTexts.{low_half, text_offsets}
 use Rattle.kohiblad.specs.declared.places.KohibladPlace.{KohibladPlace}
 use Rattle.kohiblad.specs.declared.taking.KohibladTaken.{KohibladTaken}
-use Rattle.kohiblad.specs.declared.taken_texts.BytesType.{BytesType}
-use Rattle.kohiblad.specs.declared.taken_texts.BytesType.TheVariants as bytes_types
-use Rattle.kohiblad.specs.declared.taken_texts.TakenTexts.{TakenTexts}
+use Rattle.kohiblad.specs.declared.taking_texts.BytesType.{BytesType}
+use Rattle.kohiblad.specs.declared.taking_texts.BytesType.TheVariants as bytes_types
+use Rattle.kohiblad.specs.declared.taking_texts.TakenTexts.{TakenTexts}
 use Rattle.kohiblad.proofs.OverRowsLaws.{not_refused, over_rows}
 use Rattle.kohiblad.proofs.TakingLaws.{one_more_in}
 
@@ -40,7 +41,7 @@ bytes_at bytes_types.Binary bytes place taken is utf8 = is
 
 -- The same of a row that is not checked.
 pub bytes_unchecked : (bytes_type : BytesType) (path : List Step) (row : List ℕ)
-    (taken : List ℕ × ℕ) → IsTakenUnchecked (IsBytes bytes_type) [] path row taken
+    (taken : List ℕ × ℕ) → IsTakenBy (IsBytes bytes_type) [] Unchecked path row taken
     → (bytes_type ≡ bytes_types.Text → IsUtf8 taken.0)
     → IsBytesUnchecked bytes_type path row taken
 bytes_unchecked bytes_types.Text path row taken is utf8 = (is, utf8 refl)

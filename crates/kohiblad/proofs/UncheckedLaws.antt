@@ -29,11 +29,12 @@ use Rattle.jsonb_typed.proofs.DocumentLaws as typed
 use Rattle.typed_vector.specs.Cells.{value}
 use Rattle.jsonb_functions.specs.PathPlaces.{HoldsFound, path_place_in, whole_place}
 use Rattle.jsonb_functions.proofs.PathPlaceLaws.{place_holds}
-use Rattle.kohiblad.specs.declared.taken_texts.BytesType.{BytesType}
-use Rattle.kohiblad.specs.declared.taken_texts.BytesType.TheVariants as bytes_types
+use Rattle.kohiblad.specs.declared.taking_texts.BytesType.{BytesType}
+use Rattle.kohiblad.specs.declared.taking_texts.BytesType.TheVariants as bytes_types
 use Rattle.jsonb.specs.Prefix.{is_name}
 use Rattle.kohiblad.specs.Places.{IsValuePlace}
-use Rattle.kohiblad.specs.Taking.{IsSomeTaken, IsTakenCell, IsTakenUnchecked}
+use Rattle.kohiblad.specs.Taking.{IsSomeTaken, IsTakenBy, IsTakenCell}
+use Rattle.kohiblad.specs.declared.taking.Reading.TheVariants.{Unchecked}
 use Rattle.kohiblad.specs.TakenTexts.{IsBytes}
 use Rattle.kohiblad.specs.UncheckedRows.{IsReadAs}
 use Rattle.kohiblad.proofs.ScalarReads.{number_read}
@@ -135,7 +136,7 @@ module _ {V : Type 0} (Stands : V → Tree → Type 0) (blank : V) where
       → ((t : Tree) → Doc row t → IsReadAs (found_at path t) (Ok member))
       → (row ≡ [] → read_as member ≡ read_as None)
       → IsTakenCell Stands blank (member_cell (option_map node_tree member)) taken
-      → IsTakenUnchecked Stands blank path row taken
+      → IsTakenBy Stands blank Unchecked path row taken
   taken_member path row member taken read empty is = (
     λ t document.
         subst (λ (o : Option Tree). IsTakenCell Stands blank (member_cell o) taken)
@@ -169,7 +170,7 @@ module _ {V : Type 0} (Stands : V → Tree → Type 0) (blank : V) where
 
   -- What is taken of a row by the place of its member.
   pub empty_taken : (path : List Step) (row : List ℕ) → row ≡ []
-      → IsTakenUnchecked Stands blank path row (blank, 0)
+      → IsTakenBy Stands blank Unchecked path row (blank, 0)
   empty_taken path row empty = (
     λ t document. absurd (no_document row t document empty),
     (λ none. refl, inr (refl, omega arith)),
@@ -192,7 +193,7 @@ module _ {V : Type 0} (Stands : V → Tree → Type 0) (blank : V) where
       → ((t : Tree) → IsPayloadOf place.type_code payload t
       → IsTakenCell Stands blank (member_cell (Some t)) taken)
       → IsSomeTaken blank taken → (row ≡ [] → ⊥)
-      → IsTakenUnchecked Stands blank path row taken
+      → IsTakenBy Stands blank Unchecked path row taken
   place_taken path row place payload taken found same entry some full = (
     λ t document.
         held_taken row place payload taken same entry (found_at path t) (found t document),
@@ -206,14 +207,14 @@ module _ {V : Type 0} (Stands : V → Tree → Type 0) (blank : V) where
 
   pub none_taken : (path : List Step) (row : List ℕ)
       → ((t : Tree) → Doc row t → HoldsFound row None (found_at path t))
-      → IsTakenUnchecked Stands blank path row (blank, 0)
+      → IsTakenBy Stands blank Unchecked path row (blank, 0)
   none_taken path row found = (
     λ t document. absent_taken row (found_at path t) (found t document),
     (λ none. refl, inr (refl, omega arith)),
   )
 
   pub error_taken : (path : List Step) (row : List ℕ) → ((t : Tree) → Doc row t → ⊥)
-      → (row ≡ [] → ⊥) → IsTakenUnchecked Stands blank path row (blank, 4)
+      → (row ≡ [] → ⊥) → IsTakenBy Stands blank Unchecked path row (blank, 4)
   error_taken path row none full = (
     λ t document. absurd (none t document),
     (λ empty. absurd (full empty), inr (refl, omega arith)),
@@ -233,7 +234,7 @@ module _ {V : Type 0} (Stands : V → Tree → Type 0) (blank : V) where
       → ((t : Tree) → Doc row t → IsReadAs (found_at path t) (Err state))
       → (row ≡ [] → state_only state ≡ read_as None)
       → (state ≡ 3) ⊎ (state ≡ 4)
-      → IsTakenUnchecked Stands blank path row (blank, state)
+      → IsTakenBy Stands blank Unchecked path row (blank, state)
   taken_state path row state scalars read empty known = (
     λ t document. state_found (found_at path t) state scalars (read t document),
     (

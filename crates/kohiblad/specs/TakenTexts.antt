@@ -12,14 +12,13 @@ use Rattle.kohiblad.specs.declared.places.KohibladPlace.{KohibladPlace}
 use Rattle.kohiblad.specs.declared.taking.KohibladTaken.{KohibladTaken}
 use Rattle.kohiblad.specs.declared.taking.Reading.{Reading}
 use Rattle.kohiblad.specs.declared.taking.Reading.TheVariants.{Checked, Unchecked}
-use Rattle.kohiblad.specs.declared.taken_texts.BytesType.{BytesType}
-use Rattle.kohiblad.specs.declared.taken_texts.BytesType.TheVariants as bytes_types
-use Rattle.kohiblad.specs.declared.taken_texts.TakenTexts.{TakenTexts}
+use Rattle.kohiblad.specs.declared.taking_texts.BytesType.{BytesType}
+use Rattle.kohiblad.specs.declared.taking_texts.BytesType.TheVariants as bytes_types
+use Rattle.kohiblad.specs.declared.taking_texts.TakenTexts.{TakenTexts}
 use Rattle.kohiblad.specs.Located.{IsTakenAt}
 use Rattle.kohiblad.specs.OverRows.{OverRows}
 use Rattle.kohiblad.specs.Status.{code, no_room, IsCopied}
-use Rattle.kohiblad.specs.Taking.{IsTakenRow, IsTakenUnchecked, not_taken, states_of}
-use Rattle.kohiblad.specs.Taking.{taken_answer, values_of}
+use Rattle.kohiblad.specs.Taking.{IsTakenBy, not_taken, states_of, taken_answer, values_of}
 
 -- The bytes stand for the member, a text or a binary value.
 abbrev pub IsBytes : BytesType → List ℕ → Tree → Type 0
@@ -38,16 +37,16 @@ IsBytesAt bytes_types.Binary = IsTakenAt IsBinary []
 -- What is written for a row that is not checked, as a text; also where the row is no document it is
 -- UTF-8.
 abbrev pub IsTextUnchecked : List Step → List ℕ → List ℕ × ℕ → Type 0
-IsTextUnchecked path row taken = IsTakenUnchecked IsText [] path row taken × IsUtf8 taken.0
+IsTextUnchecked path row taken = IsTakenBy IsText [] Unchecked path row taken × IsUtf8 taken.0
 
 -- What is written for a row that is not checked, as a text or as a binary value.
 abbrev pub IsBytesUnchecked : BytesType → List Step → List ℕ → List ℕ × ℕ → Type 0
 IsBytesUnchecked bytes_types.Text = IsTextUnchecked
-IsBytesUnchecked bytes_types.Binary = IsTakenUnchecked IsBinary []
+IsBytesUnchecked bytes_types.Binary = IsTakenBy IsBinary [] Unchecked
 
 -- The same by how rows are read.
 abbrev pub IsBytesRow : Reading → BytesType → List Step → List ℕ → List ℕ × ℕ → Type 0
-IsBytesRow (Checked depth) bytes_type = IsTakenRow (IsBytes bytes_type) [] depth
+IsBytesRow (Checked depth) bytes_type = IsTakenBy (IsBytes bytes_type) [] (Checked depth)
 IsBytesRow Unchecked bytes_type = IsBytesUnchecked bytes_type
 
 -- Where texts end, the first of which begins at an offset.

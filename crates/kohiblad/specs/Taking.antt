@@ -17,9 +17,9 @@ use Rattle.jsonb_typed.specs.declared.numbers.Fit.TheVariants.{ByValue, Exact}
 use Rattle.kohiblad.specs.declared.taking.KohibladTaken.{KohibladTaken}
 use Rattle.kohiblad.specs.declared.taking.Reading.{Reading}
 use Rattle.kohiblad.specs.declared.taking.Reading.TheVariants.{Checked, Unchecked}
-use Rattle.kohiblad.specs.declared.taken_intervals.KohibladInterval.{KohibladInterval}
-use Rattle.kohiblad.specs.declared.taken_types.KohibladInt128.{KohibladInt128}
-use Rattle.kohiblad.specs.declared.taken_zoned_timestamps.KohibladTimestampTz.{KohibladTimestampTz}
+use Rattle.kohiblad.specs.declared.taken_values.KohibladInterval.{KohibladInterval}
+use Rattle.kohiblad.specs.declared.taken_values.KohibladInt128.{KohibladInt128}
+use Rattle.kohiblad.specs.declared.taken_values.KohibladTimestampTz.{KohibladTimestampTz}
 use Rattle.kohiblad.specs.OverRows.{OverRows}
 use Rattle.kohiblad.specs.RowCells.{row_cell}
 use Rattle.kohiblad.specs.Scalars.{from_halves}
@@ -44,30 +44,19 @@ IsTakenCell {V = V} Stands blank (value t) taken =
     ⊎ (((v : V) → Stands v t → ⊥) × (taken ≡ (blank, tree_state t)))
 IsTakenCell Stands blank (other bytes) taken = taken ≡ (blank, 4)
 
--- The same of a row.
-abbrev pub IsTakenRow : {V : Type 0} → (V → Tree → Type 0) → V → ℕ → List Step → List ℕ → V × ℕ
-    → Type 0
-IsTakenRow Stands blank depth path row taken =
-    IsTakenCell Stands blank (row_cell depth path row) taken
-
 -- A value with the state 1, or none and any other state.
 abbrev pub IsSomeTaken : {V : Type 0} → V → V × ℕ → Type 0
 IsSomeTaken blank taken = (taken.1 ≡ 1) ⊎ ((taken.0 ≡ blank) × (taken.1 ≤ 4))
 
--- What is written for a row that is not checked: of a document the same as if it were checked, of
--- no bytes that there is no member, and of other bytes anything.
-abbrev pub IsTakenUnchecked : {V : Type 0} → (V → Tree → Type 0) → V → List Step → List ℕ → V × ℕ
-    → Type 0
-IsTakenUnchecked Stands blank path row taken =
+-- What is written for a row, by how it is read. It is checked; or it is not: then of a document the
+-- same is written as if it were, of no bytes that there is no member, and of other bytes anything.
+abbrev pub IsTakenBy : {V : Type 0} → (V → Tree → Type 0) → V → Reading → List Step → List ℕ
+    → V × ℕ → Type 0
+IsTakenBy Stands blank (Checked depth) path row taken =
+    IsTakenCell Stands blank (row_cell depth path row) taken
+IsTakenBy Stands blank Unchecked path row taken =
     ((t : Tree) → Doc row t → IsTakenCell Stands blank (member_cell (found_at path t)) taken)
     × ((row ≡ [] → taken ≡ (blank, 0)) × IsSomeTaken blank taken)
-
--- What is written for a row, by how rows are read.
-abbrev pub IsReadRow : {V : Type 0} → (V → Tree → Type 0) → V → Reading → List Step → List ℕ
-    → V × ℕ → Type 0
-IsReadRow Stands blank (Checked depth) path row taken =
-    IsTakenRow Stands blank depth path row taken
-IsReadRow Stands blank Unchecked path row taken = IsTakenUnchecked Stands blank path row taken
 
 -- The values that are written for rows, and their states.
 abbrev pub values_of : {V : Type 0} → List (V × ℕ) → List V

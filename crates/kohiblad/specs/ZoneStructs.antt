@@ -1,7 +1,7 @@
 -- The structs in which C receives zones: `has_value` is 1, or 0 beside limits of 0.
 use Rattle.std.specs.Prelude.{ℕ, ℤ, pos, Option, Some, None}
 use Rattle.typed_vector.specs.declared.zone_map.Zone.{Zone}
-use Rattle.kohiblad.specs.declared.taken_types.KohibladInt128.{KohibladInt128}
+use Rattle.kohiblad.specs.declared.taken_values.KohibladInt128.{KohibladInt128}
 use Rattle.kohiblad.specs.declared.zone_structs.KohibladInt64Zone.{KohibladInt64Zone}
 use Rattle.kohiblad.specs.declared.zone_structs.KohibladUInt64Zone.{KohibladUInt64Zone}
 use Rattle.kohiblad.specs.declared.zone_structs.KohibladDecimalZone.{KohibladDecimalZone}

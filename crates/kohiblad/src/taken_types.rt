@@ -1,79 +1,26 @@
-//! The calls that take the members of rows as numbers and truth values.
+//! The calls that take members as numbers, truth values, dates, timestamps and intervals: of rows
+//! that are checked, of rows that are not, and at places.
 
-ghost use Rattle.std.specs.Prelude.{◌≡◌, ◌<◌, ◌≤◌, ◌^◌, Some, pos, refl};
-ghost use Rattle.std.specs.Cmp.{int_cmp_total, int_eq_equiv, on_equiv, on_per, on_po, on_total};
-ghost use Rattle.std.specs.Cmp.{partial_equiv_from_equiv, signed_po};
-ghost use Rattle.std.specs.Ordering.{int_cmp, int_eq, on};
-ghost use Rattle.jsonb_typed.specs.Words.{IsInt64, IsUInt64, node_tree, scalar_boolean};
-ghost use Rattle.jsonb_typed.specs.Words.{scalar_number};
-ghost use Rattle.kohiblad.specs.Taking.{AreKept, AreTaken, IsInt128, IsTakenRow, IsTruth};
-ghost use Rattle.kohiblad.specs.Taking.{fit_of, int128_whole, not_taken};
-ghost use Rattle.kohiblad.specs.Words.{Error, code, from_halves, meaning_within};
-ghost use Rattle.kohiblad.specs.Taking.{outputs};
+ghost use Rattle.std.specs.Prelude.{◌<◌, ◌≡◌, ◌≤◌, pos};
+ghost use Rattle.jsonb_typed.specs.Words.{IsInt64, IsUInt64};
+ghost use Rattle.kohiblad.specs.Located.{IsTakenAt, each_of};
+ghost use Rattle.kohiblad.specs.Taking.{AreKept, AreRowsTaken, AreTaken, IsDate, IsInt128};
+ghost use Rattle.kohiblad.specs.Taking.{IsInterval, IsTakenBy, IsTimestamp, IsTruth};
+ghost use Rattle.kohiblad.specs.Taking.{IsZonedTimestamp, fit_of, not_taken, outputs};
+ghost use Rattle.kohiblad.specs.Words.{Error, code, meaning_within};
+ghost use Rattle.kohiblad.specs.declared.taking.Reading.TheVariants.{Checked, Unchecked};
 
 use crate::answer::code;
-use crate::scalar::whole_of;
+use crate::located::{Places, take_at};
+use crate::places::KohibladPlace;
+use crate::taken_values::{
+    DateNumbers, Halves, IntervalNumbers, KohibladInt128, KohibladInterval, KohibladTimestampTz,
+    TimestampNumbers, TruthBytes, ZonedNumbers,
+};
 use crate::taking::{KohibladTaken, Source, fit_of, not_taken, take};
-use jsonb::{Error, Node};
-use jsonb_typed::{Boolean, ColumnType, Decimal, Int64, UInt64};
+use jsonb::Error;
+use jsonb_typed::{Decimal, Int64, UInt64};
 use std::alloc::Global;
-use std::cmp::Ordering;
-
-/// A whole number of 128 bits: `high` times 2 to the power of 64, plus `low`.
-#[repr(C)]
-#[derive(Clone, Copy)]
-pub struct KohibladInt128 {
-    pub low: u64,
-    pub high: i64,
-}
-
-impl KohibladInt128 {
-    // The whole number.
-    fn whole(&self) -> i128
-        ensures { result ≡ int128_whole self.now }
-    {
-        whole_of(self.high, self.low)
-    }
-}
-
-impl PartialEq for KohibladInt128 {
-    ghost eq = { on int128_whole int_eq };
-
-    ghost laws = { on_per int128_whole (partial_equiv_from_equiv int_eq_equiv) };
-
-    fn eq(&self, other: &Self) -> bool {
-        self.whole() == other.whole()
-    }
-}
-
-impl Eq for KohibladInt128 {
-    ghost laws = { on_equiv int128_whole int_eq_equiv };
-}
-
-impl PartialOrd for KohibladInt128 {
-    ghost partial_cmp = { λ x y. Some (int_cmp (int128_whole x) (int128_whole y)) };
-
-    ghost laws = { on_po int128_whole signed_po };
-
-    fn partial_cmp(&self, other: &Self) -> Option<Ordering> {
-        Some(self.cmp(other))
-    }
-}
-
-impl Ord for KohibladInt128 {
-    ghost cmp = { on int128_whole int_cmp };
-
-    ghost total = { on_total int128_whole int_cmp_total };
-
-    ghost matches_partial_cmp = { λ x y. refl };
-
-    ghost matches_eq = { λ x y. refl };
-
-    /// Compares the whole numbers.
-    fn cmp(&self, other: &Self) -> Ordering {
-        self.whole().cmp(&other.whole())
-    }
-}
 
 /// Takes the members of rows at the end of a path as whole numbers of 64 bits with a sign. For row
 /// k, which begins at `offsets[k]` and ends at `offsets[k + 1]`, `values[k]` is the number, and
@@ -100,13 +47,12 @@ pub extern "C" fn kohiblad_take_int64(
     values: &mut [i64],
     states: &mut [u8],
 ) -> KohibladTaken
-    ensures { AreTaken (IsTakenRow (λ v t. IsInt64 (fit_of fit) v t) (pos 0) depth) bytes.now
-        offsets.now (meaning_within depth path.now)
+    ensures { AreTaken (IsTakenBy (λ v t. IsInt64 (fit_of fit) v t) (pos 0) (Checked depth))
+        bytes.now offsets.now (meaning_within depth path.now)
         (outputs values.old values.new states.old states.new) result }
 {
-    let column_type = Int64 { fit: fit_of(fit) };
-    let source = Source::checked(bytes, offsets, path, depth);
-    take(alloc, source, &column_type, values, states)
+    let int64s = Source::checked(bytes, offsets, path, depth);
+    take(alloc, int64s, &int64(fit), values, states)
 }
 
 /// Takes the members of rows at the end of a path as whole numbers of 64 bits without a sign. All
@@ -122,13 +68,12 @@ pub extern "C" fn kohiblad_take_uint64(
     values: &mut [u64],
     states: &mut [u8],
 ) -> KohibladTaken
-    ensures { AreTaken (IsTakenRow (λ v t. IsUInt64 (fit_of fit) v t) 0 depth) bytes.now
+    ensures { AreTaken (IsTakenBy (λ v t. IsUInt64 (fit_of fit) v t) 0 (Checked depth)) bytes.now
         offsets.now (meaning_within depth path.now)
         (outputs values.old values.new states.old states.new) result }
 {
-    let column_type = UInt64 { fit: fit_of(fit) };
-    let source = Source::checked(bytes, offsets, path, depth);
-    take(alloc, source, &column_type, values, states)
+    let uint64s = Source::checked(bytes, offsets, path, depth);
+    take(alloc, uint64s, &uint64(fit), values, states)
 }
 
 /// Takes the members of rows at the end of a path as decimals with `scale` digits after the point,
@@ -149,61 +94,18 @@ pub extern "C" fn kohiblad_take_decimal(
     values: &mut [KohibladInt128],
     states: &mut [u8],
 ) -> KohibladTaken
-    ensures scale { 255 < scale → (result ≡ not_taken (code Error.InvalidJsonb))
-        × AreKept (outputs values.old values.new states.old states.new) }
-    ensures taken { scale ≤ 255 → AreTaken (IsTakenRow (IsInt128 (fit_of fit) scale)
-        (record { low = 0; high = pos 0 }) depth) bytes.now offsets.now
-        (meaning_within depth path.now)
-        (outputs values.old values.new states.old states.new) result }
+    ensures scale { 255 < scale → (result ≡ not_taken (code Error.InvalidJsonb)) × AreKept
+        (outputs values.old values.new states.old states.new) }
+    ensures taken { scale ≤ 255 → AreTaken (IsTakenBy (IsInt128 (fit_of fit) scale)
+        (record { low = 0; high = pos 0 }) (Checked depth)) bytes.now offsets.now
+        (meaning_within depth path.now) (outputs values.old values.new states.old states.new)
+        result }
 {
     let Ok(scale) = u8::try_from(scale) else {
         return not_taken(code(Error::InvalidJsonb));
     };
-    let fit = fit_of(fit);
-    let column_type = Halves {
-        decimal: Decimal { scale, fit },
-    };
-    let source = Source::checked(bytes, offsets, path, depth);
-    take(alloc, source, &column_type, values, states)
-}
-
-/// Decimals in two halves.
-#[derive(Clone, Copy)]
-pub struct Halves {
-    pub decimal: Decimal,
-}
-
-impl ColumnType for Halves {
-    type Value = KohibladInt128;
-
-    ghost stands = { λ s v t. IsInt128 s.decimal.fit s.decimal.scale v t };
-
-    ghost scalars = { λ s v t is stands.
-        scalar_number s.decimal.fit s.decimal.scale (int128_whole v) t is stands.1 };
-
-    ghost blank = { λ s. record { low = 0; high = pos 0 } };
-
-    fn blank(&self) -> KohibladInt128 {
-        KohibladInt128 { low: 0, high: 0 }
-    }
-
-    fn value_of(&self, member: Node<'_>) -> Option<KohibladInt128> {
-        match self.decimal.value_of(member) {
-            Some(value) => Some(halves_of(value)),
-            None => None,
-        }
-    }
-}
-
-// A whole number in two halves.
-fn halves_of(value: i128) -> KohibladInt128
-    ensures { from_halves result.high result.low ≡ value }
-{
-    let bits = value.cast_unsigned();
-    KohibladInt128 {
-        low: (bits % (1 << 64)) as u64,
-        high: ((bits >> 64) as u64).cast_signed(),
-    }
+    let decimals = Source::checked(bytes, offsets, path, depth);
+    take(alloc, decimals, &decimal(fit, scale), values, states)
 }
 
 /// Takes the members of rows at the end of a path as truth values, 0 or 1. All else is as
@@ -218,35 +120,459 @@ pub extern "C" fn kohiblad_take_boolean(
     values: &mut [u8],
     states: &mut [u8],
 ) -> KohibladTaken
-    ensures { AreTaken (IsTakenRow IsTruth 0 depth) bytes.now offsets.now
-        (meaning_within depth path.now)
-        (outputs values.old values.new states.old states.new) result }
+    ensures { AreTaken (IsTakenBy IsTruth 0 (Checked depth)) bytes.now offsets.now
+        (meaning_within depth path.now) (outputs values.old values.new states.old states.new)
+        result }
 {
-    let source = Source::checked(bytes, offsets, path, depth);
-    take(alloc, source, &TruthBytes, values, states)
+    let truths = Source::checked(bytes, offsets, path, depth);
+    take(alloc, truths, &TruthBytes, values, states)
 }
 
-/// Truth values as bytes.
-#[derive(Clone, Copy)]
-pub struct TruthBytes;
+/// Takes the members of rows at the end of a path as dates, each the number that is stored for it.
+/// The format does not say what it counts; writers store the days since 1970. All else is as
+/// `kohiblad_take_int64` has it.
+#[unsafe(no_mangle)]
+pub extern "C" fn kohiblad_take_date(
+    alloc: Global,
+    bytes: &[u8],
+    offsets: &[usize],
+    path: &[u8],
+    depth: usize,
+    values: &mut [i32],
+    states: &mut [u8],
+) -> KohibladTaken
+    ensures { AreTaken (IsTakenBy IsDate (pos 0) (Checked depth)) bytes.now offsets.now
+        (meaning_within depth path.now) (outputs values.old values.new states.old states.new)
+        result }
+{
+    let dates = Source::checked(bytes, offsets, path, depth);
+    take(alloc, dates, &DateNumbers, values, states)
+}
 
-impl ColumnType for TruthBytes {
-    type Value = u8;
+/// Takes the members of rows at the end of a path as timestamps without a time zone, each the
+/// number that is stored for it. The format does not say what it counts; writers store the
+/// microseconds since 1970. All else is as `kohiblad_take_int64` has it.
+#[unsafe(no_mangle)]
+pub extern "C" fn kohiblad_take_timestamp(
+    alloc: Global,
+    bytes: &[u8],
+    offsets: &[usize],
+    path: &[u8],
+    depth: usize,
+    values: &mut [i64],
+    states: &mut [u8],
+) -> KohibladTaken
+    ensures { AreTaken (IsTakenBy IsTimestamp (pos 0) (Checked depth)) bytes.now offsets.now
+        (meaning_within depth path.now) (outputs values.old values.new states.old states.new)
+        result }
+{
+    let timestamps = Source::checked(bytes, offsets, path, depth);
+    take(alloc, timestamps, &TimestampNumbers, values, states)
+}
 
-    ghost stands = { λ s v t. IsTruth v t };
+/// Takes the members of rows at the end of a path as timestamps with a time zone, each the number
+/// that is stored for it and the offset of its zone in seconds. The format does not say what the
+/// number counts; writers store the microseconds since 1970 in UTC. All else is as
+/// `kohiblad_take_int64` has it, and a blank value is 0 in both fields.
+#[unsafe(no_mangle)]
+pub extern "C" fn kohiblad_take_timestamp_tz(
+    alloc: Global,
+    bytes: &[u8],
+    offsets: &[usize],
+    path: &[u8],
+    depth: usize,
+    values: &mut [KohibladTimestampTz],
+    states: &mut [u8],
+) -> KohibladTaken
+    ensures { AreTaken
+        (IsTakenBy IsZonedTimestamp (record { value = pos 0; seconds = pos 0 }) (Checked depth))
+        bytes.now offsets.now (meaning_within depth path.now)
+        (outputs values.old values.new states.old states.new) result }
+{
+    let zoned = Source::checked(bytes, offsets, path, depth);
+    take(alloc, zoned, &ZonedNumbers, values, states)
+}
 
-    ghost scalars = { λ s v t is stands. scalar_boolean stands.0 t is stands.1.1 };
+/// Takes the members of rows at the end of a path as intervals, each the three numbers that are
+/// stored for it. All else is as `kohiblad_take_int64` has it, and a blank value is 0 in all three
+/// fields.
+#[unsafe(no_mangle)]
+pub extern "C" fn kohiblad_take_interval(
+    alloc: Global,
+    bytes: &[u8],
+    offsets: &[usize],
+    path: &[u8],
+    depth: usize,
+    values: &mut [KohibladInterval],
+    states: &mut [u8],
+) -> KohibladTaken
+    ensures { AreTaken (IsTakenBy IsInterval
+        (record { months = pos 0; days = pos 0; micros = pos 0 }) (Checked depth)) bytes.now
+        offsets.now (meaning_within depth path.now)
+        (outputs values.old values.new states.old states.new) result }
+{
+    let intervals = Source::checked(bytes, offsets, path, depth);
+    take(alloc, intervals, &IntervalNumbers, values, states)
+}
 
-    ghost blank = { λ s. 0 };
+/// Takes the members of rows at the end of a path as whole numbers of 64 bits with a sign, without
+/// checking the rows, which takes most of the time of `kohiblad_take_int64`. Of each row that is a
+/// document, of any depth, or has no bytes, value and state are as that call has them. Any other
+/// bytes do no harm: nothing beyond the row is read, and its state is one of the five, with the
+/// value 0 unless it is 1; so rows from outside are checked once, by `kohiblad_check` or by the
+/// state 4 of a call that checks them. The depth is that of the path. All else is as
+/// `kohiblad_take_int64` has it.
+#[unsafe(no_mangle)]
+pub extern "C" fn kohiblad_take_int64_unchecked(
+    alloc: Global,
+    bytes: &[u8],
+    offsets: &[usize],
+    path: &[u8],
+    depth: usize,
+    fit: u32,
+    values: &mut [i64],
+    states: &mut [u8],
+) -> KohibladTaken
+    ensures { AreTaken (IsTakenBy (λ v t. IsInt64 (fit_of fit) v t) (pos 0) Unchecked) bytes.now
+        offsets.now (meaning_within depth path.now)
+        (outputs values.old values.new states.old states.new) result }
+{
+    let int64s = Source::unchecked(bytes, offsets, path, depth);
+    take(alloc, int64s, &int64(fit), values, states)
+}
 
-    fn blank(&self) -> u8 {
-        0
-    }
+/// Takes the members of rows at the end of a path as whole numbers of 64 bits without a sign,
+/// without checking the rows. All else is as `kohiblad_take_int64_unchecked` has it.
+#[unsafe(no_mangle)]
+pub extern "C" fn kohiblad_take_uint64_unchecked(
+    alloc: Global,
+    bytes: &[u8],
+    offsets: &[usize],
+    path: &[u8],
+    depth: usize,
+    fit: u32,
+    values: &mut [u64],
+    states: &mut [u8],
+) -> KohibladTaken
+    ensures { AreTaken (IsTakenBy (λ v t. IsUInt64 (fit_of fit) v t) 0 Unchecked) bytes.now
+        offsets.now (meaning_within depth path.now)
+        (outputs values.old values.new states.old states.new) result }
+{
+    let uint64s = Source::unchecked(bytes, offsets, path, depth);
+    take(alloc, uint64s, &uint64(fit), values, states)
+}
 
-    fn value_of(&self, member: Node<'_>) -> Option<u8> {
-        match Boolean.value_of(member) {
-            Some(value) => Some(u8::from(value)),
-            None => None,
-        }
+/// Takes the members of rows at the end of a path as decimals, as `kohiblad_take_decimal` has them,
+/// without checking the rows. All else is as `kohiblad_take_int64_unchecked` has it.
+#[unsafe(no_mangle)]
+pub extern "C" fn kohiblad_take_decimal_unchecked(
+    alloc: Global,
+    bytes: &[u8],
+    offsets: &[usize],
+    path: &[u8],
+    depth: usize,
+    fit: u32,
+    scale: u32,
+    values: &mut [KohibladInt128],
+    states: &mut [u8],
+) -> KohibladTaken
+    ensures scale { 255 < scale → (result ≡ not_taken (code Error.InvalidJsonb)) × AreKept
+        (outputs values.old values.new states.old states.new) }
+    ensures taken { scale ≤ 255 → AreTaken
+        (IsTakenBy (IsInt128 (fit_of fit) scale) (record { low = 0; high = pos 0 }) Unchecked)
+        bytes.now offsets.now (meaning_within depth path.now)
+        (outputs values.old values.new states.old states.new) result }
+{
+    let Ok(scale) = u8::try_from(scale) else {
+        return not_taken(code(Error::InvalidJsonb));
+    };
+    let decimals = Source::unchecked(bytes, offsets, path, depth);
+    take(alloc, decimals, &decimal(fit, scale), values, states)
+}
+
+/// Takes the members of rows at the end of a path as truth values, 0 or 1, without checking the
+/// rows. All else is as `kohiblad_take_int64_unchecked` has it.
+#[unsafe(no_mangle)]
+pub extern "C" fn kohiblad_take_boolean_unchecked(
+    alloc: Global,
+    bytes: &[u8],
+    offsets: &[usize],
+    path: &[u8],
+    depth: usize,
+    values: &mut [u8],
+    states: &mut [u8],
+) -> KohibladTaken
+    ensures { AreTaken (IsTakenBy IsTruth 0 Unchecked) bytes.now offsets.now
+        (meaning_within depth path.now) (outputs values.old values.new states.old states.new)
+        result }
+{
+    let truths = Source::unchecked(bytes, offsets, path, depth);
+    take(alloc, truths, &TruthBytes, values, states)
+}
+
+/// Takes the members of rows at the end of a path as dates, as `kohiblad_take_date` has them,
+/// without checking the rows. All else is as `kohiblad_take_int64_unchecked` has it.
+#[unsafe(no_mangle)]
+pub extern "C" fn kohiblad_take_date_unchecked(
+    alloc: Global,
+    bytes: &[u8],
+    offsets: &[usize],
+    path: &[u8],
+    depth: usize,
+    values: &mut [i32],
+    states: &mut [u8],
+) -> KohibladTaken
+    ensures { AreTaken (IsTakenBy IsDate (pos 0) Unchecked) bytes.now offsets.now
+        (meaning_within depth path.now) (outputs values.old values.new states.old states.new)
+        result }
+{
+    let dates = Source::unchecked(bytes, offsets, path, depth);
+    take(alloc, dates, &DateNumbers, values, states)
+}
+
+/// Takes the members of rows at the end of a path as timestamps, as `kohiblad_take_timestamp` has
+/// them, without checking the rows. All else is as `kohiblad_take_int64_unchecked` has it.
+#[unsafe(no_mangle)]
+pub extern "C" fn kohiblad_take_timestamp_unchecked(
+    alloc: Global,
+    bytes: &[u8],
+    offsets: &[usize],
+    path: &[u8],
+    depth: usize,
+    values: &mut [i64],
+    states: &mut [u8],
+) -> KohibladTaken
+    ensures { AreTaken (IsTakenBy IsTimestamp (pos 0) Unchecked) bytes.now offsets.now
+        (meaning_within depth path.now) (outputs values.old values.new states.old states.new)
+        result }
+{
+    let timestamps = Source::unchecked(bytes, offsets, path, depth);
+    take(alloc, timestamps, &TimestampNumbers, values, states)
+}
+
+/// Takes the members of rows at the end of a path as timestamps with a time zone, as
+/// `kohiblad_take_timestamp_tz` has them, without checking the rows. All else is as
+/// `kohiblad_take_int64_unchecked` has it.
+#[unsafe(no_mangle)]
+pub extern "C" fn kohiblad_take_timestamp_tz_unchecked(
+    alloc: Global,
+    bytes: &[u8],
+    offsets: &[usize],
+    path: &[u8],
+    depth: usize,
+    values: &mut [KohibladTimestampTz],
+    states: &mut [u8],
+) -> KohibladTaken
+    ensures { AreTaken
+        (IsTakenBy IsZonedTimestamp (record { value = pos 0; seconds = pos 0 }) Unchecked) bytes.now
+        offsets.now (meaning_within depth path.now)
+        (outputs values.old values.new states.old states.new) result }
+{
+    let zoned = Source::unchecked(bytes, offsets, path, depth);
+    take(alloc, zoned, &ZonedNumbers, values, states)
+}
+
+/// Takes the members of rows at the end of a path as intervals, as `kohiblad_take_interval` has
+/// them, without checking the rows. All else is as `kohiblad_take_int64_unchecked` has it.
+#[unsafe(no_mangle)]
+pub extern "C" fn kohiblad_take_interval_unchecked(
+    alloc: Global,
+    bytes: &[u8],
+    offsets: &[usize],
+    path: &[u8],
+    depth: usize,
+    values: &mut [KohibladInterval],
+    states: &mut [u8],
+) -> KohibladTaken
+    ensures { AreTaken
+        (IsTakenBy IsInterval (record { months = pos 0; days = pos 0; micros = pos 0 }) Unchecked)
+        bytes.now offsets.now (meaning_within depth path.now)
+        (outputs values.old values.new states.old states.new) result }
+{
+    let intervals = Source::unchecked(bytes, offsets, path, depth);
+    take(alloc, intervals, &IntervalNumbers, values, states)
+}
+
+/// Takes the members at places, as `kohiblad_locate` writes them, as whole numbers of 64 bits with
+/// a sign: at the first place, and then at each that is `step` places after the one before it; 0
+/// counts as 1. So of three names, the places of the second are those from `places + 1` on, each 3
+/// after the one before it. The bytes are those of all rows, as that call had them. Values and
+/// states are as `kohiblad_take_int64` has them, which looks up the name in each row; after
+/// `kohiblad_locate_unchecked` as `kohiblad_take_int64_unchecked` has them. At any other place
+/// nothing beyond the bytes is read, and what is taken is what is there: a payload of its type as
+/// that member, and everywhere else no value, with the state 0 of the status `NONE`, 3 where the
+/// type is that of arrays and objects, and otherwise 4. With `fit` 0 a number is taken if it equals
+/// the value, as 2.0 equals 2; otherwise only if it is stored in the kind that the value's digits
+/// have in a JSON text. The answer counts the rows of states 3 and 4, and names the first of them,
+/// or their number if there is none. `NO_ROOM` if `values` or `states` has fewer places than are
+/// read; they are then unchanged, and the counts are 0.
+#[unsafe(no_mangle)]
+pub extern "C" fn kohiblad_take_int64_at(
+    bytes: &[u8],
+    places: &[KohibladPlace],
+    step: usize,
+    fit: u32,
+    values: &mut [i64],
+    states: &mut [u8],
+) -> KohibladTaken
+    ensures { AreRowsTaken (IsTakenAt (λ v t. IsInt64 (fit_of fit) v t) (pos 0) bytes.now)
+        (each_of step places.now) (outputs values.old values.new states.old states.new) result }
+{
+    let int64s = Places::new(places, step);
+    take_at(bytes, int64s, &int64(fit), values, states)
+}
+
+/// Takes the members at places as whole numbers of 64 bits without a sign. All else is as
+/// `kohiblad_take_int64_at` has it.
+#[unsafe(no_mangle)]
+pub extern "C" fn kohiblad_take_uint64_at(
+    bytes: &[u8],
+    places: &[KohibladPlace],
+    step: usize,
+    fit: u32,
+    values: &mut [u64],
+    states: &mut [u8],
+) -> KohibladTaken
+    ensures { AreRowsTaken (IsTakenAt (λ v t. IsUInt64 (fit_of fit) v t) 0 bytes.now)
+        (each_of step places.now) (outputs values.old values.new states.old states.new) result }
+{
+    let uint64s = Places::new(places, step);
+    take_at(bytes, uint64s, &uint64(fit), values, states)
+}
+
+/// Takes the members at places as decimals, as `kohiblad_take_decimal` has them. `InvalidJsonb`
+/// also, before all others, if the scale is above 255. All else is as `kohiblad_take_int64_at` has
+/// it.
+#[unsafe(no_mangle)]
+pub extern "C" fn kohiblad_take_decimal_at(
+    bytes: &[u8],
+    places: &[KohibladPlace],
+    step: usize,
+    fit: u32,
+    scale: u32,
+    values: &mut [KohibladInt128],
+    states: &mut [u8],
+) -> KohibladTaken
+    ensures scale { 255 < scale → (result ≡ not_taken (code Error.InvalidJsonb)) × AreKept
+        (outputs values.old values.new states.old states.new) }
+    ensures taken { scale ≤ 255 → AreRowsTaken
+        (IsTakenAt (IsInt128 (fit_of fit) scale) (record { low = 0; high = pos 0 }) bytes.now)
+        (each_of step places.now) (outputs values.old values.new states.old states.new) result }
+{
+    let Ok(scale) = u8::try_from(scale) else {
+        return not_taken(code(Error::InvalidJsonb));
+    };
+    let decimals = Places::new(places, step);
+    take_at(bytes, decimals, &decimal(fit, scale), values, states)
+}
+
+/// Takes the members at places as truth values, 0 or 1. All else is as `kohiblad_take_int64_at` has
+/// it.
+#[unsafe(no_mangle)]
+pub extern "C" fn kohiblad_take_boolean_at(
+    bytes: &[u8],
+    places: &[KohibladPlace],
+    step: usize,
+    values: &mut [u8],
+    states: &mut [u8],
+) -> KohibladTaken
+    ensures { AreRowsTaken (IsTakenAt IsTruth 0 bytes.now) (each_of step places.now)
+        (outputs values.old values.new states.old states.new) result }
+{
+    let truths = Places::new(places, step);
+    take_at(bytes, truths, &TruthBytes, values, states)
+}
+
+/// Takes the members at places as dates, as `kohiblad_take_date` has them. All else is as
+/// `kohiblad_take_int64_at` has it.
+#[unsafe(no_mangle)]
+pub extern "C" fn kohiblad_take_date_at(
+    bytes: &[u8],
+    places: &[KohibladPlace],
+    step: usize,
+    values: &mut [i32],
+    states: &mut [u8],
+) -> KohibladTaken
+    ensures { AreRowsTaken (IsTakenAt IsDate (pos 0) bytes.now) (each_of step places.now)
+        (outputs values.old values.new states.old states.new) result }
+{
+    let dates = Places::new(places, step);
+    take_at(bytes, dates, &DateNumbers, values, states)
+}
+
+/// Takes the members at places as timestamps without a time zone, as `kohiblad_take_timestamp` has
+/// them. All else is as `kohiblad_take_int64_at` has it.
+#[unsafe(no_mangle)]
+pub extern "C" fn kohiblad_take_timestamp_at(
+    bytes: &[u8],
+    places: &[KohibladPlace],
+    step: usize,
+    values: &mut [i64],
+    states: &mut [u8],
+) -> KohibladTaken
+    ensures { AreRowsTaken (IsTakenAt IsTimestamp (pos 0) bytes.now) (each_of step places.now)
+        (outputs values.old values.new states.old states.new) result }
+{
+    let timestamps = Places::new(places, step);
+    take_at(bytes, timestamps, &TimestampNumbers, values, states)
+}
+
+/// Takes the members at places as timestamps with a time zone, as `kohiblad_take_timestamp_tz` has
+/// them. All else is as `kohiblad_take_int64_at` has it.
+#[unsafe(no_mangle)]
+pub extern "C" fn kohiblad_take_timestamp_tz_at(
+    bytes: &[u8],
+    places: &[KohibladPlace],
+    step: usize,
+    values: &mut [KohibladTimestampTz],
+    states: &mut [u8],
+) -> KohibladTaken
+    ensures { AreRowsTaken
+        (IsTakenAt IsZonedTimestamp (record { value = pos 0; seconds = pos 0 }) bytes.now)
+        (each_of step places.now) (outputs values.old values.new states.old states.new) result }
+{
+    let zoned = Places::new(places, step);
+    take_at(bytes, zoned, &ZonedNumbers, values, states)
+}
+
+/// Takes the members at places as intervals, as `kohiblad_take_interval` has them. All else is as
+/// `kohiblad_take_int64_at` has it.
+#[unsafe(no_mangle)]
+pub extern "C" fn kohiblad_take_interval_at(
+    bytes: &[u8],
+    places: &[KohibladPlace],
+    step: usize,
+    values: &mut [KohibladInterval],
+    states: &mut [u8],
+) -> KohibladTaken
+    ensures { AreRowsTaken
+        (IsTakenAt IsInterval (record { months = pos 0; days = pos 0; micros = pos 0 }) bytes.now)
+        (each_of step places.now) (outputs values.old values.new states.old states.new) result }
+{
+    let intervals = Places::new(places, step);
+    take_at(bytes, intervals, &IntervalNumbers, values, states)
+}
+
+// Whole numbers with a sign that fit as the caller says.
+fn int64(fit: u32) -> Int64
+    ensures { result ≡ record { fit = fit_of fit } }
+{
+    Int64 { fit: fit_of(fit) }
+}
+
+// The same of numbers without a sign.
+fn uint64(fit: u32) -> UInt64
+    ensures { result ≡ record { fit = fit_of fit } }
+{
+    UInt64 { fit: fit_of(fit) }
+}
+
+// The same of decimals with so many digits after the point.
+fn decimal(fit: u32, scale: u8) -> Halves
+    ensures { result ≡ record { decimal = record { scale = scale; fit = fit_of fit } } }
+{
+    let fit = fit_of(fit);
+    Halves {
+        decimal: Decimal { scale, fit },
     }
 }

@@ -6,12 +6,10 @@ ghost use Rattle.jsonb_codec.specs.declared.constants.TheConstants.{NUMBER_TAG};
 ghost use Rattle.jsonb_functions.specs.Found.{found_at};
 ghost use Rattle.jsonb_typed.specs.Words.{HoldsNoScalar, HoldsScalars, member_cell};
 ghost use Rattle.kohiblad.specs.Located.{entry_state};
-ghost use Rattle.kohiblad.specs.Taking.{AreRowsPut, AreRowsTaken, AreTaken, IsReadRow};
-ghost use Rattle.kohiblad.specs.Taking.{IsSomeTaken, IsTakenCell, IsTakenRow};
-ghost use Rattle.kohiblad.specs.Taking.{IsTakenUnchecked, bytes_state, first_unfit, fit_of};
-ghost use Rattle.kohiblad.specs.Taking.{not_taken, taken_answer, tree_state, unfit_count};
+ghost use Rattle.kohiblad.specs.Taking.{AreRowsPut, AreRowsTaken, AreTaken, IsSomeTaken, IsTakenBy};
+ghost use Rattle.kohiblad.specs.Taking.{IsTakenCell, bytes_state, first_unfit, fit_of, not_taken};
+ghost use Rattle.kohiblad.specs.Taking.{outputs, taken_answer, tree_state, unfit_count};
 ghost use Rattle.kohiblad.specs.Words.{IsPayloadOf, Tree, document_tree, meaning_within, node_tree};
-ghost use Rattle.kohiblad.specs.Taking.{outputs};
 
 use crate::answer::{NO_ROOM, OK, code};
 use crate::row_paths::steps_of;
@@ -117,7 +115,7 @@ pub fn take<T: ColumnType>(
     values: &mut [T::Value],
     states: &mut [u8],
 ) -> KohibladTaken
-    ensures { AreTaken (IsReadRow (T.stands column_type.now) (T.blank column_type.now)
+    ensures { AreTaken (IsTakenBy (T.stands column_type.now) (T.blank column_type.now)
         source.entry.reading)
         source.entry.bytes.now source.entry.offsets.now
         (meaning_within source.entry.depth source.entry.path.now)
@@ -151,7 +149,7 @@ fn take_rows<T: ColumnType>(
     states: &mut [u8],
 ) -> KohibladTaken
     requires { HoldsScalars (T.stands column_type.now) }
-    ensures { AreRowsTaken (IsReadRow (T.stands column_type.now) blank reading path.now) rows.entry
+    ensures { AreRowsTaken (IsTakenBy (T.stands column_type.now) blank reading path.now) rows.entry
         (outputs values.old values.new states.old states.new) result }
 {
     if values.len() < rows.len() || states.len() < rows.len() {
@@ -174,7 +172,7 @@ fn put_rows<T: ColumnType>(
     requires states { length rows ≤ length states.old }
     requires scalars { HoldsScalars (T.stands column_type.now) }
     ensures { (taken : List (T.Value × ℕ))
-        × (AreRowsPut (IsReadRow (T.stands column_type.now) blank reading path.now) rows.entry
+        × (AreRowsPut (IsTakenBy (T.stands column_type.now) blank reading path.now) rows.entry
         (outputs values.old values.new states.old states.new) taken
         × (result ≡ taken_answer (map (λ row. row.1) taken))) }
 {
@@ -199,7 +197,7 @@ fn read_row<T: ColumnType>(
     blank: T::Value,
 ) -> (T::Value, u8)
     requires { HoldsScalars (T.stands column_type.now) }
-    ensures { IsReadRow (T.stands column_type.now) blank reading path.now row.now result }
+    ensures { IsTakenBy (T.stands column_type.now) blank reading path.now row.now result }
 {
     match reading {
         Reading::Checked(depth) => take_row(row, path, depth, column_type, blank),
@@ -215,7 +213,8 @@ fn take_row<T: ColumnType>(
     column_type: &T,
     blank: T::Value,
 ) -> (T::Value, u8)
-    ensures { IsTakenRow (T.stands column_type.now) blank depth path.now row.now result }
+    ensures { IsTakenBy (T.stands column_type.now) blank (Reading.Checked depth) path.now row.now
+        result }
 {
     match SortKey::within(row, depth) {
         SortKey::Document(document) => {
@@ -247,7 +246,7 @@ fn take_unchecked<T: ColumnType>(
     blank: T::Value,
 ) -> (T::Value, u8)
     requires { HoldsScalars (T.stands column_type.now) }
-    ensures { IsTakenUnchecked (T.stands column_type.now) blank path.now row.now result }
+    ensures { IsTakenBy (T.stands column_type.now) blank Reading.Unchecked path.now row.now result }
 {
     if row.is_empty() {
         return (blank, ABSENT);

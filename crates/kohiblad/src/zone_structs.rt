@@ -4,7 +4,7 @@ ghost use Rattle.std.specs.Prelude.{◌≡◌, Option};
 ghost use Rattle.typed_vector.specs.declared.zone_map.Zone.{Zone};
 ghost use Rattle.kohiblad.specs.ZoneStructs.{date_zone, decimal_zone, int64_zone, uint64_zone};
 
-use crate::taken_types::KohibladInt128;
+use crate::taken_values::KohibladInt128;
 use typed_vector::Zone;
 
 /// A struct for a zone, or for none.

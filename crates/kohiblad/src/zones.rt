@@ -7,7 +7,7 @@ ghost use Rattle.kohiblad.specs.ZoneStructs.{date_zone, decimal_zone, int64_zone
 ghost use Rattle.kohiblad.specs.Zones.{AreZonesWritten};
 
 use crate::answer::{NO_ROOM, OK, code, refuse};
-use crate::taken_types::KohibladInt128;
+use crate::taken_values::KohibladInt128;
 use crate::taking::VALUE;
 use crate::zone_structs::{
     KohibladDateZone, KohibladDecimalZone, KohibladInt64Zone, KohibladUInt64Zone, ZoneStruct,

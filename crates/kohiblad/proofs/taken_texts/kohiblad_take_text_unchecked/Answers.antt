@@ -1,4 +1,4 @@
 use Rattle.kohiblad.proofs.taken_texts.kohiblad_take_text_unchecked.Goals as goal
 
 pub returns : goal.returns
-returns c = rw c.unchecked-source.ensures at c.take_texts.ensures
+returns c = rw c.unchecked-texts.ensures at c.take_texts.ensures

@@ -2,7 +2,7 @@ use Rattle.std.proofs.Common.{◌≡◌, true, length, List, inr, subst, ◌∙�
 use Rattle.jsonb.specs.Within.{meaning_within}
 use Rattle.jsonb_functions.specs.declared.path.Step.{Step}
 use Rattle.kohiblad.specs.Rows.{are_offsets, rows}
-use Rattle.kohiblad.specs.Taking.{AreKept, AreRowsTaken, IsReadRow, not_taken, outputs}
+use Rattle.kohiblad.specs.Taking.{AreKept, AreRowsTaken, IsTakenBy, not_taken, outputs}
 use Rattle.kohiblad.proofs.OverRowsLaws.{not_refused, same_path}
 use Rattle.kohiblad.proofs.taking.take.Goals as goal
 
@@ -18,7 +18,7 @@ returns-in-Ok-steps_of g c =
           × AreKept (outputs c.args.values.now c.take_rows.new.values c.args.states.now c.take_rows.new.states))
           _
           (λ path. AreRowsTaken
-          (IsReadRow (g.T.ColumnType.stands c.args.column_type.now)
+          (IsTakenBy (g.T.ColumnType.stands c.args.column_type.now)
           (g.T.ColumnType.blank c.args.column_type.now) source.reading path)
           (rows source.bytes.now source.offsets.now)
           (outputs c.args.values.now c.take_rows.new.values c.args.states.now c.take_rows.new.states) c.take_rows.result)
@@ -26,7 +26,7 @@ returns-in-Ok-steps_of g c =
           (λ path is.
           subst
           (λ (path : List Step). AreRowsTaken
-          (IsReadRow (g.T.ColumnType.stands c.args.column_type.now)
+          (IsTakenBy (g.T.ColumnType.stands c.args.column_type.now)
           (g.T.ColumnType.blank c.args.column_type.now) source.reading path)
           (rows source.bytes.now source.offsets.now)
           (outputs c.args.values.now c.take_rows.new.values c.args.states.now c.take_rows.new.states) c.take_rows.result)

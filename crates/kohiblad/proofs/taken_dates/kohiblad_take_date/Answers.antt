@@ -1,4 +1,0 @@
-use Rattle.kohiblad.proofs.taken_dates.kohiblad_take_date.Goals as goal
-
-pub returns : goal.returns
-returns c = rw c.checked-source.ensures at c.take.ensures
