@@ -112,10 +112,21 @@ fn scanned(alloc: Global, text: &str, exponents: Exponents) -> Result<Stop, Erro
     })
 }
 
-// Where a text is not JSON under this rule for exponents, and why; `None` if it is JSON.
-fn fault_under(alloc: Global, text: &str, exponents: Exponents) -> Result<Option<Fault>, Error>
+/// Where a text is not JSON under a rule for exponents, and why; `None` if it is JSON.
+///
+/// The offset is the length of the longest beginning of the text that begins some JSON text under
+/// that rule: that of the whole text if it only ends too early, and otherwise the position of the
+/// first character that no JSON text has there. The reason is `Number` exactly if that beginning
+/// ends in an unfinished or too large number, as of `[1.]`, `-` and an integer of 40 digits,
+/// whatever follows; `1e5` is one where exponents are forbidden, and `1e39` where they are allowed.
+/// `OutOfMemory` if an allocation fails. No value is made, and no stack is taken for the depth of
+/// the text.
+pub fn fault_of(alloc: Global, text: &str, exponents: Exponents) -> Result<Option<Fault>, Error>
+    // Nothing is found exactly in JSON texts.
     ensures none { IfOk result
         (λ found. (found ≡ None) ↔ IsJsonUnder exponents (chars text.now)) }
+    // The fault is after the longest beginning of the text that begins a JSON text, and the reason
+    // is the numbers exactly if that ends in an unfinished or too large number.
     ensures fault { IfOk result
         (λ found. IfSome found (IsFaultUnder exponents (chars text.now))) }
     ensures memory { IfErr result (λ e. e ≡ Error.OutOfMemory) }
@@ -130,14 +141,12 @@ fn fault_under(alloc: Global, text: &str, exponents: Exponents) -> Result<Option
     }))
 }
 
-/// Where a text is not JSON, and why; `None` if it is JSON, as `parse_value` reads it.
+/// Where a text is not JSON, and why; `None` if it is JSON, as `parse_value` reads it: `fault_of`
+/// where no number has an exponent.
 ///
-/// The offset is the length of the longest beginning of the text that begins some JSON text: that
-/// of the whole text if it only ends too early, and otherwise the position of the first character
-/// that no JSON text has there. The reason is `Number` exactly if that beginning ends in an
-/// unfinished or too large number, as of `[1.]`, `-`, `1e5` and an integer of 40 digits, whatever
-/// follows. `OutOfMemory` if an allocation fails. No value is made, and no stack is taken for the
-/// depth of the text.
+/// The offset is the length of the longest beginning of the text that begins some JSON text, and
+/// the reason is `Number` exactly if that ends in an unfinished or too large number. `OutOfMemory`
+/// if an allocation fails.
 pub fn text_fault(alloc: Global, text: &str) -> Result<Option<Fault>, Error>
     // Nothing is found exactly in JSON texts.
     ensures none { IfOk result (λ found. (found ≡ None) ↔ IsJson (chars text.now)) }
@@ -146,15 +155,15 @@ pub fn text_fault(alloc: Global, text: &str) -> Result<Option<Fault>, Error>
     ensures fault { IfOk result (λ found. IfSome found (IsFaultAt (chars text.now))) }
     ensures memory { IfErr result (λ e. e ≡ Error.OutOfMemory) }
 {
-    fault_under(alloc, text, Exponents::Forbidden)
+    fault_of(alloc, text, Exponents::Forbidden)
 }
 
 /// Where a text is not JSON with exponents, and why; `None` if it is, as
-/// `parse_value_with_exponents` reads it.
+/// `parse_value_with_exponents` reads it: `fault_of` where numbers may have exponents.
 ///
 /// The offset is the length of the longest beginning of the text that begins some JSON text with or
 /// without exponents. An exponent counts with its number: `1e3` begins a number that the format
-/// holds, and `1e39` does not; `1e` is unfinished. Otherwise like `text_fault`.
+/// holds, and `1e39` does not; `1e` is unfinished. `OutOfMemory` if an allocation fails.
 pub fn text_fault_with_exponents(alloc: Global, text: &str) -> Result<Option<Fault>, Error>
     // Nothing is found exactly in JSON texts, with or without exponents.
     ensures none { IfOk result
@@ -164,7 +173,7 @@ pub fn text_fault_with_exponents(alloc: Global, text: &str) -> Result<Option<Fau
     ensures fault { IfOk result (λ found. IfSome found (IsFaultAtWithExponents (chars text.now))) }
     ensures memory { IfErr result (λ e. e ≡ Error.OutOfMemory) }
 {
-    fault_under(alloc, text, Exponents::Allowed)
+    fault_of(alloc, text, Exponents::Allowed)
 }
 
 /// What may come after the longest beginning of a text that begins a JSON text, with exponents if

@@ -14,4 +14,6 @@ pub use classes::{
     EXPECTED_LOW_HALF, EXPECTED_OBJECT_END, EXPECTED_POINT, EXPECTED_R, EXPECTED_S, EXPECTED_SIGN,
     EXPECTED_STRING, EXPECTED_U, EXPECTED_VALUE,
 };
-pub use fault::{Fault, FaultReason, text_expected, text_fault, text_fault_with_exponents};
+pub use fault::{
+    Fault, FaultReason, fault_of, text_expected, text_fault, text_fault_with_exponents,
+};

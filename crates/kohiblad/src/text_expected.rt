@@ -46,7 +46,7 @@ pub extern "C" fn kohiblad_text_expected(
         return no_classes(TOO_DEEP);
     }
     match basic::from_utf8(text) {
-        Ok(text) => classes_of(alloc, text, exponents),
+        Ok(text) => classes_of(alloc, text, rule_of(exponents)),
         Err(_) => no_classes(code(Error::InvalidUtf8)),
     }
 }
@@ -58,8 +58,8 @@ fn no_classes(status: u32) -> KohibladExpected
     KohibladExpected { status, classes: 0 }
 }
 
-// The rule for exponents that a caller gives as a number: 0 forbids them.
-fn rule_of(exponents: u32) -> Exponents
+/// The rule for exponents that a caller gives as a number: 0 forbids them.
+pub fn rule_of(exponents: u32) -> Exponents
     ensures { result ≡ rule_of exponents }
 {
     match exponents {
@@ -69,10 +69,10 @@ fn rule_of(exponents: u32) -> Exponents
 }
 
 // What may come where a text stops being JSON.
-fn classes_of(alloc: Global, text: &str, exponents: u32) -> KohibladExpected
-    ensures { IsTextExpected (rule_of exponents) text.now result }
+fn classes_of(alloc: Global, text: &str, exponents: Exponents) -> KohibladExpected
+    ensures { IsTextExpected exponents text.now result }
 {
-    match text_expected(alloc, text, rule_of(exponents)) {
+    match text_expected(alloc, text, exponents) {
         Ok(classes) => KohibladExpected {
             status: OK,
             classes,

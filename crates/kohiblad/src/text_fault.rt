@@ -1,13 +1,14 @@
 //! Where a text is not JSON.
 
-ghost use Rattle.std.specs.Prelude.{◌≡◌, ◌<◌, ◌≤◌, ◌↔◌, chars, IsUtf8, IfOk, IfErr, IfSome};
+ghost use Rattle.std.specs.Prelude.{◌≡◌, ◌<◌, ◌≤◌, IsUtf8};
 ghost use Rattle.kohiblad.specs.Words.{text_depth, code, too_deep, reason_status, no_fault};
-ghost use Rattle.kohiblad.specs.Words.{IsTextFault, IsJsonUnder, IsFaultUnder, rule_of};
+ghost use Rattle.kohiblad.specs.Words.{IsTextFault, rule_of};
 
 use crate::answer::{BAD_NUMBER, OK, TOO_DEEP, code};
-use json_fault::{Fault, FaultReason, text_fault, text_fault_with_exponents};
-use jsonb::Error;
+use crate::text_expected::rule_of;
+use json_fault::{FaultReason, fault_of};
 use jsonb::layer::is_text_within;
+use jsonb::{Error, Exponents};
 use simdutf8::basic;
 use std::alloc::Global;
 
@@ -45,7 +46,7 @@ pub extern "C" fn kohiblad_text_fault(
         return no_fault(TOO_DEEP);
     }
     match basic::from_utf8(text) {
-        Ok(text) => fault_of(alloc, text, exponents),
+        Ok(text) => found_fault(alloc, text, rule_of(exponents)),
         Err(_) => no_fault(code(Error::InvalidUtf8)),
     }
 }
@@ -67,26 +68,11 @@ fn reason_status(reason: FaultReason) -> u32
     }
 }
 
-// Where a text is not JSON, and why, with or without exponents.
-fn found_fault(alloc: Global, text: &str, exponents: u32) -> Result<Option<Fault>, Error>
-    ensures none { IfOk result
-        (λ found. (found ≡ None) ↔ IsJsonUnder (rule_of exponents) (chars text.now)) }
-    ensures fault { IfOk result (λ found. IfSome found
-        (IsFaultUnder (rule_of exponents) (chars text.now))) }
-    ensures memory { IfErr result (λ e. e ≡ Error.OutOfMemory) }
-{
-    if exponents == 0 {
-        text_fault(alloc, text)
-    } else {
-        text_fault_with_exponents(alloc, text)
-    }
-}
-
 // Whether a text is JSON, and where it is not.
-fn fault_of(alloc: Global, text: &str, exponents: u32) -> KohibladFault
-    ensures { IsTextFault (rule_of exponents) text.now result }
+fn found_fault(alloc: Global, text: &str, exponents: Exponents) -> KohibladFault
+    ensures { IsTextFault exponents text.now result }
 {
-    match found_fault(alloc, text, exponents) {
+    match fault_of(alloc, text, exponents) {
         Ok(None) => KohibladFault {
             status: OK,
             offset: text.len() as u64,

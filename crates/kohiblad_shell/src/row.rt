@@ -1,8 +1,8 @@
 //! The document of a row, or why the row is wrong.
 
-ghost use Rattle.std.specs.Prelude.{◌≡◌, ◌↔◌, IfOk, IfErr, IfSome, IsOk, None, chars};
+ghost use Rattle.std.specs.Prelude.{◌≡◌, ◌↔◌, IfOk, IfErr, IsOk, chars};
 ghost use Rattle.kohiblad_shell.specs.Words.{AreExpected, IsDocument, IsDocumentWithin};
-ghost use Rattle.kohiblad_shell.specs.Words.{IsFaultUnder, IsJsonUnder, IsNotJson};
+ghost use Rattle.kohiblad_shell.specs.Words.{IsJsonUnder, IsNotJson};
 ghost use Rattle.kohiblad_shell.specs.Words.{IsParsed, IsRefusedLine, ParsesUnderWithin, Wrong};
 ghost use Rattle.kohiblad_shell.specs.Words.{bad_document, document_bytes, line_reason};
 ghost use Rattle.kohiblad_shell.specs.Words.{owned_bytes, plain_fault, result_bytes};
@@ -10,7 +10,7 @@ ghost use Rattle.kohiblad_shell.specs.Words.{unanswered_of};
 
 use crate::input::Reading;
 use crate::outcome::{LineFault, Reason, Unanswered};
-use json_fault::{Fault, FaultReason, text_expected, text_fault, text_fault_with_exponents};
+use json_fault::{FaultReason, fault_of, text_expected};
 use jsonb::{Document, Error, Exponents, OwnedJsonb, ParseError};
 use simdutf8::compat;
 use std::alloc::Global;
@@ -78,7 +78,7 @@ fn fault_in(alloc: Global, text: &str, reading: Reading) -> Unanswered
     requires { IsJsonUnder reading.exponents (chars text.now) → ⊥ }
     ensures { IsNotJson reading text.now result }
 {
-    match fault_under(alloc, text, reading.exponents) {
+    match fault_of(alloc, text, reading.exponents) {
         Ok(Some(fault)) => match expected_in(alloc, text, reading) {
             Ok(expected) => Unanswered::Wrong(LineFault {
                 offset: fault.offset,
@@ -100,19 +100,6 @@ fn expected_in(alloc: Global, text: &str, reading: Reading) -> Result<u32, Error
         text_expected(alloc, text, reading.exponents)
     } else {
         Ok(0)
-    }
-}
-
-// Where a text is not JSON under a rule for exponents; `None` if it is.
-fn fault_under(alloc: Global, text: &str, exponents: Exponents) -> Result<Option<Fault>, Error>
-    ensures none { IfOk result
-        (λ found. (found ≡ None) ↔ IsJsonUnder exponents (chars text.now)) }
-    ensures fault { IfOk result
-        (λ found. IfSome found (IsFaultUnder exponents (chars text.now))) }
-{
-    match exponents {
-        Exponents::Allowed => text_fault_with_exponents(alloc, text),
-        Exponents::Forbidden => text_fault(alloc, text),
     }
 }
 
