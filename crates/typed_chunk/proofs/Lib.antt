@@ -1,0 +1,4 @@
+pub mod DigitLaws
+pub mod PackedLaws
+pub mod UnpackedLaws
+pub mod HeadedLaws

@@ -1,0 +1,29 @@
+-- Examples of codes in bytes.
+use Rattle.std.specs.Prelude.{◌≡◌, [], ◌∷◌}
+use Rattle.typed_chunk.specs.Headed.{headed}
+use Rattle.typed_chunk.specs.Packed.{least_width, packed}
+
+-- Codes of one width, the lowest bits first; bits past the last code are 0.
+pub record PackedExamples : Type 0 where
+  pub of_no_bits : packed 0 (0 ∷ 0 ∷ 0 ∷ []) ≡ []
+  pub of_1_bit : packed 1 (1 ∷ 0 ∷ 1 ∷ 1 ∷ 0 ∷ 0 ∷ 0 ∷ 0 ∷ 1 ∷ []) ≡ 13 ∷ 1 ∷ []
+  pub of_2_bits : packed 2 (3 ∷ 0 ∷ 1 ∷ 2 ∷ 1 ∷ []) ≡ 0x93 ∷ 1 ∷ []
+  pub of_4_bits : packed 4 (1 ∷ 15 ∷ 7 ∷ []) ≡ 0xf1 ∷ 7 ∷ []
+  pub of_8_bits : packed 8 (1 ∷ 255 ∷ []) ≡ 1 ∷ 255 ∷ []
+  pub of_16_bits : packed 16 (0x102 ∷ 3 ∷ []) ≡ 2 ∷ 1 ∷ 3 ∷ 0 ∷ []
+
+-- The least widths.
+pub record WidthExamples : Type 0 where
+  pub of_0 : least_width 0 ≡ 0
+  pub of_1 : least_width 1 ≡ 1
+  pub of_3 : least_width 3 ≡ 2
+  pub of_4 : least_width 4 ≡ 4
+  pub of_16 : least_width 16 ≡ 8
+  pub of_256 : least_width 256 ≡ 16
+  pub of_65536 : least_width 65536 ≡ 32
+  pub of_2_to_32 : least_width 0x1_0000_0000 ≡ 64
+
+-- A width, a head and codes.
+pub record HeadedExamples : Type 0 where
+  pub of_codes : headed (7 ∷ 9 ∷ []) (0 ∷ 5 ∷ 3 ∷ []) ≡ 4 ∷ 7 ∷ 9 ∷ 0x50 ∷ 3 ∷ []
+  pub of_zeros : headed (7 ∷ 9 ∷ []) (0 ∷ 0 ∷ []) ≡ 0 ∷ 7 ∷ 9 ∷ []

@@ -1,0 +1,4 @@
+pub mod Digits
+pub mod Examples
+pub mod Headed
+pub mod Packed

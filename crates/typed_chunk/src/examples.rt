@@ -1,0 +1,11 @@
+//! Examples of the definitions, which the prover checks.
+
+ghost use Rattle.typed_chunk.specs.Examples.{HeadedExamples, PackedExamples, WidthExamples};
+
+// Examples of what the definitions say.
+#[tactic(auto, unfolding(crate::specs::Packed::least_width))]
+fn examples()
+    ensures packed { PackedExamples }
+    ensures widths { WidthExamples }
+    ensures headed { HeadedExamples }
+{}
