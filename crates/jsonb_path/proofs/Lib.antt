@@ -1,0 +1,2 @@
+pub mod RaisedLaws
+pub mod WholeLaws
