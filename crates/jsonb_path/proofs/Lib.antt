@@ -1,2 +1,3 @@
+pub mod ExampleLaws
 pub mod RaisedLaws
 pub mod WholeLaws

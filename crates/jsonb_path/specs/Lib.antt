@@ -1,3 +1,6 @@
 pub mod Arithmetic
 pub mod Comparison
 pub mod Decimal
+pub mod Examples
+pub mod Meaning
+pub mod Syntax

@@ -2,7 +2,13 @@
 #![tactic(auto)]
 
 pub mod compare;
+mod examples;
 pub mod number;
+pub mod path;
 
 pub use compare::{Comparison, Scalar, Truth};
 pub use number::NumberError;
+pub use path::{
+    Accessor, Level, Literal, Method, Mode, Operator, Part, Path, PathError, Sign, Source,
+    Subscript, Test,
+};

@@ -1,0 +1,14 @@
+//! Examples of the definitions, which the prover checks.
+
+ghost use Rattle.jsonb_path.specs.Examples.{DescendantExamples, FilterExamples, MemberExamples};
+ghost use Rattle.jsonb_path.specs.Examples.{NumberExamples, SubscriptExamples, TestExamples};
+
+// Examples of what the definitions say.
+fn examples()
+    ensures member { MemberExamples }
+    ensures subscript { SubscriptExamples }
+    ensures descendant { DescendantExamples }
+    ensures filter { FilterExamples }
+    ensures test { TestExamples }
+    ensures number { NumberExamples }
+{}
