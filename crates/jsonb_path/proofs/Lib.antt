@@ -1,3 +1,4 @@
 pub mod ExampleLaws
+pub mod PartLaws
 pub mod RaisedLaws
 pub mod WholeLaws

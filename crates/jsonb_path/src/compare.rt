@@ -1,9 +1,11 @@
 //! How two values compare in a path, and the three truths.
 
 ghost use Rattle.std.specs.Prelude.{◌≡◌};
-ghost use Rattle.jsonb_path.specs.Comparison.{both, comparand, compares, either, holds, negation};
-ghost use Rattle.jsonb_path.specs.Comparison.{starts_with, truth_of, unknown};
+ghost use Rattle.jsonb.specs.Node.{HoldsNoScalar, node_tree};
+ghost use Rattle.jsonb_path.specs.Comparison.{both, comparand, comparand_of, compares, either};
+ghost use Rattle.jsonb_path.specs.Comparison.{holds, negation, starts_with, truth_of, unknown};
 
+use jsonb::Node;
 use jsonb_value::Number;
 use std::cmp::Ordering;
 
@@ -100,6 +102,32 @@ pub enum Scalar<'a> {
     Text(&'a str),
     /// An array, an object or an extension value.
     Other,
+}
+
+impl<'a> Scalar<'a> {
+    /// The value as comparisons see it.
+    pub fn of(node: Node<'a>) -> Scalar<'a>
+        ensures { comparand result ≡ comparand_of (node_tree node.entry) }
+    {
+        match node {
+            Node::Container(document) => Scalar::of_opened(document.value()),
+            node => Scalar::of_opened(node),
+        }
+    }
+
+    // The same, where a container is known to hold an array or object and not a scalar.
+    fn of_opened(node: Node<'a>) -> Scalar<'a>
+        requires { HoldsNoScalar node }
+        ensures { comparand result ≡ comparand_of (node_tree node.entry) }
+    {
+        match node {
+            Node::Null => Scalar::Null,
+            Node::Boolean(value) => Scalar::Bool(value),
+            Node::Number(item) => Scalar::Number(item.as_number()),
+            Node::String(text) => Scalar::Text(text),
+            Node::Extension(_) | Node::Container(_) => Scalar::Other,
+        }
+    }
 }
 
 /// Compares two values: booleans with booleans, where false is less, numbers with numbers by value,

@@ -1,7 +1,15 @@
 //! A path, read: what it asks.
 
+ghost use Rattle.std.specs.Prelude.{◌≡◌, IsTrue};
+ghost use Rattle.std.specs.List.{list_all};
+ghost use Rattle.jsonb_path.specs.Meaning.{operated, signed_as};
+ghost use Rattle.jsonb_path.specs.PathParts.{are_parts, is_accessor, is_expression, is_part};
+ghost use Rattle.jsonb_path.specs.PathParts.{is_prefix, is_source, is_subscript, is_test, made_of};
+
 use crate::compare::Comparison;
+use crate::number::{NumberError, add, multiply, negate, remainder, subtract};
 use jsonb_value::Number;
+use std::marker::Model;
 
 /// Whether a path passes over what is not there (`Lax`) or refuses it (`Strict`).
 #[derive(Clone, Copy, Debug, PartialEq, Eq)]
@@ -14,8 +22,48 @@ pub enum Mode {
 /// part is the whole path.
 #[derive(Debug, Drop)]
 pub struct Path {
-    pub mode: Mode,
-    pub parts: Vec<Part>,
+    mode: Mode,
+    parts: Vec<Part>,
+}
+
+impl Model for Path {
+    ghost use Rattle.std.specs.Prelude.{IsTrue};
+    ghost use Rattle.jsonb_path.specs.PathParts.{PathParts, are_parts};
+
+    ghost Value = { PathParts };
+
+    ghost view = { λ s. record { mode = s.mode; parts = s.parts.items } };
+
+    ghost invariant = { λ s. IsTrue (are_parts s.parts.items) };
+}
+
+impl Path {
+    /// The path of these parts. `None` if there is none, or one of them names a part that is not
+    /// before it, an expression where a test is wanted, or a test where an expression is.
+    pub fn new(mode: Mode, parts: Vec<Part>) -> Option<Path>
+        ensures { result ≡ made_of mode parts.items }
+    {
+        if are_parts(&parts) {
+            Some(Path { mode, parts })
+        } else {
+            None
+        }
+    }
+
+    /// Whether the path passes over what is not there.
+    pub fn mode(&self) -> Mode
+        ensures { result ≡ self.now.mode }
+    {
+        self.mode
+    }
+
+    /// The parts, of which the last one is the whole path.
+    pub fn parts(&self) -> &[Part]
+        ensures parts { result.now ≡ self.now.parts }
+        ensures earlier { IsTrue (are_parts result.now) }
+    {
+        &self.parts
+    }
 }
 
 /// A part of a path: an expression, or a test.
@@ -99,6 +147,18 @@ pub enum Sign {
     Minus,
 }
 
+impl Sign {
+    /// The number with this sign before it. `OutOfRange` for the least value of 128 bits after `-`.
+    pub fn apply(self, number: &Number) -> Result<Number, NumberError>
+        ensures { result ≡ signed_as self number.now }
+    {
+        match self {
+            Sign::Plus => Ok(*number),
+            Sign::Minus => negate(number),
+        }
+    }
+}
+
 /// `+`, `-`, `*` or `%` between two expressions.
 #[derive(Clone, Copy, Debug, PartialEq, Eq)]
 pub enum Operator {
@@ -106,6 +166,22 @@ pub enum Operator {
     Subtract,
     Multiply,
     Remainder,
+}
+
+impl Operator {
+    /// What the operator gives of two numbers, exactly. `DivisionByZero` for a remainder by zero,
+    /// `OutOfRange` if the result does not fit.
+    #[tactic(auto, using(crate::proofs::WholeLaws::remainder_is))]
+    pub fn apply(self, left: &Number, right: &Number) -> Result<Number, NumberError>
+        ensures { result ≡ operated self left.now right.now }
+    {
+        match self {
+            Operator::Add => add(left, right),
+            Operator::Subtract => subtract(left, right),
+            Operator::Multiply => multiply(left, right),
+            Operator::Remainder => remainder(left, right),
+        }
+    }
 }
 
 /// A test, which is true, false or unknown.
@@ -143,4 +219,123 @@ pub enum PathError {
     OutOfRange,
     /// A variable that is not given.
     UndefinedVariable,
+}
+
+// Whether there are parts, of which each names parts before it, tests where they are wanted and
+// expressions elsewhere.
+#[tactic(auto, using(crate::proofs::PartLaws::parts_step, crate::proofs::PartLaws::parts_end))]
+fn are_parts(parts: &[Part]) -> bool
+    ensures { result ≡ are_parts parts.now }
+{
+    for (at, part) in parts.iter().enumerate() {
+        if !is_part(&parts[..at], part) {
+            return false;
+        }
+    }
+    !parts.is_empty()
+}
+
+fn is_part(before: &[Part], part: &Part) -> bool
+    ensures { result ≡ is_part before.now part.now }
+{
+    match part {
+        Part::Chain(source, accessors) => {
+            is_source(before, source) && are_accessors(before, accessors)
+        }
+        Part::Sign(_, operand) => is_expression(before, *operand),
+        Part::Arithmetic(_, left, right) => {
+            is_expression(before, *left) && is_expression(before, *right)
+        }
+        Part::Test(Test::And(left, right) | Test::Or(left, right)) => {
+            is_test(before, *left) && is_test(before, *right)
+        }
+        Part::Test(Test::Not(test) | Test::IsUnknown(test)) => is_test(before, *test),
+        Part::Test(Test::Compare(_, left, right)) => {
+            is_expression(before, *left) && is_expression(before, *right)
+        }
+        Part::Test(Test::StartsWith(left, right)) => is_expression(before, *left)
+            && is_prefix(right),
+        Part::Test(Test::Exists(operand)) => is_expression(before, *operand),
+    }
+}
+
+// Whether a source names a part before it, or none.
+fn is_source(before: &[Part], source: &Source) -> bool
+    ensures { result ≡ is_source before.now source.now }
+{
+    match source {
+        Source::Part(at) => *at < before.len(),
+        _ => true,
+    }
+}
+
+// Whether a text can be asked to start with it: a text or a variable.
+fn is_prefix(source: &Source) -> bool
+    ensures { result ≡ is_prefix source.now }
+{
+    matches!(
+        source,
+        Source::Literal(Literal::Text(_)) | Source::Variable(_)
+    )
+}
+
+fn are_accessors(before: &[Part], accessors: &[Accessor]) -> bool
+    ensures { result ≡ list_all (is_accessor before.now) accessors.now }
+{
+    let mut left = accessors;
+    while let [accessor, rest @ ..] = left {
+        if !is_accessor(before, accessor) {
+            return false;
+        }
+        left = rest;
+    }
+    true
+}
+
+fn is_accessor(before: &[Part], accessor: &Accessor) -> bool
+    ensures { result ≡ is_accessor before.now accessor.now }
+{
+    match accessor {
+        Accessor::Items(subscripts) => are_subscripts(before, subscripts),
+        Accessor::Filter(test) => is_test(before, *test),
+        _ => true,
+    }
+}
+
+fn are_subscripts(before: &[Part], subscripts: &[Subscript]) -> bool
+    ensures { result ≡ list_all (is_subscript before.now) subscripts.now }
+{
+    let mut left = subscripts;
+    while let [subscript, rest @ ..] = left {
+        if !is_subscript(before, subscript) {
+            return false;
+        }
+        left = rest;
+    }
+    true
+}
+
+fn is_subscript(before: &[Part], subscript: &Subscript) -> bool
+    ensures { result ≡ is_subscript before.now subscript.now }
+{
+    is_expression(before, subscript.first)
+        && match subscript.last {
+            Some(last) => is_expression(before, last),
+            None => true,
+        }
+}
+
+fn is_expression(before: &[Part], at: usize) -> bool
+    ensures { result ≡ is_expression before.now at }
+{
+    match before.get(at) {
+        Some(Part::Test(_)) | None => false,
+        Some(_) => true,
+    }
+}
+
+fn is_test(before: &[Part], at: usize) -> bool
+    ensures { result ≡ is_test before.now at }
+{
+    matches!(before.get(at), Some(Part::Test(_)))
 }
