@@ -79,7 +79,8 @@ fn keys_of_other_lengths_are_passed_over(rt: HostRuntime) {
 
 // The end that a look-up needs next in so many bytes of `OBJECT`.
 fn end_needed(at_hand: usize, name: &str) -> Option<usize> {
-    match find_key_in_prefix(&OBJECT[..at_hand], OBJECT.len(), name) {
+    let prefix = OBJECT.get(..at_hand)?;
+    match find_key_in_prefix(prefix, OBJECT.len(), name) {
         Ok(Progress::Needs(end)) => Some(end),
         _ => None,
     }
