@@ -1,4 +1,5 @@
 # Sourced by test.sh and bench.sh: builds the extension and starts a server of its own with it.
+# tests/paths/against_server.py at the top starts one without the extension.
 #
 # A server finds its share and library folders relative to its binary. So the installed server is
 # copied to a scratch folder, the extension is installed there by `make install`, and CREATE
@@ -34,18 +35,23 @@ as_user() {
     fi
 }
 
+find_server() {
+    [ -x "$pg_config" ] || pass_over postgresql-15
+    bin=$("$pg_config" --bindir)
+    [ -x "$bin/initdb" ] || pass_over postgresql-15
+    user=nobody
+    ! id postgres > /dev/null 2>&1 || user=postgres
+    group=$(id -g "$user")
+}
+
 find_tools() {
     command -v make > /dev/null || pass_over make
     command -v cc > /dev/null || pass_over gcc
     command -v pkg-config > /dev/null || pass_over pkg-config
-    [ -x "$pg_config" ] || pass_over postgresql-15
-    [ -x "$("$pg_config" --bindir)/initdb" ] || pass_over postgresql-15
+    find_server
     headers=${POSTGRES_HEADERS:-$("$pg_config" --includedir-server)}
     [ -f "$headers/postgres.h" ] || pass_over postgresql-server-dev-15
     pkg-config --exists kohiblad || fail "pkg-config finds no kohiblad: set PKG_CONFIG_PATH"
-    user=nobody
-    ! id postgres > /dev/null 2>&1 || user=postgres
-    group=$(id -g "$user")
 }
 
 stop_server() {
