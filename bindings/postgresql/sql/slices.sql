@@ -68,6 +68,52 @@ WHERE (d @? path) IS DISTINCT FROM ((d #> '{}') @? path)
     OR kohiblad_path_query_array(d, path)
         IS DISTINCT FROM kohiblad_path_query_array(d #> '{}', path);
 
+-- Keys that exist, a few or many, and documents that are contained: what is found in slices is what
+-- is found in all bytes, and what jsonb finds.
+CREATE VIEW long_twice AS
+    SELECT d, d #> '{}' AS at_hand, d::jsonb AS of_jsonb FROM long OFFSET 0;
+CREATE TABLE names AS
+    SELECT keys FROM (VALUES ('{}'::text[]), ('{key3}'), ('{none}'), ('{none,key299,NULL}'),
+        ('{NULL}'), ('{key1,key2,key3,key299}'), ('{a,b}'), ('{a,none,b,NULL,none2,none3}'),
+        ('{key1,key2,key3,key4,key5,key200}'), ('{key1,key1,key1,key1,key1,key1}')) v (keys)
+    UNION ALL SELECT array_agg('key' || i) FROM generate_series(1, 200) i
+    UNION ALL SELECT array_agg('key' || i) FROM generate_series(100, 1000) i
+    UNION ALL SELECT array_agg('none' || i) FROM generate_series(1, 1000) i;
+SELECT count(*), count(*) FILTER (WHERE of_jsonb ?| keys), count(*) FILTER (WHERE of_jsonb ?& keys),
+    count(*) FILTER (WHERE (d ?| keys) IS DISTINCT FROM (at_hand ?| keys)
+        OR (d ?| keys) IS DISTINCT FROM (of_jsonb ?| keys)
+        OR (d ?& keys) IS DISTINCT FROM (at_hand ?& keys)
+        OR (d ?& keys) IS DISTINCT FROM (of_jsonb ?& keys)
+        OR kohiblad_has_any(d, given) IS DISTINCT FROM (at_hand ?| keys)
+        OR kohiblad_has_all(d, given) IS DISTINCT FROM (at_hand ?& keys)
+        OR kohiblad_has(d, to_kohiblad(coalesce(keys[1], 'none')))
+            IS DISTINCT FROM (at_hand ? coalesce(keys[1], 'none')))
+FROM long_twice, (SELECT keys, to_kohiblad(array_remove(keys, NULL)) AS given FROM names) n;
+CREATE TABLE wanted AS
+    SELECT q FROM unnest(ARRAY['{}', '[]', '7', '"key3"', '["key3"]', '["key3","none"]', '[[]]',
+        '{"key7":7}', '{"key7":7.0,"key27":27,"key3":[]}', '{"key7":8}', '{"key7":"7"}',
+        '{"none":1}', '{"key7":7,"none":null}', '{"key3":[3]}', '{"key3":[null,3,3]}',
+        '{"key3":[{"in":["x"]}]}', '{"key3":[{"in":["x",4]}]}', '{"key3":{"in":1}}', '{"key3":{}}',
+        '{"key7":7,"key27":27,"key47":47,"key67":67,"key87":87}',
+        '{"key7":7,"key27":27,"key47":47,"key67":67,"key87":87.5}',
+        '{"key7":7,"key27":27,"key3":[],"key67":67,"key0":7}',
+        '{"key1":1,"key2":2,"key3":3,"key7999":7999,"key8000":8000}',
+        '{"b":["end"]}', '{"b":["end",1,{}]}', '{"b":[1,{"key600":""}]}', '{"b":{"key1":1}}',
+        '[{"id":1}]', '[{"tags":["b"]},{"tags":["a"],"id":2999}]', '[{"tags":["c"]}]',
+        '[[{"id":1}]]']::kohiblad[]) q
+    UNION ALL SELECT kohiblad_build_object('key1', d -> 'key1', 'key299', d -> 'key299')
+    FROM stored_plain WHERE name LIKE '%members'
+    UNION ALL SELECT d - 'key5' FROM stored_plain WHERE d ? 'key1'
+    UNION ALL SELECT d || '{"key9":0}' FROM stored_plain WHERE d ? 'key1'
+    UNION ALL SELECT kohiblad_build_object('b', d -> 'b' || '[]') FROM stored_plain WHERE d ? 'b'
+    UNION ALL SELECT kohiblad_build_array(d -> 0) FROM stored_plain WHERE name IN ('items', 'texts')
+    UNION ALL SELECT d FROM stored_plain WHERE kohiblad_kind(d) IN ('object', 'string');
+SELECT count(*), count(*) FILTER (WHERE of_jsonb @> q::jsonb),
+    count(*) FILTER (WHERE (d @> q) IS DISTINCT FROM (at_hand @> q)
+        OR (d @> q) IS DISTINCT FROM (of_jsonb @> q::jsonb)
+        OR (q <@ d) IS DISTINCT FROM (at_hand @> q))
+FROM long_twice, wanted;
+
 -- What a look-up reads: the page of the row, and the chunks with their index.
 CREATE FUNCTION pages_of(asked text) RETURNS bigint LANGUAGE plpgsql AS $$
 DECLARE
@@ -86,5 +132,22 @@ INSERT INTO single SELECT d FROM stored_plain WHERE name = 'members';
 SELECT call, pages_of('SELECT ' || call || ' FROM single') <= 12 FROM unnest(ARRAY[
     $$ d -> 'key3' $$, $$ d ->> 'key287' $$, $$ d ? 'key287' $$, $$ d #> '{key283,1,in}' $$,
     $$ kohiblad_at(d, '["key283",-1]') $$, $$ d -> 'none' $$, $$ d @? '$.key283[1].in[0]' $$,
-    $$ d['key287'] $$]) call;
+    $$ d['key287'] $$, $$ d ?| '{none,key287}' $$, $$ d ?& '{key1,key287}' $$,
+    $$ d ?& '{key1,key2,key3,key4,key5,key287}' $$, $$ kohiblad_has(d, '"key287"') $$,
+    $$ kohiblad_has_any(d, '["none","key287"]') $$, $$ d @> '{"key7": 7}' $$,
+    $$ d @> '{"key7": 7, "none": 7}' $$, $$ d @> '{"key1": "another"}' $$,
+    $$ d @> '{"key283": [{"in": [283]}]}' $$, $$ '{"key7": 7}' <@ d $$]) call;
+-- Each member more reads a slice more, and none twice: the pages of its index, and of its chunk.
+SELECT call, pages_of('SELECT ' || call || ' FROM single') <= 12 + 4 * more FROM (VALUES
+    (3, $$ d @> '{"key7": 7, "key127": 127, "key187": 187, "key247": 247}' $$),
+    (5, $$ d @> '{"key7": 7, "key67": 67, "key127": 127, "key187": 187, "key247": 247}' $$),
+    (5, $$ d @> '{"key7": 7, "key67": 67, "key127": 127, "key187": 187, "key247": 8}' $$))
+    v (more, call);
+-- So does the look at a row that a GIN index found.
+CREATE INDEX ON single USING gin (d);
+SET enable_seqscan = off;
+SELECT plan_has('SELECT FROM single WHERE ' || call, 'Recheck Cond'),
+    pages_of('SELECT FROM single WHERE ' || call) <= 20 FROM unnest(ARRAY[
+    $$ d @> '{"key7": 7}' $$, $$ d ?| '{none,key287}' $$, $$ d ?& '{key1,key287}' $$]) call;
+RESET enable_seqscan;
 SELECT pages_of($$ SELECT kohiblad_length(d #> '{}') FROM single $$) > 50;

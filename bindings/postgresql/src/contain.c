@@ -121,8 +121,7 @@ static bool contains_items(Bytes array, Bytes wanted) {
     return true;
 }
 
-/* Moves on in an object to a key, in the order of its keys. */
-static bool move_to_key(Bytes object, struct kohiblad_cursor *cursor, Bytes wanted, Part *value) {
+bool move_to_key(Bytes object, struct kohiblad_cursor *cursor, Bytes wanted, Part *value) {
     struct kohiblad_place key, place;
     for (;;) {
         CHECK_FOR_INTERRUPTS();
@@ -135,7 +134,6 @@ static bool move_to_key(Bytes object, struct kohiblad_cursor *cursor, Bytes want
     }
 }
 
-/* Whether a value contains another, in parts if need be. */
 bool contains_value(Part left, Part right) {
     bool answer, are_arrays = is_array_part(left) && is_array_part(right);
     bool are_objects = is_object_part(left) && is_object_part(right);
@@ -190,23 +188,13 @@ static struct varlena *array_of_part(Part part) {
     return array;
 }
 
-/* An array contains a scalar too that is one of its items. */
-static bool contains(Bytes left, Bytes right) {
+bool contains_document(Bytes left, Bytes right) {
     bool answer;
     if (ends_in_time(left, right, &answer)) return answer;
     Part whole = part_of_document(left), wanted = part_of_document(right);
     if (is_array_part(whole) && !is_container(wanted))
         return contains_items(left, bytes_of(array_of_part(wanted)));
     return contains_in_parts(whole, wanted);
-}
-
-PG_FUNCTION_INFO_V1(pg_kohiblad_contained);
-Datum pg_kohiblad_contained(PG_FUNCTION_ARGS) {
-    struct varlena *inner = PG_GETARG_VARLENA_PP(0), *outer = PG_GETARG_VARLENA_PP(1);
-    bool result = contains(bytes_of(outer), bytes_of(inner));
-    PG_FREE_IF_COPY(inner, 0);
-    PG_FREE_IF_COPY(outer, 1);
-    PG_RETURN_BOOL(result);
 }
 
 /* Whether a document that is no object is a text, or has an item that is this text. */
@@ -220,22 +208,17 @@ static bool has_text(Bytes document, Bytes key) {
 }
 
 /* Looks a key of an object up, which is sooner done than to check all of the document. */
-static bool exists(Bytes document, Bytes key) {
+static bool exists_in(Sliced *document, Part whole, Bytes key) {
     Part member;
-    if (kind_of(document).kind == KOHIBLAD_OBJECT) return find_key(document, key, &member);
-    return has_text(document, key);
+    if (is_object_in(document, whole)) return find_key_in(document, whole.payload, key, &member);
+    return has_text(whole_of(document), key);
 }
 
 PG_FUNCTION_INFO_V1(pg_kohiblad_exists);
 Datum pg_kohiblad_exists(PG_FUNCTION_ARGS) {
     Sliced document;
-    Part member, whole = open_sliced(&document, PG_GETARG_RAW_VARLENA_P(0));
-    Bytes key = utf8_of_text(PG_GETARG_TEXT_PP(1));
-    bool result;
-    if (is_container(whole) && !is_array_in(&document, whole))
-        result = find_key_in(&document, whole.payload, key, &member);
-    else
-        result = has_text(whole_of(&document), key);
+    Part whole = open_sliced(&document, PG_GETARG_RAW_VARLENA_P(0));
+    bool result = exists_in(&document, whole, utf8_of_text(PG_GETARG_TEXT_PP(1)));
     close_sliced(&document);
     PG_RETURN_BOOL(result);
 }
@@ -244,15 +227,41 @@ static void pg_attribute_noreturn() refuse_names(const char *message) {
     ereport(ERROR, (errcode(ERRCODE_INVALID_PARAMETER_VALUE), errmsg("kohiblad: %s", message)));
 }
 
-/* Whether any of a few keys exists, or all of them: each is looked up by itself. */
-static bool few_exist(Bytes document, TextPath keys, bool needs_all) {
+/* Whether an object has any of a few keys, or all of them: each is looked up by itself. */
+static bool few_exist(Sliced *document, Bytes object, TextPath keys, bool needs_all) {
+    Part member;
     for (int i = 0; i < keys.count; i++) {
         CHECK_FOR_INTERRUPTS();
         if (keys.nulls[i]) continue;
         Bytes key = utf8_of_text(DatumGetTextPP(keys.elements[i]));
-        if (exists(document, key) != needs_all) return !needs_all;
+        if (find_key_in(document, object, key, &member) != needs_all) return !needs_all;
     }
     return needs_all;
+}
+
+/* The array of the keys of an object. */
+static struct varlena *array_of_names(Sliced *document, Bytes object) {
+    struct kohiblad_cursor cursor;
+    struct kohiblad_place key, value;
+    Rows *rows = new_rows();
+    uint32_t status = begin_members_in(document, object, &cursor);
+    while (status == KOHIBLAD_OK) {
+        CHECK_FOR_INTERRUPTS();
+        status = kohiblad_next(object.at, object.size, &cursor, &key, &value);
+        if (status == KOHIBLAD_OK) add_text(rows, part_at(object, key).payload);
+    }
+    if (status != KOHIBLAD_NONE) refuse(status, ERRCODE_DATA_CORRUPTED);
+    struct varlena *array = array_of_rows(rows);
+    free_rows(rows);
+    return array;
+}
+
+/* A document in which the same keys exist: of a long object the array of its keys, so that no value
+ * is fetched. */
+static Bytes names_in(Sliced *document, Part whole) {
+    if (is_stored(document) && is_object_in(document, whole))
+        return bytes_of(array_of_names(document, whole.payload));
+    return whole_of(document);
 }
 
 /* The array of the keys that are texts of the format; whether some are too long for it, and so in
@@ -298,12 +307,13 @@ static bool many_exist(Bytes document, TextPath keys, bool needs_all) {
 
 /* Whether any key of an array exists, or all of them; nulls are passed over. */
 static bool keys_exist(FunctionCallInfo fcinfo, bool needs_all) {
-    struct varlena *given = PG_GETARG_VARLENA_PP(0);
-    Bytes document = bytes_of(given);
+    Sliced document;
+    Part whole = open_sliced(&document, PG_GETARG_RAW_VARLENA_P(0));
     TextPath keys = elements_of_array(PG_GETARG_ARRAYTYPE_P(1));
-    bool are_few = keys.count <= FEW_KEYS && kind_of(document).kind == KOHIBLAD_OBJECT;
-    bool result = (are_few ? few_exist : many_exist)(document, keys, needs_all);
-    PG_FREE_IF_COPY(given, 0);
+    bool result = keys.count <= FEW_KEYS && is_object_in(&document, whole)
+                      ? few_exist(&document, whole.payload, keys, needs_all)
+                      : many_exist(names_in(&document, whole), keys, needs_all);
+    close_sliced(&document);
     return result;
 }
 
@@ -320,18 +330,21 @@ Datum pg_kohiblad_exists_all(PG_FUNCTION_ARGS) {
 /* What ?, ?| and ?& are sent to other servers as: keys are a document, which has no collation. */
 PG_FUNCTION_INFO_V1(pg_kohiblad_has);
 Datum pg_kohiblad_has(PG_FUNCTION_ARGS) {
-    struct varlena *document = PG_GETARG_VARLENA_PP(0);
+    Sliced document;
+    Part whole = open_sliced(&document, PG_GETARG_RAW_VARLENA_P(0));
     Part key = part_of_document(bytes_of(PG_GETARG_VARLENA_PP(1)));
     if (key.type != KOHIBLAD_TYPE_STRING) refuse_names("a key is a text");
-    bool result = exists(bytes_of(document), key.payload);
-    PG_FREE_IF_COPY(document, 0);
+    bool result = exists_in(&document, whole, key.payload);
+    close_sliced(&document);
     PG_RETURN_BOOL(result);
 }
 
 static bool names_exist(FunctionCallInfo fcinfo, bool needs_all) {
-    struct varlena *document = PG_GETARG_VARLENA_PP(0), *names = PG_GETARG_VARLENA_PP(1);
-    bool result = texts_exist(bytes_of(document), bytes_of(names), needs_all);
-    PG_FREE_IF_COPY(document, 0);
+    Sliced document;
+    Part whole = open_sliced(&document, PG_GETARG_RAW_VARLENA_P(0));
+    struct varlena *names = PG_GETARG_VARLENA_PP(1);
+    bool result = texts_exist(names_in(&document, whole), bytes_of(names), needs_all);
+    close_sliced(&document);
     PG_FREE_IF_COPY(names, 1);
     return result;
 }

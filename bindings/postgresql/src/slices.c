@@ -14,45 +14,82 @@
 #define MARK_FETCHED(at, size)
 #endif
 
+/* A header, whose first byte has the kind in its upper bits: that of an array or an object, or
+ * another, docs/FORMAT.md. A call of the library for this takes longer than the look. */
 #define HEADER_SIZE 4
+#define KIND_BITS 0xE0
+#define ARRAY_BITS 0x80
+#define OBJECT_BITS 0x40
 
 /* The first slice. It has all that is needed before the value in an object of a hundred members. */
 #define FIRST_SLICE (2 * TOAST_MAX_CHUNK_SIZE)
 
-/* The end of the chunk that has the byte before an end. */
-static size_t end_of_chunk(size_t end) {
-    return (end + TOAST_MAX_CHUNK_SIZE - 1) / TOAST_MAX_CHUNK_SIZE * TOAST_MAX_CHUNK_SIZE;
+/* How many chunks there are up to an end. */
+static size_t chunks_up_to(size_t end) {
+    return (end + TOAST_MAX_CHUNK_SIZE - 1) / TOAST_MAX_CHUNK_SIZE;
 }
 
-/* Fetches the chunks between two places, and of a compressed document all before them. What was
- * fetched before stays at hand if these follow it. */
-static void fetch(Sliced *sliced, size_t from, size_t to) {
-    if (sliced->from <= from && to <= sliced->to) return;
-    if (sliced->is_compressed) {
-        from = 0;
-        to = Max(to, 2 * sliced->to);
-    } else if (sliced->from <= from && from <= sliced->to) {
-        from = sliced->to;
-    } else {
-        sliced->from = from -= from % TOAST_MAX_CHUNK_SIZE;
-    }
-    to = Min(end_of_chunk(to), sliced->size);
+/* The end of a run of chunks which are all at hand, or all not. */
+static size_t end_of_run(const Sliced *sliced, size_t chunk) {
+    size_t end = chunks_up_to(sliced->size);
+    const char *first = sliced->at_hand + chunk, *other = memchr(first, !*first, end - chunk);
+    return other ? other - sliced->at_hand : end;
+}
+
+/* Fetches chunks from one up to another. */
+static void fetch_chunks(Sliced *sliced, size_t first, size_t end) {
+    size_t from = first * TOAST_MAX_CHUNK_SIZE;
+    size_t size = Min(end * TOAST_MAX_CHUNK_SIZE, sliced->size) - from;
     struct varlena *slice =
-        PG_DETOAST_DATUM_SLICE(PointerGetDatum(sliced->stored), from, to - from);
-    if (VARSIZE_ANY_EXHDR(slice) != to - from)
-        refuse(KOHIBLAD_INVALID_EOF, ERRCODE_DATA_CORRUPTED);
-    MARK_FETCHED(sliced->bytes + from, to - from);
-    memcpy(sliced->bytes + from, VARDATA_ANY(slice), to - from);
+        PG_DETOAST_DATUM_SLICE(PointerGetDatum(sliced->stored), from, size);
+    if (VARSIZE_ANY_EXHDR(slice) != size) refuse(KOHIBLAD_INVALID_EOF, ERRCODE_DATA_CORRUPTED);
+    MARK_FETCHED(sliced->bytes + from, size);
+    memcpy(sliced->bytes + from, VARDATA_ANY(slice), size);
     pfree(slice);
-    sliced->to = to;
+    memset(sliced->at_hand + first, true, end - first);
 }
 
-static bool is_stored(const Sliced *sliced) {
+/* Fetches more of a compressed document, of which all before is decompressed again: so at least as
+ * much as was fetched before. */
+static void decompress(Sliced *sliced, size_t end) {
+    size_t before = sliced->at_hand[0] ? end_of_run(sliced, 0) : 0;
+    fetch_chunks(sliced, 0, Min(Max(end, 2 * before), chunks_up_to(sliced->size)));
+}
+
+/* Fetches the chunks between two places that are not at hand. */
+static void fetch(Sliced *sliced, size_t from, size_t to) {
+    to = Min(to, sliced->size);
+    if (from >= to) return;
+    size_t chunk = from / TOAST_MAX_CHUNK_SIZE, end = chunks_up_to(to), next;
+    for (; chunk < end; chunk = next) {
+        next = end_of_run(sliced, chunk);
+        if (sliced->at_hand[chunk]) continue;
+        if (sliced->is_compressed)
+            decompress(sliced, end);
+        else
+            fetch_chunks(sliced, chunk, Min(next, end));
+    }
+}
+
+bool is_stored(const Sliced *sliced) {
     return sliced && sliced->stored;
 }
 
 static size_t place_in(const Sliced *sliced, Bytes bytes) {
     return bytes.at - sliced->bytes;
+}
+
+static bool has_kind(Bytes document, uint8_t bits) {
+    return document.size >= HEADER_SIZE && (document.at[0] & KIND_BITS) == bits;
+}
+
+static bool is_container_document(Bytes document) {
+    return has_kind(document, OBJECT_BITS) || has_kind(document, ARRAY_BITS);
+}
+
+static Part part_of_whole(Bytes document) {
+    if (is_container_document(document)) return (Part){KOHIBLAD_TYPE_CONTAINER, document};
+    return part_of_document(document);
 }
 
 void fetch_part(Sliced *sliced, Part part) {
@@ -75,16 +112,16 @@ Part open_sliced(Sliced *sliced, struct varlena *argument) {
     *sliced = (Sliced){.argument = argument};
     if (!is_sliced(sliced, argument)) {
         sliced->whole = pg_detoast_datum_packed(argument);
-        return part_of_document(bytes_of(sliced->whole));
+        return part_of_whole(bytes_of(sliced->whole));
     }
     sliced->stored = argument;
     sliced->bytes = palloc(sliced->size);
+    sliced->at_hand = palloc0(chunks_up_to(sliced->size));
     MARK_AWAITED(sliced->bytes, sliced->size);
     fetch(sliced, 0, FIRST_SLICE);
     Bytes whole = {sliced->bytes, sliced->size};
-    uint32_t kind = kind_of(whole).kind;
-    if (kind != KOHIBLAD_ARRAY && kind != KOHIBLAD_OBJECT) fetch(sliced, 0, sliced->size);
-    return part_of_document(whole);
+    if (!is_container_document(whole)) fetch(sliced, 0, sliced->size);
+    return part_of_whole(whole);
 }
 
 Bytes whole_of(Sliced *sliced) {
@@ -98,29 +135,44 @@ void fetch_all(Sliced *sliced) {
 }
 
 void close_sliced(Sliced *sliced) {
-    if (sliced->stored)
+    if (sliced->stored) {
         pfree(sliced->bytes);
-    else if (sliced->whole != sliced->argument)
+        pfree(sliced->at_hand);
+    } else if (sliced->whole != sliced->argument) {
         pfree(sliced->whole);
+    }
+}
+
+static void fetch_header(Sliced *sliced, Bytes container) {
+    if (!is_stored(sliced)) return;
+    size_t header = place_in(sliced, container);
+    fetch(sliced, header, header + HEADER_SIZE);
 }
 
 struct kohiblad_value_kind kind_in(Sliced *sliced, Bytes container) {
-    if (is_stored(sliced)) {
-        size_t header = place_in(sliced, container);
-        fetch(sliced, header, header + HEADER_SIZE);
-    }
+    fetch_header(sliced, container);
     return kind_of(container);
 }
 
+static bool has_kind_in(Sliced *sliced, Part part, uint8_t bits) {
+    if (!is_container(part)) return false;
+    fetch_header(sliced, part.payload);
+    return has_kind(part.payload, bits);
+}
+
 bool is_array_in(Sliced *sliced, Part part) {
-    return is_container(part) && kind_in(sliced, part.payload).kind == KOHIBLAD_ARRAY;
+    return has_kind_in(sliced, part, ARRAY_BITS);
+}
+
+bool is_object_in(Sliced *sliced, Part part) {
+    return has_kind_in(sliced, part, OBJECT_BITS);
 }
 
 /* How many bytes from the beginning of a container on are at hand. */
-static size_t at_hand(const Sliced *sliced, Bytes container) {
-    size_t place = place_in(sliced, container);
-    if (place < sliced->from || sliced->to <= place) return 0;
-    return Min(sliced->to - place, container.size);
+static size_t size_at_hand(const Sliced *sliced, Bytes container) {
+    size_t place = place_in(sliced, container), chunk = place / TOAST_MAX_CHUNK_SIZE;
+    if (container.size == 0 || !sliced->at_hand[chunk]) return 0;
+    return Min(end_of_run(sliced, chunk) * TOAST_MAX_CHUNK_SIZE - place, container.size);
 }
 
 /* Fetches what a look-up needs next; false if it has come to its end. */
@@ -144,8 +196,8 @@ bool find_key_in(Sliced *sliced, Bytes object, Bytes key, Part *child) {
         place = kohiblad_find_key(object.at, object.size, key.at, key.size);
     else
         do
-            place = kohiblad_find_key_in_prefix(object.at, at_hand(sliced, object), object.size,
-                                                key.at, key.size);
+            place = kohiblad_find_key_in_prefix(object.at, size_at_hand(sliced, object),
+                                                object.size, key.at, key.size);
         while (fetch_more(sliced, object, place));
     return is_found(place, object, child);
 }
@@ -158,7 +210,7 @@ bool find_item_in(Sliced *sliced, Bytes array, int64 count, int64 index, Part *c
         place = kohiblad_find_index(array.at, array.size, index);
     else
         do
-            place = kohiblad_find_index_in_prefix(array.at, at_hand(sliced, array), array.size,
+            place = kohiblad_find_index_in_prefix(array.at, size_at_hand(sliced, array), array.size,
                                                   index);
         while (fetch_more(sliced, array, place));
     return is_found(place, array, child);
@@ -167,4 +219,22 @@ bool find_item_in(Sliced *sliced, Bytes array, int64 count, int64 index, Part *c
 bool find_index_in(Sliced *sliced, Bytes container, int64 index, Part *child) {
     struct kohiblad_value_kind kind = kind_in(sliced, container);
     return kind.kind == KOHIBLAD_ARRAY && find_item_in(sliced, container, kind.count, index, child);
+}
+
+/* Fetches the header and the entry words of an object, two for each member. */
+static void fetch_entries(Sliced *sliced, Bytes object) {
+    size_t place = place_in(sliced, object), count = kind_in(sliced, object).count;
+    if (count > object.size / (2 * ENTRY_SIZE))
+        refuse(KOHIBLAD_INVALID_EOF, ERRCODE_DATA_CORRUPTED);
+    fetch(sliced, place, place + HEADER_SIZE + count * 2 * ENTRY_SIZE);
+}
+
+uint32_t begin_members_in(Sliced *sliced, Bytes object, struct kohiblad_cursor *cursor) {
+    if (is_stored(sliced)) fetch_entries(sliced, object);
+    uint32_t status = kohiblad_begin(object.at, object.size, cursor);
+    if (status != KOHIBLAD_OK || !is_stored(sliced)) return status;
+    /* All keys are before the first value. */
+    size_t place = place_in(sliced, object);
+    fetch(sliced, place, place + cursor->value);
+    return status;
 }

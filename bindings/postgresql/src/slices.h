@@ -10,13 +10,14 @@
 
 #include "document.h"
 
-/* A document that is an argument. It is at hand as a whole; or it is stored, of so many bytes, and
- * those from `from` to `to` were fetched last. */
+/* A document that is an argument. It is at hand as a whole; or it is stored, of so many bytes, of
+ * which each chunk is fetched at most once, or if it is compressed those before it again. */
 typedef struct Sliced {
     const struct varlena *argument;
     struct varlena *whole, *stored; /* one of them is NULL */
     uint8_t *bytes;
-    size_t size, from, to;
+    char *at_hand; /* of each chunk whether it was fetched */
+    size_t size;
     bool is_compressed;
 } Sliced;
 
@@ -32,19 +33,27 @@ extern Bytes whole_of(Sliced *sliced);
 
 /* In what follows NULL stands for a document that is at hand.
  *
- * Fetches all bytes of a part, and all of the document. */
+ * Whether the document is fetched in slices. */
+extern bool is_stored(const Sliced *sliced);
+
+/* Fetches all bytes of a part, and all of the document. */
 extern void fetch_part(Sliced *sliced, Part part);
 extern void fetch_all(Sliced *sliced);
 
-/* The kind of a container, and whether a part is an array. */
+/* The kind of a container, and whether a part is an array or an object. */
 extern struct kohiblad_value_kind kind_in(Sliced *sliced, Bytes container);
 extern bool is_array_in(Sliced *sliced, Part part);
+extern bool is_object_in(Sliced *sliced, Part part);
 
 /* Finds a member of an object, an item of an array of so many, and an item of any container: a
  * negative index counts from the end, and an object has none. */
 extern bool find_key_in(Sliced *sliced, Bytes object, Bytes key, Part *child);
 extern bool find_item_in(Sliced *sliced, Bytes array, int64 count, int64 index, Part *child);
 extern bool find_index_in(Sliced *sliced, Bytes container, int64 index, Part *child);
+
+/* Puts a cursor before the first member of an object, and fetches its entry words and keys: a walk
+ * by kohiblad_next reads no more. What values hold is fetched by itself. */
+extern uint32_t begin_members_in(Sliced *sliced, Bytes object, struct kohiblad_cursor *cursor);
 
 #pragma GCC visibility pop
 

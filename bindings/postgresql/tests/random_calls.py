@@ -121,6 +121,15 @@ kohiblad_cmp({d}, {d})
 (SELECT string_agg(kohiblad_kind(d), '' ORDER BY d) FROM docs)
 (SELECT count(*) FROM docs a JOIN docs b ON a.d = b.d)
 (SELECT count(*) FROM damaged WHERE i < {i} AND d = {e})
+same_contained({e})
+same_contained({e})
+same_parts({k}, {k}, {p}, {e})
+same_parts({k}, {k}, {p}, {e})
+same_names({p})
+same_names({p})
+same_names({many})
+same_names((SELECT array_agg(key) FROM stored, kohiblad_object_keys(d) key WHERE d ? {k}))
+same_path({jsonpath})
 (SELECT count(*) FROM docs WHERE d @> {e})
 (SELECT count(*) FROM docs WHERE d ?| {many})
 (SELECT count(*) FROM docs WHERE d ?& {p})
@@ -158,6 +167,44 @@ BEGIN
     END IF;
     RETURN document;
 END $$;
+"""
+
+# What is found in slices of long documents must be what is found in all of their bytes.
+SAME = """
+CREATE TABLE stored (d kohiblad);
+ALTER TABLE stored ALTER d SET STORAGE EXTERNAL;
+INSERT INTO stored SELECT d FROM docs WHERE length(d::bytea) > 2000;
+CREATE VIEW long AS
+    SELECT d, d #> '{}' AS at_hand
+    FROM (TABLE stored UNION ALL SELECT d FROM docs WHERE length(d::bytea) > 2000) s;
+CREATE FUNCTION same(answer boolean, wanted boolean) RETURNS boolean LANGUAGE plpgsql AS $$
+BEGIN
+    IF answer IS DISTINCT FROM wanted THEN
+        RAISE 'another answer' USING ERRCODE = 'XX000';
+    END IF;
+    RETURN answer;
+END $$;
+CREATE FUNCTION same_contained(asked kohiblad) RETURNS bigint LANGUAGE sql VOLATILE AS $$
+    SELECT count(same(d @> asked, at_hand @> asked) AND same(asked <@ d, at_hand @> asked))
+    FROM long
+$$;
+CREATE FUNCTION same_parts(a text, b text, names text[], other kohiblad) RETURNS bigint
+LANGUAGE sql VOLATILE AS $$
+    SELECT count(same(d @> asked, at_hand @> asked))
+    FROM long, LATERAL (VALUES (kohiblad_build_object(a, d -> a, b || '2', d -> b)),
+                               (kohiblad_build_object(a, other)), (d - names || other),
+                               (d - names), (kohiblad_build_array(d -> 1))) v (asked)
+    WHERE kohiblad_kind(d) IN ('array', 'object')
+$$;
+CREATE FUNCTION same_names(names text[]) RETURNS bigint LANGUAGE sql VOLATILE AS $$
+    SELECT count(same(d ?| names, at_hand ?| names) AND same(d ?& names, at_hand ?& names)
+        AND same(kohiblad_has_any(d, given), at_hand ?| names)
+        AND same(kohiblad_has_all(d, given), at_hand ?& names))
+    FROM long, (SELECT to_kohiblad(array_remove(names, NULL)) AS given OFFSET 0) g
+$$;
+CREATE FUNCTION same_path(path jsonpath) RETURNS bigint LANGUAGE sql VOLATILE AS $$
+    SELECT count(same(d @? path, at_hand @? path) OR same(d @@ path, at_hand @@ path)) FROM long
+$$;
 """
 
 
@@ -340,12 +387,14 @@ def prepare(session):
     for i in range(1, DOCUMENTS + 1):
         session.ask(f"INSERT INTO docs VALUES ({i}, {quoted(document())});")
     session.ask("ANALYZE docs;")
-    session.ask("CREATE TABLE damaged (i int, d bytea);")
+    session.ask(SAME)
+    session.ask("CREATE TABLE damaged (i int, d bytea);"
+                " ALTER TABLE damaged ALTER d SET STORAGE EXTERNAL;")
     session.ask(f"""INSERT INTO damaged SELECT i, CASE WHEN i % 3 = 0
             THEN substring(b FROM 1 FOR (random() * length(b))::int)
             ELSE set_bit(b, n, 1 - get_bit(b, n)) END
         FROM generate_series(1, {DAMAGED}) i, LATERAL (SELECT d::bytea AS b FROM docs
-            WHERE docs.i = 1 + i % {DOCUMENTS} AND length(d::bytea) < 2000) s,
+            WHERE docs.i = 1 + i % {DOCUMENTS} AND length(d::bytea) < 40000) s,
             LATERAL (SELECT (random() * (8 * length(b) - 1))::bigint AS n) t;""")
     session.ask("SET allow_system_table_mods = on; UPDATE pg_attribute SET atttypid ="
                 " 'kohiblad'::regtype WHERE attrelid = 'damaged'::regclass AND attname = 'd';")
