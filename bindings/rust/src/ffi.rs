@@ -20,6 +20,7 @@ use crate::stack::depth_left;
 use crate::{Error, EDIT_LEVEL_STACK, LEVEL_STACK, MAX_DEPTH, PATCH_LEVEL_STACK};
 
 const OK: u32 = 0;
+const INVALID_EOF: u32 = 1;
 const NO_ROOM: u32 = 11;
 const NONE: u32 = 12;
 
@@ -183,6 +184,19 @@ extern "C" {
     ) -> u32;
     fn kohiblad_find_key(bytes: *const u8, size: usize, name: *const u8, name_size: usize)
         -> Place;
+    fn kohiblad_find_key_in_prefix(
+        prefix: *const u8,
+        prefix_size: usize,
+        size: usize,
+        name: *const u8,
+        name_size: usize,
+    ) -> Place;
+    fn kohiblad_find_index_in_prefix(
+        prefix: *const u8,
+        prefix_size: usize,
+        size: usize,
+        index: usize,
+    ) -> Place;
     fn kohiblad_begin(bytes: *const u8, size: usize, cursor: *mut Cursor) -> u32;
     fn kohiblad_next(
         bytes: *const u8,
@@ -526,6 +540,21 @@ pub(crate) struct Part<'a> {
     pub(crate) payload: &'a [u8],
 }
 
+/// Where a child's payload is in bytes that are not all at hand, and the type of its entry.
+pub(crate) struct Slice {
+    pub(crate) entry_type: u32,
+    pub(crate) offset: usize,
+    pub(crate) length: usize,
+}
+
+/// How far a look-up comes in the beginning of bytes.
+pub(crate) enum Progress {
+    /// It needs the bytes up to this end, which is past those at hand.
+    Needs(usize),
+    Found(Slice),
+    Absent,
+}
+
 /// A child, with its key if it is an object's.
 pub(crate) struct Child<'a> {
     pub(crate) key: Option<&'a [u8]>,
@@ -824,6 +853,54 @@ pub(crate) fn find<'a>(bytes: &'a [u8], name: &str) -> Result<Option<Part<'a>>, 
     optional(place.status, || part_at(bytes, &place))
 }
 
+/// The place of a value, which is inside of all bytes, or the end of those that are needed first: so
+/// the numbers fit a `usize`.
+fn progress_of(place: &Place) -> Result<Progress, Error> {
+    let (offset, length) = (place.offset as usize, place.length as usize);
+    match place.status {
+        INVALID_EOF if length > 0 => Ok(Progress::Needs(length)),
+        NONE => Ok(Progress::Absent),
+        status => tested(status).map(|()| {
+            Progress::Found(Slice {
+                entry_type: place.entry_type,
+                offset,
+                length,
+            })
+        }),
+    }
+}
+
+/// Looks a key up in `size` bytes that begin with the prefix.
+pub(crate) fn find_key_in_prefix(
+    prefix: &[u8],
+    size: usize,
+    name: &str,
+) -> Result<Progress, Error> {
+    // SAFETY: as above, of the prefix and the name. Of the rest only the size is taken.
+    let place = unsafe {
+        kohiblad_find_key_in_prefix(
+            prefix.as_ptr(),
+            prefix.len(),
+            size,
+            name.as_ptr(),
+            name.len(),
+        )
+    };
+    progress_of(&place)
+}
+
+/// Looks an item up in `size` bytes that begin with the prefix.
+pub(crate) fn find_index_in_prefix(
+    prefix: &[u8],
+    size: usize,
+    index: usize,
+) -> Result<Progress, Error> {
+    // SAFETY: as above, of the prefix. Of the rest only the size is taken.
+    let place =
+        unsafe { kohiblad_find_index_in_prefix(prefix.as_ptr(), prefix.len(), size, index) };
+    progress_of(&place)
+}
+
 /// A cursor before the first child, of which there is none if the bytes are no array or object.
 pub(crate) fn begin(bytes: &[u8]) -> Result<Option<Cursor>, Error> {
     let mut cursor = Cursor::default();
@@ -862,6 +939,25 @@ pub(crate) fn of_part(part: Part<'_>, out: &mut [u8]) -> Result<usize, Error> {
     };
     tested(status)?;
     Ok(length)
+}
+
+/// The document of a part.
+pub(crate) fn document_of_part(part: Part<'_>) -> Result<Vec<u8>, Error> {
+    let payload = part.payload;
+    // The document of a scalar has 8 bytes more.
+    all_written(payload.len().saturating_add(8), |out, room, length| {
+        // SAFETY: as above, of the payload; the call writes `length` bytes.
+        unsafe {
+            kohiblad_copy(
+                part.entry_type,
+                payload.as_ptr(),
+                payload.len(),
+                out,
+                room,
+                length,
+            )
+        }
+    })
 }
 
 pub(crate) fn array_item(bytes: &[u8], index: usize) -> Result<Option<Vec<u8>>, Error> {

@@ -58,6 +58,7 @@ mod node;
 mod owned;
 mod path;
 mod raw;
+mod slices;
 mod stack;
 mod words;
 
@@ -68,6 +69,7 @@ pub use node::{ExtensionValue, Kind, Node, Number};
 pub use owned::OwnedJsonb;
 pub use path::Path;
 pub use raw::RawJsonb;
+pub use slices::read_path;
 pub use stack::depth_left;
 pub use words::{fault_words, fault_words_with_exponents};
 

@@ -334,7 +334,7 @@ const TYPE_STRING: u32 = 0x1000_0000;
 const TYPE_NUMBER: u32 = 0x2000_0000;
 const TYPE_FALSE: u32 = 0x3000_0000;
 const TYPE_TRUE: u32 = 0x4000_0000;
-const TYPE_CONTAINER: u32 = 0x5000_0000;
+pub(crate) const TYPE_CONTAINER: u32 = 0x5000_0000;
 const TYPE_EXTENSION: u32 = 0x6000_0000;
 
 /// The text of bytes in a document, which are UTF-8.

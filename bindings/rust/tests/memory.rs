@@ -5,7 +5,7 @@ use std::alloc::{GlobalAlloc, Layout, System};
 use std::cell::Cell;
 use std::ptr;
 
-use kohiblad::{bytes, Error, OwnedJsonb, Path};
+use kohiblad::{bytes, read_path, Error, OwnedJsonb, Path};
 
 thread_local! {
     /// How many allocations succeed before one is refused; `None` if all succeed.
@@ -111,6 +111,14 @@ fn refused_allocations_are_named() {
     refuse_each("set", || row.set(&path(), long.as_str()));
     refuse_each("insert", || row.insert(&path(), 7));
     refuse_each("remove", || row.remove(&path()));
+    refuse_each("read_path", || {
+        let bytes = row.as_bytes();
+        let read = |at: usize, out: &mut [u8]| {
+            out.copy_from_slice(&bytes[at..at + out.len()]);
+            Ok::<(), Error>(())
+        };
+        read_path(bytes.len(), read, &path())
+    });
     refuse_each("index_keys", || row.index_keys());
     refuse_each("sorted_order", || bytes::sorted_order([row, list]));
 }
