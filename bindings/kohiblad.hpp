@@ -948,6 +948,112 @@ class Rows {
     std::vector<std::size_t> offsets_ = {0};
 };
 
+/* A document of which slices are read, and the value in it that was led to: first the whole. */
+template <typename Read> class Slices {
+  public:
+    Slices(std::size_t size, Read read) : read_(std::move(read)) { place_.length = size; }
+
+    /* Leads on to the value of a key, or to an item; a negative index counts from the end. */
+    Status lead(std::string_view name) {
+        return find([&](View prefix, std::size_t size) {
+            return kohiblad_find_key_in_prefix(prefix.data(), prefix.size(), size, bytes_of(name),
+                                               name.size());
+        });
+    }
+    Status lead(std::int64_t index) {
+        return find([&](View prefix, std::size_t size) {
+            const Result<Kind> kind = prefix.kind();
+            kohiblad_place none = {};
+            none.status = kind ? Status(KOHIBLAD_NONE).number() : kind.status().number();
+            if (!kind) return none;
+            const auto count = static_cast<std::int64_t>(prefix.count());
+            const std::int64_t from_begin = index < 0 ? index + count : index;
+            if (*kind != Kind::array || from_begin < 0) return none;
+            return kohiblad_find_index_in_prefix(prefix.data(), prefix.size(), size,
+                                                 static_cast<std::size_t>(from_begin));
+        });
+    }
+    /* The value that was led to. */
+    Result<Document> value(std::size_t depth = usual_depth) {
+        const auto size = static_cast<std::size_t>(place_.length);
+        const Status status = fetch(size);
+        if (status != KOHIBLAD_OK) return status;
+        Result<Bytes> document = written<Bytes>(size + 8, [&](auto *out, auto room, auto *length) {
+            return kohiblad_copy(place_.type, bytes_.data(), size, out, room, length);
+        });
+        if (!document) return document.status();
+        return Document::checked(*std::move(document), depth);
+    }
+
+  private:
+    /* So many bytes are read at once, of which most documents have their keys in the first. */
+    static constexpr std::size_t least_read = 4096;
+
+    /* Reads what is not at hand of the first bytes of the value. */
+    Status fetch(std::size_t size) {
+        const std::size_t known = bytes_.size();
+        if (known >= size) return KOHIBLAD_OK;
+        bytes_.resize(size);
+        const auto at = static_cast<std::size_t>(place_.offset) + known;
+        return read_(at, bytes_.data() + known, size - known) ? KOHIBLAD_OK : KOHIBLAD_INVALID_EOF;
+    }
+    template <typename Find> Status find(Find find_in) {
+        if (place_.type != KOHIBLAD_TYPE_CONTAINER) return KOHIBLAD_NONE;
+        const auto size = static_cast<std::size_t>(place_.length);
+        std::size_t needed = std::min(size, least_read);
+        for (;;) {
+            const Status status = fetch(needed);
+            if (status != KOHIBLAD_OK) return status;
+            const kohiblad_place found = find_in(View(bytes_.data(), needed), size);
+            if (found.status == KOHIBLAD_OK) return enter(found);
+            if (found.status != KOHIBLAD_INVALID_EOF || found.length == 0) return found.status;
+            needed = static_cast<std::size_t>(found.length);
+        }
+    }
+    /* Makes a child the value, and keeps those of its bytes that are at hand. */
+    Status enter(const kohiblad_place &child) {
+        const auto passed = static_cast<std::size_t>(child.offset);
+        bytes_.erase(bytes_.begin(),
+                     bytes_.begin() + static_cast<std::ptrdiff_t>(std::min(passed, bytes_.size())));
+        place_.offset += child.offset;
+        place_.length = child.length;
+        place_.type = child.type;
+        return KOHIBLAD_OK;
+    }
+
+    Read read_;
+    kohiblad_place place_ = {KOHIBLAD_OK, KOHIBLAD_TYPE_CONTAINER, 0, 0};
+    Bytes bytes_; /* the first bytes of the value */
+};
+/* The value at the end of a path such as `$.a[0]` in one document of `size` bytes, of which no more
+ * is read than that takes: the entry words and keys of each array and object on the way, and the
+ * value. `read(at, out, n)` stores the n bytes from `at` on, as of a file, and returns whether it
+ * could:
+ *
+ *     auto read = [&](std::size_t at, std::uint8_t *out, std::size_t n) {
+ *         return bool(file.seekg(at).read(reinterpret_cast<char *>(out), n));
+ *     };
+ *     auto tag = kohiblad::read_path(size, read, "$.tags[0]");
+ *
+ * NONE if the path leads nowhere, and OTHER_KIND if the text is no such path; INVALID_EOF if the
+ * bytes could not be read, or the document is cut; INVALID_JSONB, what was read is of no document
+ * within the depth: the value is checked, and of the rest what a look-up reads. */
+template <typename Read>
+Result<Document> read_path(std::size_t size, Read read, std::string_view path,
+                           std::size_t depth = usual_depth) {
+    const Result<Bytes> steps = Rows::steps_of(path);
+    if (!steps) return steps.status();
+    Slices<Read> slices(size, std::move(read));
+    for (Node step : View(*steps)) {
+        const Result<std::string_view> name = step.string();
+        /* An index past 64 bits is past each array. */
+        const std::int64_t index = step.int64().value_or(std::numeric_limits<std::int64_t>::max());
+        const Status status = name ? slices.lead(*name) : slices.lead(index);
+        if (status != KOHIBLAD_OK) return status;
+    }
+    return slices.value(depth);
+}
+
 /* Builds an array, item after item. The first refusal of an item is that of the array. */
 class ArrayBuilder {
   public:
