@@ -125,3 +125,71 @@ measure "groups of \`doc -> 'city'\`, of the table" \
 measure "\`count(*)\`" "SELECT count(*) FROM ROWS"
 measure 'all documents, by `doc -> '"'id'"'`' \
     "SELECT count(*) FROM (SELECT doc FROM ROWS ORDER BY doc -> 'id' OFFSET 1) s"
+
+# Transactions that change a row on each server, which wait for the disk. Each commits on its own
+# server after the one before it, or beside it by parallel_commit.
+transactions=200
+for server in 0 1 2 3; do
+    kill_one "$server"
+    FSYNC=on start_one "$server"
+done
+ask 0 "CREATE PROCEDURE change(table_name text, parts int) LANGUAGE plpgsql AS \$\$ BEGIN
+    FOR i IN 1 .. $transactions LOOP
+        EXECUTE format('UPDATE %I SET doc = doc || ''{\"n\": 1}'' WHERE doc -> ''id'' IN (%s)',
+            table_name, (SELECT string_agg(quote_literal($rows * part / parts + i), ',')
+                         FROM generate_series(0, parts - 1) part));
+        COMMIT;
+    END LOOP;
+END \$\$"
+# The milliseconds of one of the transactions.
+milliseconds_of_change() {
+    milliseconds "CALL change('$1', $2)" "$((rounds + 1))" |
+        awk -v count="$transactions" '{ printf("%.1f", $1 / count) }'
+}
+for option in false true; do
+    name="a row changed on each, one commit"
+    [ $option = true ] || name+=" after the other"
+    [ $option = false ] || name+=" beside the other: \`parallel_commit\`"
+    line="| $name | $(milliseconds_of_change here 1)"
+    for server in 1 2 3; do
+        ask 0 "ALTER SERVER s$server OPTIONS (ADD parallel_commit '$option')"
+    done
+    for count in 1 2 3; do line+=" | $(milliseconds_of_change "by_id_$count" "$count")"; done
+    echo "$line |"
+    for server in 1 2 3; do ask 0 "ALTER SERVER s$server OPTIONS (DROP parallel_commit)"; done
+done
+
+# How many rows the coordinator plans for conditions on three servers: by a sample of each part, by
+# statistics of members, and by the estimates of the servers, which have such statistics too.
+conditions=("doc -> 'id' = '777'" "doc -> 'price' BETWEEN '100' AND '101'"
+    "doc -> 'city' = '\"city 7\"'" "doc @> '{\"city\": \"city 7\"}'"
+    "doc @> '{\"tags\": [\"t3\"]}'" "doc ? 'none'" "doc < '{\"city\": \"city 100\"}'")
+planned_lines() {
+    local condition
+    for condition in "${conditions[@]}"; do
+        ask 0 "EXPLAIN SELECT FROM by_id_3 WHERE $condition" |
+            sed -n '1s/.* rows=\([0-9]*\) .*/ \1 |/p'
+    done
+}
+make_statistics() {
+    ask "$1" "CREATE STATISTICS ${2}_price ON (doc -> 'price') FROM $2"
+    ask "$1" "CREATE STATISTICS ${2}_city ON (doc -> 'city') FROM $2"
+    ask "$1" "CREATE STATISTICS ${2}_id ON (doc -> 'id') FROM $2"
+    ask "$1" "ANALYZE $2"
+}
+for condition in "${conditions[@]}"; do
+    echo "| \`$condition\` | $(ask 0 "SELECT count(*) FROM by_id_3 WHERE $condition") |"
+done > "$scratch/conditions"
+planned_lines > "$scratch/by_sample"
+for server in 1 2 3; do make_statistics 0 "by_id_3_$server"; done
+planned_lines > "$scratch/by_statistics"
+for server in 1 2 3; do
+    make_statistics "$server" by_id_3
+    ask 0 "ALTER SERVER s$server OPTIONS (ADD use_remote_estimate 'true')"
+done
+planned_lines > "$scratch/by_servers"
+for server in 1 2 3; do ask 0 "ALTER SERVER s$server OPTIONS (DROP use_remote_estimate)"; done
+echo
+echo "| condition on $rows rows | rows | planned | with statistics | by the servers |"
+echo "|---|---|---|---|---|"
+paste -d '' "$scratch"/{conditions,by_sample,by_statistics,by_servers}

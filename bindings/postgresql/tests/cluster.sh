@@ -14,7 +14,7 @@ folder=$(cd "$(dirname "$0")/.." && pwd)
 trap 'fail "line $LINENO of cluster.sh"' ERR
 rows=${1:-10000}
 tests=0
-tables=(by_hash by_id by_doc keyed)
+tables=(by_hash by_id by_doc keyed goods)
 standby=9
 
 # Compares two texts, the one that must be and the one that is.
@@ -42,7 +42,17 @@ make_cluster() {
     done
     psql_at 0 -v rows="$rows" -f "$folder/tests/cluster/rows.sql"
     for server in 1 2 3; do ask "$server" "ANALYZE"; done
-    ask 0 "ANALYZE here, by_hash, by_id, by_doc, keyed"
+    ask 0 "ANALYZE here, by_hash, by_id, by_doc, keyed, goods"
+}
+
+# All servers have the version of this repository.
+run_versions() {
+    local server version
+    version=$(< "$folder/../../VERSION")
+    for server in 0 1 2 3; do
+        expect "the version of server $server" "$version" \
+            "$(ask "$server" "SELECT kohiblad_version()")"
+    done
 }
 
 # Where the part of a server begins, in the order of doc -> 'id' and in that of doc.
@@ -83,12 +93,12 @@ run_answers() {
     note "answers"
     local query table
     while read -r -d ';' query; do
-        for table in here by_hash by_id by_doc; do
+        for table in here by_hash by_id by_doc goods; do
             ask 0 "${query//ROWS/$table}" > "$scratch/$table.answer"
             ! grep '^ERROR' "$scratch/$table.answer" || fail "$table: $query"
             cmp "$scratch/here.answer" "$scratch/$table.answer" || fail "$table: $query"
         done
-        tests=$((tests + 3))
+        tests=$((tests + 4))
     done < "$folder/tests/cluster/queries.sql"
 }
 
@@ -125,6 +135,10 @@ run_sent() {
         "UPDATE public.by_id"
     expect_sent 1 "SELECT kohiblad_agg(doc) FROM keyed_1" "kohiblad_agg"
     expect_sent 0 "SELECT doc FROM by_hash WHERE doc ->> 'city' = 'city 7'" "WHERE"
+    expect_sent 0 "SELECT doc FROM by_hash WHERE kohiblad_kind(doc) = 'array'" "WHERE"
+    expect_sent 0 "SELECT doc FROM by_hash ORDER BY doc LIMIT 3" "LIMIT"
+    expect_sent 0 "SELECT kohiblad_agg(doc) FROM by_hash" "kohiblad_agg"
+    expect_sent 0 "SELECT doc -> 'city', count(*) FROM by_id GROUP BY 1" "GROUP BY"
     ask 0 "PREPARE by_name(text) AS SELECT doc FROM by_hash WHERE doc -> \$1 = '5';
         EXPLAIN (VERBOSE, COSTS OFF) EXECUTE by_name('id')" > "$scratch/prepared"
     expect "a prepared name" 3 "$(grep -cF "WHERE ((public.kohiblad_at(doc" "$scratch/prepared")"
@@ -132,6 +146,74 @@ run_sent() {
     sent=$(remote_sql "SELECT doc FROM by_hash_1 WHERE doc -> 'id' = '5'")
     expect "the index of the other server" 1 \
         "$(ask 1 "EXPLAIN (COSTS OFF) $sent" | grep -c 'Index Scan .*by_member_1')"
+}
+
+# Parts by the hash of a member are even, and a condition on it asks one server.
+run_member_hash() {
+    note "parts by the hash of a member"
+    local part
+    for part in 1 2 3; do
+        expect "whether part $part is even" t \
+            "$(ask "$part" "SELECT abs(count(*) - $rows / 3) < $rows / 20 FROM goods_$part")"
+    done
+    expect_sent 1 "SELECT doc FROM goods WHERE doc -> 'id' = '777'" "WHERE"
+    expect_sent 3 "SELECT doc FROM goods WHERE doc -> 'id' < '777'" "WHERE"
+    expect_sent 1 "UPDATE goods SET doc = doc || '{\"sold\": 1}' WHERE doc -> 'id' = '777'" \
+        "UPDATE public.goods"
+    expect_sent 1 "DELETE FROM goods WHERE doc -> 'id' = '777'" "DELETE FROM public.goods"
+}
+
+# A generated column of each part is a column of the whole: no document comes for it.
+run_generated() {
+    note "generated columns"
+    expect "what comes for a sum" "SELECT price FROM public.goods_1" \
+        "$(remote_sql "SELECT sum(price) FROM goods" | head -n 1)"
+    expect_sent 3 "SELECT sum(price) FROM goods WHERE price < 100" "WHERE ((price < 100"
+    expect_sent 1 "SELECT sum(price), count(*) FROM goods_1" "SELECT sum(price), count(*)"
+    expect "a sum" "$(ask 0 "SELECT sum((doc -> 'price')::numeric) FROM here")" \
+        "$(ask 0 "SELECT sum(price) FROM goods")"
+    local one="doc -> 'id' = '777'"
+    ask 0 "UPDATE goods SET doc = doc || '{\"price\": 1.25}' WHERE $one"
+    expect "a price after a change" 1.25 "$(ask 0 "SELECT price FROM goods WHERE $one")"
+    ask 0 "UPDATE goods SET doc = (SELECT doc FROM here WHERE $one) WHERE $one"
+}
+
+# How many rows a condition finds, and how many the coordinator plans.
+planned_rows() {
+    ask 0 "EXPLAIN SELECT FROM goods WHERE $1" | sed -n '1s/.* rows=\([0-9]*\) .*/\1/p'
+}
+# Whether a condition is planned within three times what it finds.
+expect_planned() {
+    expect "rows planned for $1" "$2" "$(ask 0 "SELECT $(planned_rows "$1") BETWEEN n / 3 AND 3 * n
+        FROM (SELECT count(*)::numeric AS n FROM goods WHERE $1) s")"
+}
+
+# The coordinator plans by the statistics of its foreign tables, or by those of the servers.
+run_estimates() {
+    note "estimates"
+    local condition server
+    local known=("doc < '{\"city\":\"city 300\"}'" "doc @> '{\"tags\":[\"t7\"]}'"
+        "doc @? '\$.tags[*] ? (@ == \"t7\")'" "doc ? 'city'" "price BETWEEN 100 AND 130")
+    local unknown="doc -> 'price' BETWEEN '100' AND '130'"
+    for condition in "${known[@]}"; do expect_planned "$condition" t; done
+    expect_planned "$unknown" f
+    for server in 1 2 3; do
+        ask 0 "CREATE STATISTICS goods_of_price_$server ON (doc -> 'price') FROM goods_$server"
+        ask 0 "ALTER TABLE goods_$server ALTER doc SET STATISTICS 1000"
+    done
+    ask 0 "ANALYZE goods_1, goods_2, goods_3"
+    for condition in "${known[@]}" "$unknown"; do expect_planned "$condition" t; done
+    for server in 1 2 3; do ask 0 "DROP STATISTICS goods_of_price_$server"; done
+    expect_planned "$unknown" f
+    for server in 1 2 3; do
+        ask "$server" "CREATE STATISTICS ON (doc -> 'price') FROM goods_$server"
+        ask "$server" "ANALYZE goods_$server"
+        ask 0 "ALTER SERVER s$server OPTIONS (ADD use_remote_estimate 'true')"
+    done
+    for condition in "${known[@]}" "$unknown"; do expect_planned "$condition" t; done
+    for server in 1 2 3; do
+        ask 0 "ALTER SERVER s$server OPTIONS (DROP use_remote_estimate)"
+    done
 }
 
 # Joins of two parts are sent where the servers' own estimates are asked.
@@ -175,6 +257,36 @@ run_keys_kept() {
         "$(ask 0 "UPDATE keyed SET id = '$rows' WHERE id = '1'")"
 }
 
+# Each server commits by itself, also beside the others: another session sees the rows of those that
+# have committed, and they stay if the commit of another fails.
+run_halves() {
+    note "the half of a transaction"
+    local server waited halves=
+    local new="INSERT INTO keyed VALUES ('1', '\"half\"'), ('$rows', '\"half\"')"
+    local rows_of_half="SELECT count(*) FROM keyed WHERE doc = '\"half\"'"
+    for server in 1 2 3; do ask 0 "ALTER SERVER s$server OPTIONS (ADD parallel_commit 'true')"; done
+    ask 3 "CREATE FUNCTION wait() RETURNS trigger LANGUAGE plpgsql AS
+            'BEGIN PERFORM pg_sleep(3); RETURN NULL; END'"
+    ask 3 "CREATE CONSTRAINT TRIGGER late AFTER INSERT ON keyed_3 DEFERRABLE INITIALLY DEFERRED
+            FOR EACH ROW EXECUTE FUNCTION wait()"
+    ask 0 "$new" > "$scratch/inserted" &
+    for ((waited = 0; waited < 600; waited++)); do
+        halves+="$(ask 0 "$rows_of_half") "
+        [[ $halves != *2* ]] || break
+        sleep 0.1
+    done
+    wait $!
+    expect "what another session sees" "0 1 2" "$(tr ' ' '\n' <<< "0 $halves" | sort -u | xargs)"
+    ask 0 "DELETE FROM keyed WHERE doc = '\"half\"'"
+    ask 3 "CREATE OR REPLACE FUNCTION wait() RETURNS trigger LANGUAGE plpgsql AS
+            'BEGIN RAISE ''no commit''; END'"
+    expect "a commit that fails" "ERROR:  no commit" "$(ask 0 "$new")"
+    expect "the half that stays" 1 "$(ask 0 "$rows_of_half")"
+    ask 3 "DROP TRIGGER late ON keyed_3"
+    ask 0 "DELETE FROM keyed WHERE doc = '\"half\"'"
+    for server in 1 2 3; do ask 0 "ALTER SERVER s$server OPTIONS (DROP parallel_commit)"; done
+}
+
 run_killed() {
     note "a server killed"
     local down='ERROR:  could not connect to server "s3"'
@@ -215,12 +327,17 @@ run_standby() {
 
 open_servers
 make_cluster
+run_versions
 run_parts
 run_answers
 run_sent
+run_member_hash
+run_generated
+run_estimates
 run_joins
 run_extension_values
 run_keys_kept
+run_halves
 run_killed
 run_standby
 ! grep -E 'PANIC|terminated by signal' "$scratch"/log* || fail "a server broke down"

@@ -9,6 +9,7 @@ CREATE TABLE here AS
 INSERT INTO by_hash TABLE here;
 INSERT INTO by_id TABLE here;
 INSERT INTO by_doc TABLE here;
+INSERT INTO goods (doc) TABLE here;
 INSERT INTO keyed SELECT doc -> 'id', doc FROM here;
 CREATE VIEW cities AS
     SELECT city, sum(n) AS n, max(highest) AS highest

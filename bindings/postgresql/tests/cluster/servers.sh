@@ -1,6 +1,7 @@
 # Sourced by cluster.sh and bench_cluster.sh, after server.sh: several servers on loopback
 # addresses, of which number 0 is the coordinator. SERVER_BIN names the programs of a server with
-# the extension, which is then not built; SETTINGS has more words for each server.
+# the extension, which is then not built; SETTINGS has more words for each server, and FSYNC says
+# whether they wait for the disk (off).
 
 stop_all() {
     local data
@@ -13,7 +14,7 @@ stop_all() {
 }
 
 start_one() {
-    local settings="-c fsync=off -c jit=off -c shared_buffers=32MB -c autovacuum=off ${SETTINGS:-}"
+    local settings="-c fsync=${FSYNC:-off} -c jit=off -c shared_buffers=32MB -c autovacuum=off ${SETTINGS:-}"
     as_user "$bin/pg_ctl" -D "$scratch/data$1" -l "$scratch/log$1" -w start > "$scratch/start.log" \
         -o "-k $scratch -p 543$1 -c listen_addresses=$net.$1 $settings" 2>&1 ||
         { cat "$scratch/start.log" "$scratch/log$1" >&2; fail "server $1 did not start"; }
