@@ -53,6 +53,14 @@ CREATE TABLE texts AS
     FROM generate_series(1, $rows) i ORDER BY md5(i::text);
 CREATE TABLE in_jsonb AS SELECT line::jsonb AS doc FROM texts;
 CREATE TABLE in_kohiblad AS SELECT line::kohiblad AS doc FROM texts;
+CREATE TABLE wide_texts AS
+    SELECT rtrim(line, '}') || format(', "address": {"street": "street %s", "zip": "%s"}, "lines": '
+                  '[{"sku": "s%s", "n": %s}, {"sku": "s%s", "n": %s, "price": %s.50}], '
+                  '"note": "%s"}', i % 1000, 10000 + i % 90000, i % 700, i % 9, i % 77, i % 8,
+                  i % 500, repeat(md5(i::text), 2)) AS line
+    FROM (SELECT line, row_number() OVER () AS i FROM texts) s;
+CREATE TABLE wide_jsonb AS SELECT line::jsonb AS doc FROM wide_texts;
+CREATE TABLE wide_kohiblad AS SELECT line::kohiblad AS doc FROM wide_texts;
 VACUUM ANALYZE;
 SQL
 
@@ -123,6 +131,33 @@ done
 measure '`sum(price)` of a generated column' 'SELECT sum(price) FROM in_TYPE'
 measure '`price < 10`, by its index' 'SELECT sum(price) FROM in_TYPE WHERE price < 10'
 echo "| bytes a row | $sizes |"
+
+# Whole documents, and what they contain, in rows of two sizes: those of in_TYPE and of wide_TYPE.
+measure_sizes() {
+    local name=$1 command=$2 after=${3:-} here wide
+    here=$(measure "$name" "$command" "$after")
+    [ -n "$here" ] || return 0
+    wide=$(measure "$name" "${command//in_TYPE/wide_TYPE}" "$after")
+    echo "$here${wide#"| $name |"}"
+}
+
+bytes_of() { psql -At -c "SELECT round(avg(pg_column_size(doc))) FROM $1"; }
+echo
+echo "| 100,000 rows, ms | $(bytes_of in_kohiblad) bytes | \`jsonb\` |" \
+    "$(bytes_of wide_kohiblad) bytes | \`jsonb\` |"
+echo "|---|---|---|---|---|"
+for condition in '{"city": "city 7"}' '{"city": "city 7", "seen": true}' '{"tags": ["t3"]}' \
+    '{"tags": ["new", "t3"], "seen": null}' '{"tags": ["new", "t3", "a", "b", "c"]}' \
+    '{"city": "city 7", "id": 7, "name": "a", "price": 17.17, "seen": null}' \
+    '{"lines": [{"n": 3}]}' '{"lines": [{"sku": "s7", "n": 7}]}'; do
+    measure_sizes "\`doc @> '$condition'\`" "$(in_all "doc @> '$condition'")"
+done
+measure_sizes '`ORDER BY doc`' \
+    'SELECT count(*) FROM (SELECT doc FROM in_TYPE ORDER BY doc OFFSET 1) s'
+measure_sizes '`ORDER BY doc DESC LIMIT 10`' \
+    'SELECT count(*) FROM (SELECT doc FROM in_TYPE ORDER BY doc DESC LIMIT 10) s'
+measure_sizes '`SELECT DISTINCT doc`' 'SELECT count(*) FROM (SELECT DISTINCT doc FROM in_TYPE) s'
+measure_sizes 'index built on `doc`' 'CREATE INDEX built ON in_TYPE (doc)' 'DROP INDEX built'
 
 # One line of the table of estimates: how many rows a condition finds, and how many are planned.
 estimate() {
