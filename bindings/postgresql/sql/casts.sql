@@ -30,6 +30,14 @@ SELECT NULL::kohiblad::int IS NULL, ('{}'::kohiblad -> 'a')::bool IS NULL;
 -- Numbers in forms that are no longer written: a signed zero, and a decimal with a byte between.
 SELECT '\x20000000200000024000'::bytea::kohiblad::int,
     '\x20000000200000137000000000000000000000000000000096ff02'::bytea::kohiblad::numeric;
+-- Numbers of all lengths and scales have the digits of the text.
+SELECT count(*), bool_and(n::kohiblad::numeric::text = n),
+    bool_and(format('[%s]', n)::kohiblad::jsonb::text = format('[%s]', n))
+FROM generate_series(1, 38) length, generate_series(0, 80) scale,
+    unnest('{31415926535897932384626433832795028841,100000000000000000000000000000000000000,
+             -99999999999999999999999999999999999999}'::text[]) digits,
+    LATERAL (SELECT (left(digits, length + (digits < '0')::int)::numeric
+                     * ('1e-' || scale)::numeric)::text) numbers(n);
 -- Only explicit casts, so that no operator is chosen by them.
 SELECT refusal($$ SELECT '5'::kohiblad + 1 $$), refusal($$ SELECT '5'::kohiblad = 5 $$);
 CREATE TABLE counted (n int, d kohiblad);

@@ -140,3 +140,6 @@ FROM (SELECT number, document::kohiblad, other::kohiblad, path, key, of_jsonb FR
       WHERE number IN (7, 8, 10, 11, 12, 13, 14, 26) AND of_jsonb !~ '^[0-9A-Z]{5}$'
       ORDER BY number, path, key OFFSET 0) s
 GROUP BY number ORDER BY number;
+-- A document as jsonb is what its text is.
+SELECT count(*) > 10000, bool_and(document::kohiblad::jsonb::text = document::jsonb::text)
+FROM asked;

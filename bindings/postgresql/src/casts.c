@@ -6,24 +6,32 @@
 #include "utils/fmgrprotos.h"
 #include "utils/numeric.h"
 
-/* The JSON of an argument. It is checked first, since type json must not hold anything else. */
-static text *json_of_argument(FunctionCallInfo fcinfo) {
-    struct varlena *value = PG_GETARG_VARLENA_PP(0);
-    check_document(bytes_of(value), ERRCODE_DATA_CORRUPTED);
-    text *json = compact_text(bytes_of(value));
-    PG_FREE_IF_COPY(value, 0);
-    return json;
+/* The JSON of a document. It is checked, since type json must not hold anything else. */
+static text *json_of_document(Bytes document) {
+    check_document(document, ERRCODE_DATA_CORRUPTED);
+    return compact_text(document);
 }
 
 PG_FUNCTION_INFO_V1(pg_kohiblad_to_json);
 Datum pg_kohiblad_to_json(PG_FUNCTION_ARGS) {
-    PG_RETURN_TEXT_P(json_of_argument(fcinfo));
+    struct varlena *value = PG_GETARG_VARLENA_PP(0);
+    text *json = json_of_document(bytes_of(value));
+    PG_FREE_IF_COPY(value, 0);
+    PG_RETURN_TEXT_P(json);
 }
 
 PG_FUNCTION_INFO_V1(pg_kohiblad_to_jsonb);
 Datum pg_kohiblad_to_jsonb(PG_FUNCTION_ARGS) {
-    char *json = text_to_cstring(json_of_argument(fcinfo));
-    return DirectFunctionCall1(jsonb_in, CStringGetDatum(json));
+    struct varlena *value = PG_GETARG_VARLENA_PP(0);
+    Bytes document = bytes_of(value);
+    Datum jsonb;
+    check_document(document, ERRCODE_DATA_CORRUPTED);
+    if (!make_jsonb(document, &jsonb)) {
+        char *json = text_to_cstring(compact_text(document));
+        jsonb = DirectFunctionCall1(jsonb_in, CStringGetDatum(json));
+    }
+    PG_FREE_IF_COPY(value, 0);
+    PG_RETURN_DATUM(jsonb);
 }
 
 /* Refuses a document whose scalar could not be read: it is of another kind, or damaged. */
@@ -43,26 +51,52 @@ static void pg_attribute_noreturn() refuse_cast(uint32_t status, Bytes document,
                            kinds_of_jsonb[kind_of(document).kind], type)));
 }
 
-static Datum numeric_of_document(Bytes document, const char *type) {
-    struct kohiblad_integer whole = kohiblad_as_int64(document.at, document.size);
-    if (whole.status == KOHIBLAD_OK) return NumericGetDatum(int64_to_numeric(whole.value));
-    if (whole.status != KOHIBLAD_PAST_RANGE) refuse_cast(whole.status, document, type);
+/* The numeric of a decimal, digit for digit. */
+static Datum numeric_of_decimal(struct kohiblad_decimal decimal, Bytes document) {
+    bool is_short = decimal.high == (int64)decimal.low >> 63;
+    if (is_short && decimal.scale == 0)
+        return NumericGetDatum(int64_to_numeric((int64)decimal.low));
+    if (is_short)
+        return NumericGetDatum(
+            int64_div_fast_to_numeric((int64)decimal.low, (int)decimal.scale));
     char *digits = text_to_cstring(compact_text(document));
     return DirectFunctionCall3(numeric_in, CStringGetDatum(digits), ObjectIdGetDatum(InvalidOid),
                                Int32GetDatum(-1));
 }
 
+static Datum numeric_of_document(Bytes document, const char *type) {
+    struct kohiblad_decimal decimal = kohiblad_as_decimal(document.at, document.size);
+    if (decimal.status != KOHIBLAD_OK) refuse_cast(decimal.status, document, type);
+    return numeric_of_decimal(decimal, document);
+}
+
+/* A number in a form that is no longer written may be longer than those that are. */
+Datum numeric_of_number(Part number) {
+    uint8_t near[NUMBER_ROOM];
+    size_t room = room_of_part(number);
+    uint8_t *at = room <= sizeof near ? near : palloc(room);
+    return numeric_of_document(write_part(number, at, room), "numeric");
+}
+
+static Datum numeric_of_argument(FunctionCallInfo fcinfo, const char *type) {
+    struct varlena *value = PG_GETARG_VARLENA_PP(0);
+    Datum number = numeric_of_document(bytes_of(value), type);
+    PG_FREE_IF_COPY(value, 0);
+    return number;
+}
+
+PG_FUNCTION_INFO_V1(pg_kohiblad_to_numeric);
+Datum pg_kohiblad_to_numeric(PG_FUNCTION_ARGS) {
+    PG_RETURN_DATUM(numeric_of_argument(fcinfo, "numeric"));
+}
+
 /* The other types take the number from numeric, which rounds it or refuses it. */
-#define CAST_TO_NUMBER(name, type, of_numeric)                            \
-    PG_FUNCTION_INFO_V1(name);                                            \
-    Datum name(PG_FUNCTION_ARGS) {                                        \
-        struct varlena *value = PG_GETARG_VARLENA_PP(0);                  \
-        Datum number = numeric_of_document(bytes_of(value), type);        \
-        PG_FREE_IF_COPY(value, 0);                                        \
-        return DirectFunctionCall1(of_numeric, number);                   \
+#define CAST_TO_NUMBER(name, type, of_numeric)                                      \
+    PG_FUNCTION_INFO_V1(name);                                                      \
+    Datum name(PG_FUNCTION_ARGS) {                                                  \
+        return DirectFunctionCall1(of_numeric, numeric_of_argument(fcinfo, type));  \
     }
 
-CAST_TO_NUMBER(pg_kohiblad_to_numeric, "numeric", numeric_uplus)
 CAST_TO_NUMBER(pg_kohiblad_to_int2, "smallint", numeric_int2)
 CAST_TO_NUMBER(pg_kohiblad_to_int4, "integer", numeric_int4)
 CAST_TO_NUMBER(pg_kohiblad_to_int8, "bigint", numeric_int8)

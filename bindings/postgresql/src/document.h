@@ -154,6 +154,13 @@ extern bool holds_extension(Bytes document);
 extern text *compact_text(Bytes document);
 extern text *plain_text(Part part);
 
+/* The numeric of a part that is a number. */
+extern Datum numeric_of_number(Part number);
+
+/* Makes the jsonb of a document; false if jsonb cannot hold what is in it, or the server's encoding
+ * is not UTF-8: the server says that of its text. The document is one, whose bytes were checked. */
+extern bool make_jsonb(Bytes document, Datum *jsonb);
+
 /* The document of a JSON text in UTF-8, which is refused as the text of a column is. */
 extern struct varlena *document_of_json(Bytes utf8);
 

@@ -13,13 +13,6 @@
  * lacks it. */
 #define FIRST_PAST_ASCII 0x80
 
-extern Datum pg_kohiblad_to_json(PG_FUNCTION_ARGS);
-
-static char *json_of_argument(FunctionCallInfo fcinfo, int argument) {
-    Datum json = DirectFunctionCall1(pg_kohiblad_to_json, PG_GETARG_DATUM(argument));
-    return text_to_cstring(DatumGetTextPP(json));
-}
-
 /* Whether jsonb has each character of a JSON text that this extension wrote: it has no \u0000, and
  * none that the server's encoding lacks. */
 static bool has_jsonb(const char *json) {
@@ -48,16 +41,22 @@ static Datum nothing(FunctionCallInfo fcinfo, PGFunction function) {
     PG_RETURN_NULL();
 }
 
-/* Puts the documents among the arguments as jsonb into those of a call: the first, and the
- * variables, which are the third. False if the first has no jsonb, and the call is silent. */
-static bool put_jsonb(FunctionCallInfo fcinfo, FunctionCallInfo call) {
-    char *json = json_of_argument(fcinfo, 0);
-    if (is_silent(fcinfo) && !has_jsonb(json)) return false;
-    call->args[0].value = DirectFunctionCall1(jsonb_in, CStringGetDatum(json));
-    if (PG_NARGS() == 2) return true;
-    json = json_of_argument(fcinfo, 2);
-    call->args[2].value = DirectFunctionCall1(jsonb_in, CStringGetDatum(json));
+/* Puts a document among the arguments as jsonb into those of a call. False if it has no jsonb, and
+ * that is to be passed over. */
+static bool put_jsonb(FunctionCallInfo fcinfo, FunctionCallInfo call, int argument, bool passes) {
+    Bytes document = bytes_of(PG_GETARG_VARLENA_PP(argument));
+    check_document(document, ERRCODE_DATA_CORRUPTED);
+    if (make_jsonb(document, &call->args[argument].value)) return true;
+    char *json = text_to_cstring(compact_text(document));
+    if (passes && !has_jsonb(json)) return false;
+    call->args[argument].value = DirectFunctionCall1(jsonb_in, CStringGetDatum(json));
     return true;
+}
+
+/* Puts all documents: the first argument, and the variables, which are the third. */
+static bool put_documents(FunctionCallInfo fcinfo, FunctionCallInfo call) {
+    if (!put_jsonb(fcinfo, call, 0, is_silent(fcinfo))) return false;
+    return PG_NARGS() == 2 || put_jsonb(fcinfo, call, 2, false);
 }
 
 /* What a call keeps for the next one, which mostly has the same path. */
@@ -117,7 +116,7 @@ static Datum call_with_jsonb(FunctionCallInfo fcinfo, PGFunction function) {
                              fcinfo->resultinfo);
     for (int i = 0; i < PG_NARGS(); i++) call->args[i] = fcinfo->args[i];
     bool is_first = !server->fn_retset || !server->fn_extra;
-    if (is_first && !put_jsonb(fcinfo, call)) return nothing(fcinfo, function);
+    if (is_first && !put_documents(fcinfo, call)) return nothing(fcinfo, function);
     Datum result = function(call);
     fcinfo->isnull = call->isnull;
     return result;
