@@ -120,6 +120,27 @@ SELECT kohiblad_object('{a,1,b,NULL}'), kohiblad_object('{{a,1},{b,2}}'),
     kohiblad_object('{a,b}', '{1,2}');
 SELECT refusal($$ SELECT kohiblad_object('{a}') $$),
     refusal($$ SELECT kohiblad_object('{NULL,1}') $$);
+-- Rows of values of many types, as jsonb has them.
+CREATE TABLE of_types AS
+    SELECT i, i::int2 AS small, i::int8 AS large, i / 8.0 AS exact, i / 8.0::float8 AS near,
+        i::float4 AS short, i % 2 = 0 AS odd, i::text AS word, i::varchar AS words, i::name AS name,
+        i::oid AS oid, i * interval '1 day' AS span, date '2026-11-30' + i AS day,
+        timestamp '2026-11-30 04:10' + i * interval '1 hour' AS at,
+        timestamptz '2026-11-30 04:10Z' + i * interval '1 hour' AS at_zone,
+        int4range(i, 9) AS range,
+        ARRAY[i, NULL] AS list, ARRAY['a', i::text] AS texts, point(i, 1) AS point,
+        ('10.0.0.' || i)::inet AS host, format('[%s]', i)::json AS json,
+        format('{"a":%s}', i)::jsonb AS jsonb, i::money AS price, B'101' AS bits,
+        decode('0' || i, 'hex') AS bytes
+    FROM generate_series(1, 5) i;
+SELECT count(*), bool_and(to_kohiblad(r)::jsonb = to_jsonb(r)), bool_and(
+    kohiblad_build_array(small, near, word, span, day, at, range, list, texts, point, host, json,
+                         jsonb, price, bits, bytes, name, oid, words, odd, exact, short)::jsonb
+    = jsonb_build_array(small, near, word, span, day, at, range, list, texts, point, host, json,
+                        jsonb, price, bits, bytes, name, oid, words, odd, exact, short))
+FROM of_types r;
+SELECT kohiblad_agg(r ORDER BY i)::jsonb = jsonb_agg(r ORDER BY i),
+    kohiblad_object_agg(day, at_zone)::jsonb = jsonb_object_agg(day, at_zone) FROM of_types r;
 -- Aggregates of any values, and by workers.
 SELECT kohiblad_agg(i ORDER BY i), kohiblad_object_agg(i, ARRAY[i]) FROM generate_series(1, 3) i;
 SELECT kohiblad_agg(r) FROM (SELECT 1 AS a, NULL AS b) r;

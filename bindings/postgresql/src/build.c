@@ -29,7 +29,7 @@ PG_FUNCTION_INFO_V1(pg_kohiblad_of_any);
 Datum pg_kohiblad_of_any(PG_FUNCTION_ARGS) {
     Rows *rows = new_rows();
     add_value(rows, PG_GETARG_DATUM(0), PG_ARGISNULL(0), argument_type(fcinfo, 0),
-              type_of_documents(fcinfo));
+              kept_types(fcinfo));
     PG_RETURN_POINTER(only_row(rows));
 }
 
@@ -40,11 +40,11 @@ Datum pg_kohiblad_build_array(PG_FUNCTION_ARGS) {
     Oid *types;
     int count = extract_variadic_args(fcinfo, 0, true, &values, &types, &nulls);
     if (count < 0) PG_RETURN_NULL();
-    Oid documents = type_of_documents(fcinfo);
+    Types *known = kept_types(fcinfo);
     Rows *rows = new_rows();
     for (int i = 0; i < count; i++) {
         CHECK_FOR_INTERRUPTS();
-        add_value(rows, values[i], nulls[i], types[i], documents);
+        add_value(rows, values[i], nulls[i], types[i], known);
     }
     PG_RETURN_POINTER(array_of_rows(rows));
 }
@@ -59,12 +59,12 @@ Datum pg_kohiblad_build_object(PG_FUNCTION_ARGS) {
     if (count % 2 != 0)
         ereport(ERROR, (errcode(ERRCODE_INVALID_PARAMETER_VALUE),
                         errmsg("kohiblad: argument list must have even number of elements")));
-    Oid documents = type_of_documents(fcinfo);
+    Types *known = kept_types(fcinfo);
     Rows *rows = new_rows();
     for (int i = 0; i < count; i += 2) {
         CHECK_FOR_INTERRUPTS();
-        add_key(rows, values[i], nulls[i], types[i], documents);
-        add_value(rows, values[i + 1], nulls[i + 1], types[i + 1], documents);
+        add_key(rows, values[i], nulls[i], types[i], known);
+        add_value(rows, values[i + 1], nulls[i + 1], types[i + 1], known);
     }
     PG_RETURN_POINTER(object_of_rows(rows));
 }
@@ -112,16 +112,16 @@ PG_FUNCTION_INFO_V1(pg_kohiblad_agg_step);
 Datum pg_kohiblad_agg_step(PG_FUNCTION_ARGS) {
     Rows *rows = state_of(fcinfo);
     add_value(rows, PG_GETARG_DATUM(1), PG_ARGISNULL(1), argument_type(fcinfo, 1),
-              type_of_documents(fcinfo));
+              kept_types(fcinfo));
     PG_RETURN_POINTER(rows);
 }
 
 PG_FUNCTION_INFO_V1(pg_kohiblad_object_agg_step);
 Datum pg_kohiblad_object_agg_step(PG_FUNCTION_ARGS) {
     Rows *rows = state_of(fcinfo);
-    Oid documents = type_of_documents(fcinfo);
-    add_key(rows, PG_GETARG_DATUM(1), PG_ARGISNULL(1), argument_type(fcinfo, 1), documents);
-    add_value(rows, PG_GETARG_DATUM(2), PG_ARGISNULL(2), argument_type(fcinfo, 2), documents);
+    Types *known = kept_types(fcinfo);
+    add_key(rows, PG_GETARG_DATUM(1), PG_ARGISNULL(1), argument_type(fcinfo, 1), known);
+    add_value(rows, PG_GETARG_DATUM(2), PG_ARGISNULL(2), argument_type(fcinfo, 2), known);
     PG_RETURN_POINTER(rows);
 }
 

@@ -32,12 +32,39 @@ enum form {
     TEXT_FORM
 };
 
+/* So many types are kept. A function that meets more asks for the others anew. */
+#define MOST_KEPT 16
+
+/* A type: what it is a domain over, and what its values become by which function. */
+typedef struct Known {
+    Oid type, base;
+    enum form form;
+    FmgrInfo function; /* the output of numbers and texts, or the cast to json */
+} Known;
+
+struct Types {
+    Oid documents;
+    MemoryContext context;
+    int count;
+    Known kept[MOST_KEPT];
+};
+
 Oid type_of_documents(FunctionCallInfo fcinfo) {
     Oid schema = get_func_namespace(fcinfo->flinfo->fn_oid);
     Oid type = GetSysCacheOid2(TYPENAMENSP, Anum_pg_type_oid, CStringGetDatum("kohiblad"),
                                ObjectIdGetDatum(schema));
     if (!OidIsValid(type)) elog(ERROR, "kohiblad: there is no type of this name");
     return type;
+}
+
+Types *kept_types(FunctionCallInfo fcinfo) {
+    FmgrInfo *info = fcinfo->flinfo;
+    if (info->fn_extra) return info->fn_extra;
+    Types *types = MemoryContextAllocZero(info->fn_mcxt, sizeof *types);
+    types->documents = type_of_documents(fcinfo);
+    types->context = info->fn_mcxt;
+    info->fn_extra = types;
+    return types;
 }
 
 /* Whether a type that is not built in has a function that casts it to json. */
@@ -71,6 +98,32 @@ static enum form form_of(Oid type, Oid documents, Oid *cast) {
     return has_json_cast(type, cast) ? CAST_FORM : TEXT_FORM;
 }
 
+/* Whether the values of a form are written by the output function of their type. */
+static bool is_shown(enum form form) {
+    return form == NUMBER_FORM || form == TEXT_FORM || form == JSONB_FORM || form == WHOLE_FORM;
+}
+
+static void ask(Known *known, Oid type, Oid documents, MemoryContext context) {
+    Oid function = InvalidOid;
+    bool is_varlena;
+    known->base = getBaseType(type);
+    known->form = form_of(known->base, documents, &function);
+    if (is_shown(known->form)) getTypeOutputInfo(known->base, &function, &is_varlena);
+    if (OidIsValid(function)) fmgr_info_cxt(function, &known->function, context);
+    known->type = type;
+}
+
+/* What is known of a type, in this room if it is not kept. */
+static Known *known_type(Types *types, Oid type, Known *room) {
+    for (int i = 0; i < types->count; i++)
+        if (types->kept[i].type == type) return &types->kept[i];
+    bool is_kept = types->count < MOST_KEPT;
+    Known *known = is_kept ? &types->kept[types->count] : room;
+    ask(known, type, types->documents, is_kept ? types->context : CurrentMemoryContext);
+    if (is_kept) types->count++;
+    return known;
+}
+
 static int64 whole_of(Datum value, Oid type) {
     switch (type) {
         case INT2OID: return DatumGetInt16(value);
@@ -79,11 +132,8 @@ static int64 whole_of(Datum value, Oid type) {
     }
 }
 
-static char *output_of(Datum value, Oid type) {
-    Oid function;
-    bool is_varlena;
-    getTypeOutputInfo(type, &function, &is_varlena);
-    return OidOutputFunctionCall(function, value);
+static char *output_of(Datum value, Known *known) {
+    return OutputFunctionCall(&known->function, value);
 }
 
 static void add_server_text(Rows *rows, const char *shown) {
@@ -97,8 +147,8 @@ static void add_json(Rows *rows, const char *json, size_t size) {
 }
 
 /* NaN and infinities are texts, since JSON has no such numbers. */
-static void add_number(Rows *rows, Datum value, Oid type) {
-    char *shown = output_of(value, type);
+static void add_number(Rows *rows, Datum value, Known *known) {
+    char *shown = output_of(value, known);
     size_t size = strlen(shown);
     char last = shown[size - 1];
     if (last < '0' || last > '9') {
@@ -125,15 +175,15 @@ static void add_document(Rows *rows, Datum value) {
 
 /* Adds an array of one dimension or more, from the element that comes next on. */
 static void add_dimension(Rows *rows, const int *sizes, int dimensions, Datum **elements,
-                          bool **nulls, Oid type, Oid documents) {
+                          bool **nulls, Oid type, Types *types) {
     check_stack_depth();
     Rows *items = new_rows();
     for (int i = 0; i < sizes[0]; i++) {
         CHECK_FOR_INTERRUPTS();
         if (dimensions > 1)
-            add_dimension(items, sizes + 1, dimensions - 1, elements, nulls, type, documents);
+            add_dimension(items, sizes + 1, dimensions - 1, elements, nulls, type, types);
         else
-            add_value(items, *(*elements)++, *(*nulls)++, type, documents);
+            add_value(items, *(*elements)++, *(*nulls)++, type, types);
     }
     struct varlena *array = array_of_rows(items);
     add_row(rows, bytes_of(array));
@@ -141,7 +191,7 @@ static void add_dimension(Rows *rows, const int *sizes, int dimensions, Datum **
     free_rows(items);
 }
 
-static void add_array(Rows *rows, Datum value, Oid documents) {
+static void add_array(Rows *rows, Datum value, Types *types) {
     ArrayType *array = DatumGetArrayTypeP(value);
     Oid type = ARR_ELEMTYPE(array);
     int16 length;
@@ -153,9 +203,9 @@ static void add_array(Rows *rows, Datum value, Oid documents) {
     get_typlenbyvalalign(type, &length, &by_value, &alignment);
     deconstruct_array(array, type, length, by_value, alignment, &elements, &nulls, &count);
     if (count == 0)
-        add_dimension(rows, &none, 1, &elements, &nulls, type, documents);
+        add_dimension(rows, &none, 1, &elements, &nulls, type, types);
     else
-        add_dimension(rows, ARR_DIMS(array), ARR_NDIM(array), &elements, &nulls, type, documents);
+        add_dimension(rows, ARR_DIMS(array), ARR_NDIM(array), &elements, &nulls, type, types);
 }
 
 /* Servers from 15.20 on check a record where it is taken, by a function; the headers of older ones
@@ -173,7 +223,7 @@ HeapTupleHeader record_of_datum(Datum value) {
 }
 #endif
 
-static void add_object(Rows *rows, Datum value, Oid documents) {
+static void add_object(Rows *rows, Datum value, Types *types) {
     HeapTupleHeader header = record_of_datum(value);
     TupleDesc columns = lookup_rowtype_tupdesc(HeapTupleHeaderGetTypeId(header),
                                                HeapTupleHeaderGetTypMod(header));
@@ -188,7 +238,7 @@ static void add_object(Rows *rows, Datum value, Oid documents) {
         if (column->attisdropped) continue;
         const char *name = NameStr(column->attname);
         add_row(members, utf8_of_server(name, strlen(name)));
-        add_value(members, fields[i], nulls[i], column->atttypid, documents);
+        add_value(members, fields[i], nulls[i], column->atttypid, types);
     }
     ReleaseTupleDesc(columns);
     pfree(fields);
@@ -205,23 +255,23 @@ static void add_time(Rows *rows, Datum value, Oid type) {
     add_server_text(rows, shown);
 }
 
-void add_value(Rows *rows, Datum value, bool is_null, Oid type, Oid documents) {
+void add_value(Rows *rows, Datum value, bool is_null, Oid type, Types *types) {
     check_stack_depth();
     if (is_null) {
         add_null(rows);
         return;
     }
-    Oid base = getBaseType(type), cast = InvalidOid;
-    switch (form_of(base, documents, &cast)) {
+    Known room, *known = known_type(types, type, &room);
+    switch (known->form) {
         case BOOLEAN_FORM: add_boolean(rows, DatumGetBool(value)); break;
-        case WHOLE_FORM: add_int64(rows, whole_of(value, base)); break;
-        case NUMBER_FORM: add_number(rows, value, base); break;
-        case TIME_FORM: add_time(rows, value, base); break;
+        case WHOLE_FORM: add_int64(rows, whole_of(value, known->base)); break;
+        case NUMBER_FORM: add_number(rows, value, known); break;
+        case TIME_FORM: add_time(rows, value, known->base); break;
         case DOCUMENT_FORM: add_document(rows, value); break;
-        case ARRAY_FORM: add_array(rows, value, documents); break;
-        case ROW_FORM: add_object(rows, value, documents); break;
+        case ARRAY_FORM: add_array(rows, value, types); break;
+        case ROW_FORM: add_object(rows, value, types); break;
         case CAST_FORM:
-            value = OidFunctionCall1(cast, value);
+            value = FunctionCall1(&known->function, value);
             /* FALLTHROUGH */
         case JSON_FORM: {
             text *json = DatumGetTextPP(value);
@@ -229,28 +279,28 @@ void add_value(Rows *rows, Datum value, bool is_null, Oid type, Oid documents) {
             break;
         }
         case JSONB_FORM: {
-            char *json = output_of(value, JSONBOID);
+            char *json = output_of(value, known);
             add_json(rows, json, strlen(json));
             break;
         }
-        case TEXT_FORM: add_server_text(rows, output_of(value, base)); break;
+        case TEXT_FORM: add_server_text(rows, output_of(value, known)); break;
     }
 }
 
 /* A key is the text that the value has as a string. */
-void add_key(Rows *rows, Datum value, bool is_null, Oid type, Oid documents) {
+void add_key(Rows *rows, Datum value, bool is_null, Oid type, Types *types) {
     if (is_null)
         ereport(ERROR, (errcode(ERRCODE_INVALID_PARAMETER_VALUE),
                         errmsg("kohiblad: a key must not be null")));
-    Oid base = getBaseType(type), cast = InvalidOid;
+    Known room, *known = known_type(types, type, &room);
     char shown[MAXDATELEN + 1];
     const char *name;
-    switch (form_of(base, documents, &cast)) {
+    switch (known->form) {
         case BOOLEAN_FORM: name = DatumGetBool(value) ? "true" : "false"; break;
-        case TIME_FORM: name = JsonEncodeDateTime(shown, value, base, NULL); break;
+        case TIME_FORM: name = JsonEncodeDateTime(shown, value, known->base, NULL); break;
         case WHOLE_FORM:
         case NUMBER_FORM:
-        case TEXT_FORM: name = output_of(value, base); break;
+        case TEXT_FORM: name = output_of(value, known); break;
         default:
             ereport(ERROR, (errcode(ERRCODE_INVALID_PARAMETER_VALUE),
                             errmsg("kohiblad: a key must be a scalar, and no array, composite or "
