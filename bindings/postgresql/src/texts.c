@@ -8,6 +8,9 @@
 #include "miscadmin.h"
 #include "utils/builtins.h"
 
+/* The room for the text of a number that is tried first: most have it. */
+#define SCALAR_TEXT_ROOM 44
+
 /* The words for a fault, as a sentence in the server's encoding. */
 Fault fault_of_text(Bytes utf8, size_t depth) {
     char words[KOHIBLAD_WORDS_ROOM];
@@ -59,13 +62,29 @@ text *compact_text(Bytes document) {
     return server_text(shown);
 }
 
+/* The text of a scalar, which is written where it stays, or again with the room that it needs. */
+static struct varlena *text_of_scalar(Part part) {
+    size_t room = SCALAR_TEXT_ROOM, length;
+    for (;;) {
+        struct varlena *shown = palloc(VARHDRSZ + room);
+        uint32_t status = kohiblad_print_at(part.type, part.payload.at, part.payload.size, 0,
+                                            (uint8_t *)VARDATA(shown), room, &length);
+        if (status == KOHIBLAD_OK) {
+            SET_VARSIZE(shown, VARHDRSZ + length);
+            return shown;
+        }
+        pfree(shown);
+        if (status != KOHIBLAD_NO_ROOM) refuse(status, ERRCODE_DATA_CORRUPTED);
+        check_room(length);
+        room = length;
+    }
+}
+
 text *plain_text(Part part) {
     if (part.type == KOHIBLAD_TYPE_NULL) return NULL;
     if (part.type == KOHIBLAD_TYPE_STRING) return text_of_utf8(part.payload);
     if (part.type == KOHIBLAD_TYPE_CONTAINER) return compact_text(part.payload);
-    struct varlena *document = document_of_part(part);
-    text *shown = compact_text(bytes_of(document));
-    pfree(document);
+    text *shown = server_text(text_of_scalar(part));
     if (part.type != KOHIBLAD_TYPE_EXTENSION) return shown;
     text *unquoted = cstring_to_text_with_len(VARDATA(shown) + 1, VARSIZE(shown) - VARHDRSZ - 2);
     pfree(shown);
