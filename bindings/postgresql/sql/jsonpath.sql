@@ -16,7 +16,7 @@ BEGIN
                 ';'))
             END;
     END LOOP;
-    RETURN steps;
+    RETURN steps || CASE WHEN random() < 0.15 THEN one_of('{.size(),.type()}') ELSE '' END;
 END $$;
 -- A value at a place of a document, `$` or `@`, or a literal.
 CREATE FUNCTION random_operand(depth int, here text) RETURNS text LANGUAGE sql VOLATILE AS $$
@@ -34,8 +34,8 @@ BEGIN
             ELSE '(' || random_test(depth - 1, here) || ')' || one_of('{&&,||}')
                 || '(' || random_test(depth - 1, here) || ')' END
         WHEN random() < 0.25 THEN 'exists(' || random_operand(depth, here) || ')'
-        WHEN random() < 0.1 THEN random_operand(depth, here) || one_of(string_to_array(
-            ' starts with "a"; starts with ""; like_regex "^[ab]"', ';'))
+        WHEN random() < 0.15 THEN random_operand(depth, here) || one_of(string_to_array(
+            ' starts with "a"; starts with ""; like_regex "^[ab]"; like_regex "^B" flag "i"', ';'))
         ELSE random_operand(depth, here) || one_of('{==,==,!=,<>,<,<=,>,>=}')
             || random_operand(depth, here) END;
 END $$;
@@ -88,6 +88,14 @@ FROM (SELECT '{"a":[{"b":1},{"b":[2,[3]]},[{"b":4}]],"c":null,"bb":"x","d":{}}':
         || '$.d == $.d;$.bb < 1;!($.bb < 1);($.bb < 1) is unknown;$.e > 1;$.a ? (@.b == 1);'
         || '$.a[*] ? (exists (@[0].b)).b;$.bb starts with "";$.a.b.size();strict $.a.b', ';')
     ::jsonpath[]) path;
+-- What a method makes of each kind of value, and texts by a pattern; a date is a string.
+SELECT path, d @@ path, kohiblad_path_query_array(d, path, silent => true)
+FROM (SELECT kohiblad_set('{"a":[1,[2,3],{"b":1}],"c":null,"n":1.5,"s":"AbC","t":true}', '{d}',
+                          '\x20000000600000051000000001') AS d) s,
+    unnest(string_to_array('$.a.size();$.a[*].size();$.a[1].size();$.n.size();$.*.type();'
+        || '$.a.type();$.a.size() == 3;$.a ? (@.size() > 1);$.*.size().type();$.x.size();$.d.type();'
+        || '$.s like_regex "^a";$.s like_regex "^a" flag "i";$.a like_regex "x";$.d like_regex "1";'
+        || '$.* ? (@ like_regex "b").type();$.s like_regex "^.b" flag "q"', ';')::jsonpath[]) path;
 -- A path with variables, and one that is not a constant, go by what is given in each row.
 SELECT path, kohiblad_path_query_array('[1,2,3]', path::jsonpath, vars::kohiblad)
 FROM (VALUES ('$[*] ? (@ > $x)', '{"x":2}'), ('$[*] ? (@ > 2)', '{"x":2}'), ('$[1]', '{}'),

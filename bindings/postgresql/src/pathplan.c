@@ -100,6 +100,8 @@ static bool plan_step(JsonPathItem *item, Step *step) {
         case jpiAnyArray: return true;
         case jpiIndexArray: return plan_ranges(item, step);
         case jpiFilter: return plan_filter(item, step);
+        case jpiSize:
+        case jpiType: return !jspHasNext(item);
         default: return false;
     }
 }
@@ -138,6 +140,19 @@ static bool plan_sources(JsonPathItem *item, Test *test) {
     return plan_source(&left, &test->source) && plan_source(&right, &test->other);
 }
 
+static bool plan_pattern(JsonPathItem *item, Test *test) {
+    JsonPathItem left;
+    jspInitByBuffer(&left, item->base, item->content.like_regex.expr);
+    test->pattern = cstring_to_text_with_len(item->content.like_regex.pattern,
+                                             item->content.like_regex.patternlen);
+#if PG_VERSION_NUM >= 160000
+    jspConvertRegexFlags(item->content.like_regex.flags, &test->flags, NULL);
+#else
+    test->flags = jspConvertRegexFlags(item->content.like_regex.flags);
+#endif
+    return plan_source(&left, &test->source);
+}
+
 static bool fill_test(JsonPathItem *item, Test *test) {
     JsonPathItem argument;
     switch (item->type) {
@@ -158,6 +173,7 @@ static bool fill_test(JsonPathItem *item, Test *test) {
         case jpiStartsWith:
             jspGetRightArg(item, &argument);
             return argument.type == jpiString && plan_sources(item, test);
+        case jpiLikeRegex: return plan_pattern(item, test);
         default: return false;
     }
 }

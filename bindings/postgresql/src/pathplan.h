@@ -18,7 +18,8 @@ typedef struct Range {
 
 struct Test;
 
-/* A step of a path: jpiKey, jpiAnyKey, jpiAnyArray, jpiIndexArray or jpiFilter. */
+/* A step of a path: jpiKey, jpiAnyKey, jpiAnyArray, jpiIndexArray or jpiFilter; or the last one,
+ * jpiSize or jpiType, which makes a value. */
 typedef struct Step {
     JsonPathItemType type;
     const struct Step *next; /* NULL at the end */
@@ -36,11 +37,13 @@ typedef struct Source {
 } Source;
 
 /* A predicate. jpiAnd and jpiOr have two below them, and jpiNot and jpiIsUnknown one. Comparisons
- * and jpiStartsWith have two sources, and jpiExists one. */
+ * and jpiStartsWith have two sources, jpiExists and jpiLikeRegex one. */
 typedef struct Test {
     JsonPathItemType type;
     const struct Test *left, *right;
     Source source, other;
+    text *pattern; /* of jpiLikeRegex, with its flags as the server's engine has them */
+    int flags;
 } Test;
 
 /* A whole path: its predicate, or where its values come from if that is NULL. */

@@ -4,7 +4,9 @@
 #include "paths.h"
 #include "pathplan.h"
 
+#include "catalog/pg_collation.h"
 #include "miscadmin.h"
+#include "regex/regex.h"
 
 enum truth { IS_FALSE, IS_TRUE, IS_UNKNOWN };
 
@@ -32,7 +34,7 @@ typedef struct Gatherer {
 
 typedef struct Comparer {
     Taker taker;
-    JsonPathItemType type;
+    const Test *test;
     const Parts *others;
     bool is_inside;  /* whether the items of an array are compared in its place */
     bool is_unknown; /* whether a pair of values could not be compared */
@@ -155,6 +157,35 @@ static bool follow_filter(Run *run, const Step *step, Part value, bool unwraps, 
     return truth == IS_TRUE && follow(run, step->next, value, true, taker);
 }
 
+static Part part_of_count(int64 count) {
+    uint8_t *document = palloc(NUMBER_ROOM);
+    size_t size;
+    uint32_t status = kohiblad_of_int64(count, document, NUMBER_ROOM, &size);
+    if (status != KOHIBLAD_OK) refuse(status, ERRCODE_INTERNAL_ERROR);
+    return part_of_document((Bytes){document, size});
+}
+
+/* What is no array is the only item of one. */
+static Part size_of(Run *run, Part value) {
+    bool is_list = is_array_in(run->document, value);
+    return part_of_count(is_list ? kind_in(run->document, value.payload).count : 1);
+}
+
+static Part name_of_type(Run *run, Part value) {
+    static const char *const names[] = {"null", "string", "number", "boolean", "boolean", "object"};
+    const char *name = names[value.type >> 28];
+    if (is_array_in(run->document, value)) name = "array";
+    return (Part){KOHIBLAD_TYPE_STRING, {(const uint8_t *)name, strlen(name)}};
+}
+
+/* Takes the value that the last step makes. */
+static bool take_made(Run *run, const Step *step, Part value, Taker *taker) {
+    run->is_lost |= value.type == KOHIBLAD_TYPE_EXTENSION;
+    if (run->is_lost) return true;
+    Part made = step->type == jpiSize ? size_of(run, value) : name_of_type(run, value);
+    return taker->take(run, taker, made);
+}
+
 /* Follows steps from a value; whether the taker ended the walk. The first step is asked of the
  * items of an array if it unwraps. */
 static bool follow(Run *run, const Step *step, Part value, bool unwraps, Taker *taker) {
@@ -173,6 +204,7 @@ static bool follow(Run *run, const Step *step, Part value, bool unwraps, Taker *
         return taker->take(run, taker, value);
     }
     if (step->type == jpiIndexArray) return follow_indexes(run, step, value, taker);
+    if (step->type == jpiSize || step->type == jpiType) return take_made(run, step, value, taker);
     fetch_all(run->document);
     switch (step->type) {
         case jpiAnyKey: return follow_members(run, step, value, unwraps, taker);
@@ -265,6 +297,25 @@ static enum truth begins(Part left, Part right) {
     return memcmp(left.payload.at, right.payload.at, right.payload.size) == 0 ? IS_TRUE : IS_FALSE;
 }
 
+/* Whether a text matches a pattern, by the server's engine, to which a zero byte ends it. */
+static enum truth match(Run *run, const Test *test, Part value) {
+    if (value.type != KOHIBLAD_TYPE_STRING) return IS_UNKNOWN;
+    Bytes utf8 = value.payload;
+    run->is_lost |= memchr(utf8.at, 0, utf8.size) != NULL;
+    if (run->is_lost) return IS_UNKNOWN;
+    bool is_match = RE_compile_and_execute(test->pattern, (char *)utf8.at, (int)utf8.size,
+                                           test->flags, DEFAULT_COLLATION_OID, 0, NULL);
+    return is_match ? IS_TRUE : IS_FALSE;
+}
+
+static enum truth judge_pair(Run *run, const Test *test, Part value, Part other) {
+    switch (test->type) {
+        case jpiLikeRegex: return match(run, test, value);
+        case jpiStartsWith: return begins(value, other);
+        default: return compare(test->type, value, other);
+    }
+}
+
 static bool compare_with_all(Run *run, Comparer *comparer, Part value) {
     for (size_t i = 0; i < comparer->others->count; i++) {
         CHECK_FOR_INTERRUPTS();
@@ -272,9 +323,8 @@ static bool compare_with_all(Run *run, Comparer *comparer, Part value) {
         run->is_lost |= value.type == KOHIBLAD_TYPE_EXTENSION;
         run->is_lost |= other.type == KOHIBLAD_TYPE_EXTENSION;
         if (run->is_lost) return true;
-        enum truth truth = comparer->type == jpiStartsWith ? begins(value, other)
-                                                           : compare(comparer->type, value, other);
-        if (truth == IS_TRUE) return true;
+        enum truth truth = judge_pair(run, comparer->test, value, other);
+        if (truth == IS_TRUE || run->is_lost) return true;
         comparer->is_unknown |= truth == IS_UNKNOWN;
     }
     return false;
@@ -298,7 +348,7 @@ static enum truth compare_sources(Run *run, const Test *test) {
         Gatherer gatherer = {{take_value, false, false}, &others, true};
         follow_source(run, &test->other, &gatherer.taker);
     }
-    Comparer comparer = {{take_compared, false, false}, test->type, &others, false, false};
+    Comparer comparer = {{take_compared, false, false}, test, &others, false, false};
     bool is_true = follow_source(run, &test->source, &comparer.taker);
     if (others.room) pfree(others.at);
     if (is_true) return IS_TRUE;
