@@ -8,6 +8,9 @@
 /* Copies of a document differ little in size from what they are made of. */
 #define EDIT_SLACK 64
 
+/* So many names are sooner looked up in an object than it is copied without them. */
+#define FEW_NAMES 4
+
 /* A library call that makes a document of two. */
 typedef uint32_t (*PairCall)(const uint8_t *left, size_t left_size, const uint8_t *right,
                              size_t right_size, size_t depth, uint8_t *out, size_t room,
@@ -236,9 +239,18 @@ static Bytes listed_names(Names *names) {
     return bytes_of(names->listed);
 }
 
+/* Whether an object has none of some names, as far as that is sooner told than it is copied. */
+static bool lacks_few(Bytes object, const Names *names) {
+    Part child;
+    for (size_t i = 0; i < names->count; i++)
+        if (i == FEW_NAMES || find_key(object, names->at[i], &child)) return false;
+    return true;
+}
+
 /* An object without the members that are named, or as it was if there are none. */
 static struct varlena *without_members(struct varlena *given, Names *names) {
     Bytes document = bytes_of(given);
+    if (lacks_few(document, names)) return given;
     struct varlena *result =
         made_of_two(pick_others, KOHIBLAD_LEVEL_STACK, document, listed_names(names));
     return kind_of(bytes_of(result)).count == kind_of(document).count ? given : result;
