@@ -16,6 +16,7 @@ from datetime import datetime
 from decimal import Decimal
 
 from kohiblad import Document, dumps, loads
+from kohiblad.typed_file import TypedFile
 
 ROUNDS = 21
 ROW = ('{"id":48213,"name":"Ada Lovelace","price":12.50,"tags":["new","red"],"seen":null,'
@@ -71,6 +72,9 @@ def cases():
     dated = dict(value, at=datetime(2026, 11, 27, 2, 30))
     stored_rows = [bytes(Document.parse(text)) for text in texts]
     stored_array = bytes(Document.parse(array))
+    documents = [Document(it) for it in stored_rows]
+    types = {"id": "int64", "price": "decimal 2", "town": "text", "count": "int64",
+             "ok": "boolean"}
     part, patch = Document.of({"tags": ["red"]}), {"count": 18, "ok": False, "note": None}
     return [
         ("`loads` of a row", 1_000, lambda: loads(ROW), lambda: exact(ROW)),
@@ -114,6 +118,12 @@ def cases():
         ("10,000 stored rows sorted by one number", 1,
          lambda: sorted(map(Document, stored_rows), key=number_of),
          lambda: sorted(map(exact, texts), key=number_of)),
+        ("10,000 lines: `loads` of each", 1, lambda: [loads(it) for it in texts],
+         lambda: [exact(it) for it in texts]),
+        ("10,000 documents: `TypedFile.build` with five columns", 1,
+         lambda: TypedFile.build(documents, types), None),
+        ("10,000 documents: `TypedFile.build` with no column", 1,
+         lambda: TypedFile.build(documents, {}), None),
     ]
 
 

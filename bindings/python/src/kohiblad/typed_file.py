@@ -9,8 +9,10 @@
 
 docs/TYPED.md has the format, and says which members are kept in a column.
 """
+import array
 import ctypes
 from functools import partial
+from itertools import accumulate
 from typing import (Any, Callable, Dict, Iterable, Iterator, List, Mapping, Sequence, Tuple, Union,
                     cast, overload)
 
@@ -344,15 +346,12 @@ class TypedFile(library.Fixed, Sequence[Document]):
         if iso_dates:
             rows = _with_dates(rows, types)
         _tell_missing(rows, names)
-        offsets = (ctypes.c_size_t * (len(rows) + 1))()
-        end = 0
-        for index, row in enumerate(rows, 1):
-            end += len(row)
-            offsets[index] = end
+        data = b"".join(rows)
+        end = len(data)
+        offsets = array.array("Q", accumulate(map(len, rows), initial=0))
         # Each column has at most 16 bytes and a bit for a row.
         guess = 2 * end + len(rows) * (17 * len(names) + 8) + 64 * len(names) + 64
-        data = b"".join(rows)
-        words = (library.build_typed_file, guess, data, end, ctypes.addressof(offsets),
+        words = (library.build_typed_file, guess, data, end, offsets.buffer_info()[0],
                  len(offsets), listed, len(listed), kinds, len(kinds))
         if library.is_long(data):
             return cast(bytes, library.attended(guess, _built, rows, offsets, *words))
