@@ -63,6 +63,15 @@ ALTER OPERATOR @? (kohiblad, jsonpath) SET (RESTRICT = kohiblad_matchsel);
 ALTER OPERATOR @@ (kohiblad, jsonpath) SET (RESTRICT = kohiblad_matchsel);
 ALTER TYPE kohiblad SET (ANALYZE = kohiblad_typanalyze);
 
+-- Words of documents, which are gathered without a jsonb of each.
+
+CREATE OR REPLACE FUNCTION to_tsvector(kohiblad) RETURNS tsvector
+AS 'MODULE_PATHNAME', 'pg_kohiblad_to_tsvector' LANGUAGE C STRICT STABLE PARALLEL SAFE COST 100;
+
+CREATE OR REPLACE FUNCTION to_tsvector(regconfig, kohiblad) RETURNS tsvector
+AS 'MODULE_PATHNAME', 'pg_kohiblad_to_tsvector_by' LANGUAGE C STRICT IMMUTABLE PARALLEL SAFE
+COST 100;
+
 -- Several servers. What is compared with IN is an array. postgres_fdw sends what belongs to the
 -- extension, as the array type does by itself from PostgreSQL 17 on. It sends no text, which has a
 -- collation, so the planner turns ?, ?| and ?& on a foreign table into functions whose keys are a

@@ -143,3 +143,5 @@ GROUP BY number ORDER BY number;
 -- A document as jsonb is what its text is.
 SELECT count(*) > 10000, bool_and(document::kohiblad::jsonb::text = document::jsonb::text)
 FROM asked;
+SELECT bool_and(to_tsvector('simple', document::kohiblad) = to_tsvector('simple', document::jsonb)),
+    bool_and(to_tsvector(document::kohiblad) = to_tsvector(document::jsonb)) FROM asked;
