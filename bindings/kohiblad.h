@@ -1752,8 +1752,7 @@ struct kohiblad_place kohiblad_export_find_key_in_prefix(const uint8_t *prefix, 
     size_t size, const uint8_t *name, size_t name_size)
     KOHIBLAD_EXPORT("kohiblad_find_key_in_prefix");
 struct kohiblad_place kohiblad_export_find_index_in_prefix(const uint8_t *prefix,
-    size_t prefix_size, size_t size, size_t index)
-    KOHIBLAD_EXPORT("kohiblad_find_index_in_prefix");
+    size_t prefix_size, size_t size, size_t index) KOHIBLAD_EXPORT("kohiblad_find_index_in_prefix");
 uint32_t kohiblad_export_begin(const uint8_t *bytes, size_t size, struct kohiblad_cursor *cursor)
     KOHIBLAD_EXPORT("kohiblad_begin");
 uint32_t kohiblad_export_next(const uint8_t *bytes, size_t size, struct kohiblad_cursor *cursor,
@@ -1877,11 +1876,10 @@ struct kohiblad_taken kohiblad_export_take_binary(const uint8_t *bytes, size_t s
     const size_t *offsets, size_t count, const uint8_t *path, size_t path_size, size_t depth,
     uint8_t *out, size_t room, size_t *length, size_t *value_offsets, size_t offsets_room,
     uint8_t *states, size_t states_room) KOHIBLAD_EXPORT("kohiblad_take_binary");
-struct kohiblad_taken kohiblad_export_take_binary_unchecked(const uint8_t *bytes,
-    size_t size, const size_t *offsets, size_t count, const uint8_t *path, size_t path_size,
-    size_t depth, uint8_t *out, size_t room, size_t *length, size_t *value_offsets,
-    size_t offsets_room, uint8_t *states, size_t states_room)
-    KOHIBLAD_EXPORT("kohiblad_take_binary_unchecked");
+struct kohiblad_taken kohiblad_export_take_binary_unchecked(const uint8_t *bytes, size_t size,
+    const size_t *offsets, size_t count, const uint8_t *path, size_t path_size, size_t depth,
+    uint8_t *out, size_t room, size_t *length, size_t *value_offsets, size_t offsets_room,
+    uint8_t *states, size_t states_room) KOHIBLAD_EXPORT("kohiblad_take_binary_unchecked");
 struct kohiblad_taken kohiblad_export_take_date(const uint8_t *bytes, size_t size,
     const size_t *offsets, size_t count, const uint8_t *path, size_t path_size, size_t depth,
     int32_t *values, size_t room, uint8_t *states, size_t states_room)
@@ -1986,43 +1984,41 @@ struct kohiblad_taken kohiblad_export_take_binary_at(const uint8_t *bytes, size_
 struct kohiblad_truth kohiblad_export_contains(const uint8_t *left, size_t left_size,
     const uint8_t *right, size_t right_size, size_t depth, size_t steps)
     KOHIBLAD_EXPORT("kohiblad_contains");
-struct kohiblad_truth kohiblad_export_exists(const uint8_t *bytes, size_t size,
-    const uint8_t *key, size_t key_size, size_t depth) KOHIBLAD_EXPORT("kohiblad_exists");
+struct kohiblad_truth kohiblad_export_exists(const uint8_t *bytes, size_t size, const uint8_t *key,
+    size_t key_size, size_t depth) KOHIBLAD_EXPORT("kohiblad_exists");
 struct kohiblad_truth kohiblad_export_exists_any(const uint8_t *bytes, size_t size,
-    const uint8_t *names, size_t names_size, size_t depth)
-    KOHIBLAD_EXPORT("kohiblad_exists_any");
+    const uint8_t *names, size_t names_size, size_t depth) KOHIBLAD_EXPORT("kohiblad_exists_any");
 struct kohiblad_truth kohiblad_export_exists_all(const uint8_t *bytes, size_t size,
-    const uint8_t *names, size_t names_size, size_t depth)
-    KOHIBLAD_EXPORT("kohiblad_exists_all");
+    const uint8_t *names, size_t names_size, size_t depth) KOHIBLAD_EXPORT("kohiblad_exists_all");
 uint32_t kohiblad_export_concat(const uint8_t *left, size_t left_size, const uint8_t *right,
     size_t right_size, size_t depth, uint8_t *out, size_t room, size_t *length)
     KOHIBLAD_EXPORT("kohiblad_concat");
 uint32_t kohiblad_export_merge_patch(const uint8_t *target, size_t target_size,
     const uint8_t *patch, size_t patch_size, size_t depth, uint8_t *out, size_t room,
     size_t *length) KOHIBLAD_EXPORT("kohiblad_merge_patch");
-uint32_t kohiblad_export_strip_nulls(const uint8_t *bytes, size_t size, size_t depth,
-    uint8_t *out, size_t room, size_t *length) KOHIBLAD_EXPORT("kohiblad_strip_nulls");
+uint32_t kohiblad_export_strip_nulls(const uint8_t *bytes, size_t size, size_t depth, uint8_t *out,
+    size_t room, size_t *length) KOHIBLAD_EXPORT("kohiblad_strip_nulls");
 uint32_t kohiblad_export_pick(const uint8_t *bytes, size_t size, const uint8_t *names,
     size_t names_size, uint32_t others, size_t depth, uint8_t *out, size_t room, size_t *length)
     KOHIBLAD_EXPORT("kohiblad_pick");
-uint32_t kohiblad_export_object_keys(const uint8_t *bytes, size_t size, size_t depth,
-    uint8_t *out, size_t room, size_t *length) KOHIBLAD_EXPORT("kohiblad_object_keys");
+uint32_t kohiblad_export_object_keys(const uint8_t *bytes, size_t size, size_t depth, uint8_t *out,
+    size_t room, size_t *length) KOHIBLAD_EXPORT("kohiblad_object_keys");
 uint32_t kohiblad_export_array_distinct(const uint8_t *bytes, size_t size, size_t depth,
     uint8_t *out, size_t room, size_t *length) KOHIBLAD_EXPORT("kohiblad_array_distinct");
 uint32_t kohiblad_export_array_intersection(const uint8_t *left, size_t left_size,
     const uint8_t *right, size_t right_size, size_t depth, uint8_t *out, size_t room,
     size_t *length) KOHIBLAD_EXPORT("kohiblad_array_intersection");
-uint32_t kohiblad_export_array_except(const uint8_t *left, size_t left_size,
-    const uint8_t *right, size_t right_size, size_t depth, uint8_t *out, size_t room,
-    size_t *length) KOHIBLAD_EXPORT("kohiblad_array_except");
+uint32_t kohiblad_export_array_except(const uint8_t *left, size_t left_size, const uint8_t *right,
+    size_t right_size, size_t depth, uint8_t *out, size_t room, size_t *length)
+    KOHIBLAD_EXPORT("kohiblad_array_except");
 struct kohiblad_truth kohiblad_export_array_overlap(const uint8_t *left, size_t left_size,
     const uint8_t *right, size_t right_size, size_t depth)
     KOHIBLAD_EXPORT("kohiblad_array_overlap");
 uint32_t kohiblad_export_edit(const uint8_t *bytes, size_t size, const uint8_t *path,
     size_t path_size, uint32_t edit, const uint8_t *value, size_t value_size, size_t depth,
     uint8_t *out, size_t room, size_t *length) KOHIBLAD_EXPORT("kohiblad_edit");
-uint32_t kohiblad_export_path_of_text(const uint8_t *text, size_t size, uint8_t *out,
-    size_t room, size_t *length) KOHIBLAD_EXPORT("kohiblad_path_of_text");
+uint32_t kohiblad_export_path_of_text(const uint8_t *text, size_t size, uint8_t *out, size_t room,
+    size_t *length) KOHIBLAD_EXPORT("kohiblad_path_of_text");
 uint32_t kohiblad_export_path_in(const uint8_t *bytes, size_t size, const uint8_t *text,
     size_t text_size, size_t depth, uint8_t *out, size_t room, size_t *length)
     KOHIBLAD_EXPORT("kohiblad_path_in");
@@ -2034,36 +2030,10 @@ uint32_t kohiblad_export_select(const uint8_t *bytes, size_t size, const uint8_t
 uint32_t kohiblad_export_select_within(const uint8_t *bytes, size_t size, const uint8_t *path,
     size_t path_size, size_t depth, size_t steps, struct kohiblad_place *out, size_t room,
     size_t *count) KOHIBLAD_EXPORT("kohiblad_select_within");
-uint32_t kohiblad_export_index_keys(const uint8_t *bytes, size_t size, size_t depth,
-    uint64_t *out, size_t room, size_t *count) KOHIBLAD_EXPORT("kohiblad_index_keys");
-uint32_t kohiblad_export_top_keys(const uint8_t *bytes, size_t size, size_t depth,
-    uint64_t *out, size_t room, size_t *count) KOHIBLAD_EXPORT("kohiblad_top_keys");
-
-/* Null with length 0 becomes a pointer to something that is never read or written. */
-static inline const uint8_t *kohiblad_in(const uint8_t *bytes) {
-    static const uint8_t none = 0;
-    return bytes ? bytes : &none;
-}
-static inline uint8_t *kohiblad_out(uint8_t *out) {
-    static uint8_t none;
-    return out ? out : &none;
-}
-static inline const size_t *kohiblad_offsets_in(const size_t *offsets) {
-    static const size_t none = 0;
-    return offsets ? offsets : &none;
-}
-static inline size_t *kohiblad_order_out(size_t *order) {
-    static size_t none;
-    return order ? order : &none;
-}
-static inline uint64_t *kohiblad_keys_out(uint64_t *out) {
-    static uint64_t none;
-    return out ? out : &none;
-}
-static inline struct kohiblad_place *kohiblad_places_out(struct kohiblad_place *out) {
-    static struct kohiblad_place none;
-    return out ? out : &none;
-}
+uint32_t kohiblad_export_index_keys(const uint8_t *bytes, size_t size, size_t depth, uint64_t *out,
+    size_t room, size_t *count) KOHIBLAD_EXPORT("kohiblad_index_keys");
+uint32_t kohiblad_export_top_keys(const uint8_t *bytes, size_t size, size_t depth, uint64_t *out,
+    size_t room, size_t *count) KOHIBLAD_EXPORT("kohiblad_top_keys");
 
 /* Whether two blocks have a byte in common. */
 static inline bool kohiblad_meet(const void *left, size_t left_size,
@@ -2072,24 +2042,129 @@ static inline bool kohiblad_meet(const void *left, size_t left_size,
     return l < r ? r - l < left_size && right_size > 0 : l - r < right_size && left_size > 0;
 }
 
-/* Whether a room and its length lie apart from each other, */
-static inline bool kohiblad_is_room(const uint8_t *out, size_t room, const size_t *length) {
-    return !kohiblad_meet(out, room, length, sizeof *length);
+/* Whether a room and its length, or count, lie apart from each other, */
+static inline bool kohiblad_is_room(const void *out, size_t room_size, const size_t *length) {
+    return !kohiblad_meet(out, room_size, length, sizeof *length);
 }
 
-/* and from what goes in. */
-static inline bool kohiblad_is_apart(const uint8_t *out, size_t room, const size_t *length,
-                                     const void *in, size_t size) {
-    return !kohiblad_meet(out, room, in, size) && !kohiblad_meet(length, sizeof *length, in, size);
+/* and both from another block. */
+static inline bool kohiblad_is_apart(const void *out, size_t room_size, const size_t *length,
+                                     const void *other, size_t size) {
+    return !kohiblad_meet(out, room_size, other, size)
+        && !kohiblad_meet(length, sizeof *length, other, size);
 }
 
+/* Whether a block lies apart from rows, and from a path or names. */
+static inline bool kohiblad_is_outside(const void *out, size_t out_size, const uint8_t *bytes,
+                                       size_t size, const size_t *offsets, size_t count,
+                                       const uint8_t *path, size_t path_size) {
+    return !kohiblad_meet(out, out_size, bytes, size)
+        && !kohiblad_meet(out, out_size, offsets, count * sizeof *offsets)
+        && !kohiblad_meet(out, out_size, path, path_size);
+}
+
+/* Null with length 0 becomes a pointer to something that is never read or written. */
+static inline uint8_t *kohiblad_out(uint8_t *out) {
+    static uint8_t none;
+    return out ? out : &none;
+}
+static inline const uint8_t *kohiblad_in(const uint8_t *in) {
+    static uint8_t none;
+    return in ? in : &none;
+}
+static inline const size_t *kohiblad_sizes_in(const size_t *in) {
+    static size_t none;
+    return in ? in : &none;
+}
+static inline size_t *kohiblad_sizes_out(size_t *out) {
+    static size_t none;
+    return out ? out : &none;
+}
+static inline int64_t *kohiblad_int64s_out(int64_t *out) {
+    static int64_t none;
+    return out ? out : &none;
+}
+static inline uint64_t *kohiblad_uint64s_out(uint64_t *out) {
+    static uint64_t none;
+    return out ? out : &none;
+}
+static inline struct kohiblad_int128 *kohiblad_int128s_out(struct kohiblad_int128 *out) {
+    static struct kohiblad_int128 none;
+    return out ? out : &none;
+}
+static inline uint32_t *kohiblad_uint32s_out(uint32_t *out) {
+    static uint32_t none;
+    return out ? out : &none;
+}
+static inline int32_t *kohiblad_int32s_out(int32_t *out) {
+    static int32_t none;
+    return out ? out : &none;
+}
+static inline struct kohiblad_timestamp_tz *kohiblad_timestamp_tzs_out(
+    struct kohiblad_timestamp_tz *out) {
+    static struct kohiblad_timestamp_tz none;
+    return out ? out : &none;
+}
+static inline struct kohiblad_interval *kohiblad_intervals_out(struct kohiblad_interval *out) {
+    static struct kohiblad_interval none;
+    return out ? out : &none;
+}
+static inline const int64_t *kohiblad_int64s_in(const int64_t *in) {
+    static int64_t none;
+    return in ? in : &none;
+}
+static inline struct kohiblad_int64_zone *kohiblad_int64_zones_out(
+    struct kohiblad_int64_zone *out) {
+    static struct kohiblad_int64_zone none;
+    return out ? out : &none;
+}
+static inline const uint64_t *kohiblad_uint64s_in(const uint64_t *in) {
+    static uint64_t none;
+    return in ? in : &none;
+}
+static inline struct kohiblad_uint64_zone *kohiblad_uint64_zones_out(
+    struct kohiblad_uint64_zone *out) {
+    static struct kohiblad_uint64_zone none;
+    return out ? out : &none;
+}
+static inline const struct kohiblad_int128 *kohiblad_int128s_in(const struct kohiblad_int128 *in) {
+    static struct kohiblad_int128 none;
+    return in ? in : &none;
+}
+static inline struct kohiblad_decimal_zone *kohiblad_decimal_zones_out(
+    struct kohiblad_decimal_zone *out) {
+    static struct kohiblad_decimal_zone none;
+    return out ? out : &none;
+}
+static inline const int32_t *kohiblad_int32s_in(const int32_t *in) {
+    static int32_t none;
+    return in ? in : &none;
+}
+static inline struct kohiblad_date_zone *kohiblad_date_zones_out(struct kohiblad_date_zone *out) {
+    static struct kohiblad_date_zone none;
+    return out ? out : &none;
+}
+static inline struct kohiblad_typed_column *kohiblad_typed_columns_out(
+    struct kohiblad_typed_column *out) {
+    static struct kohiblad_typed_column none;
+    return out ? out : &none;
+}
+static inline struct kohiblad_place *kohiblad_places_out(struct kohiblad_place *out) {
+    static struct kohiblad_place none;
+    return out ? out : &none;
+}
+static inline const struct kohiblad_place *kohiblad_places_in(const struct kohiblad_place *in) {
+    static struct kohiblad_place none;
+    return in ? in : &none;
+}
+
+/* The functions that are declared above; those that do more than most come after them. */
 static inline uint32_t kohiblad_version(void) {
     return kohiblad_export_version();
 }
 static inline uint32_t kohiblad_status_name(uint32_t status, uint8_t *out, size_t room,
     size_t *length) {
-    if (!kohiblad_is_room(out, room, length))
-        return KOHIBLAD_OVERLAP;
+    if (!kohiblad_is_room(out, room, length)) return KOHIBLAD_OVERLAP;
     return kohiblad_export_status_name(status, kohiblad_out(out), room, length);
 }
 static inline bool kohiblad_check(const uint8_t *bytes, size_t size, size_t depth) {
@@ -2134,19 +2209,6 @@ static inline uint32_t kohiblad_begin(const uint8_t *bytes, size_t size,
     if (kohiblad_meet(cursor, sizeof *cursor, bytes, size)) return KOHIBLAD_OVERLAP;
     return kohiblad_export_begin(kohiblad_in(bytes), size, cursor);
 }
-static inline uint32_t kohiblad_next(const uint8_t *bytes, size_t size,
-    struct kohiblad_cursor *cursor, struct kohiblad_place *key, struct kohiblad_place *value) {
-    struct kohiblad_place unused;
-    if (!key) key = &unused;
-    if (kohiblad_meet(cursor, sizeof *cursor, bytes, size)
-        || kohiblad_meet(key, sizeof *key, bytes, size)
-        || kohiblad_meet(value, sizeof *value, bytes, size)
-        || kohiblad_meet(key, sizeof *key, value, sizeof *value)
-        || kohiblad_meet(cursor, sizeof *cursor, key, sizeof *key)
-        || kohiblad_meet(cursor, sizeof *cursor, value, sizeof *value))
-        return KOHIBLAD_OVERLAP;
-    return kohiblad_export_next(kohiblad_in(bytes), size, cursor, key, value);
-}
 static inline uint32_t kohiblad_copy(uint32_t type, const uint8_t *payload, size_t size,
     uint8_t *out, size_t room, size_t *length) {
     if (!kohiblad_is_room(out, room, length)
@@ -2165,11 +2227,11 @@ static inline uint32_t kohiblad_get_index(const uint8_t *bytes, size_t size, siz
 static inline uint32_t kohiblad_get_member(const uint8_t *bytes, size_t size, size_t index,
     uint8_t *key, size_t key_room, size_t *key_length, uint8_t *out, size_t room, size_t *length) {
     if (!kohiblad_is_room(key, key_room, key_length)
+        || !kohiblad_is_apart(key, key_room, key_length, out, room)
+        || !kohiblad_is_apart(key, key_room, key_length, length, sizeof *length)
         || !kohiblad_is_apart(key, key_room, key_length, bytes, size)
         || !kohiblad_is_room(out, room, length)
-        || !kohiblad_is_apart(out, room, length, bytes, size)
-        || !kohiblad_is_apart(key, key_room, key_length, out, room)
-        || !kohiblad_is_apart(key, key_room, key_length, length, sizeof *length))
+        || !kohiblad_is_apart(out, room, length, bytes, size))
         return KOHIBLAD_OVERLAP;
     return kohiblad_export_get_member(kohiblad_in(bytes), size, index, kohiblad_out(key), key_room,
         key_length, kohiblad_out(out), room, length);
@@ -2191,14 +2253,12 @@ static inline struct kohiblad_extension_value kohiblad_as_extension(const uint8_
     return kohiblad_export_as_extension(kohiblad_in(bytes), size);
 }
 static inline uint32_t kohiblad_of_null(uint8_t *out, size_t room, size_t *length) {
-    if (!kohiblad_is_room(out, room, length))
-        return KOHIBLAD_OVERLAP;
+    if (!kohiblad_is_room(out, room, length)) return KOHIBLAD_OVERLAP;
     return kohiblad_export_of_null(kohiblad_out(out), room, length);
 }
 static inline uint32_t kohiblad_of_boolean(uint32_t value, uint8_t *out, size_t room,
     size_t *length) {
-    if (!kohiblad_is_room(out, room, length))
-        return KOHIBLAD_OVERLAP;
+    if (!kohiblad_is_room(out, room, length)) return KOHIBLAD_OVERLAP;
     return kohiblad_export_of_boolean(value, kohiblad_out(out), room, length);
 }
 static inline uint32_t kohiblad_of_string(const uint8_t *text, size_t size, uint8_t *out,
@@ -2209,14 +2269,12 @@ static inline uint32_t kohiblad_of_string(const uint8_t *text, size_t size, uint
     return kohiblad_export_of_string(kohiblad_in(text), size, kohiblad_out(out), room, length);
 }
 static inline uint32_t kohiblad_of_int64(int64_t value, uint8_t *out, size_t room, size_t *length) {
-    if (!kohiblad_is_room(out, room, length))
-        return KOHIBLAD_OVERLAP;
+    if (!kohiblad_is_room(out, room, length)) return KOHIBLAD_OVERLAP;
     return kohiblad_export_of_int64(value, kohiblad_out(out), room, length);
 }
-static inline uint32_t kohiblad_of_decimal(int64_t high, uint64_t low, uint32_t scale,
-    uint8_t *out, size_t room, size_t *length) {
-    if (!kohiblad_is_room(out, room, length))
-        return KOHIBLAD_OVERLAP;
+static inline uint32_t kohiblad_of_decimal(int64_t high, uint64_t low, uint32_t scale, uint8_t *out,
+    size_t room, size_t *length) {
+    if (!kohiblad_is_room(out, room, length)) return KOHIBLAD_OVERLAP;
     return kohiblad_export_of_decimal(high, low, scale, kohiblad_out(out), room, length);
 }
 static inline uint32_t kohiblad_of_extension(uint32_t tag, int64_t value, int32_t months,
@@ -2280,8 +2338,8 @@ static inline uint32_t kohiblad_build_array(const uint8_t *bytes, size_t size,
         || !kohiblad_is_apart(out, room, length, bytes, size)
         || !kohiblad_is_apart(out, room, length, offsets, count * sizeof *offsets))
         return KOHIBLAD_OVERLAP;
-    return kohiblad_export_build_array(kohiblad_in(bytes), size, kohiblad_offsets_in(offsets),
-        count, depth, kohiblad_out(out), room, length);
+    return kohiblad_export_build_array(kohiblad_in(bytes), size, kohiblad_sizes_in(offsets), count,
+        depth, kohiblad_out(out), room, length);
 }
 static inline uint32_t kohiblad_build_object(const uint8_t *bytes, size_t size,
     const size_t *offsets, size_t count, size_t depth, uint8_t *out, size_t room, size_t *length) {
@@ -2289,8 +2347,8 @@ static inline uint32_t kohiblad_build_object(const uint8_t *bytes, size_t size,
         || !kohiblad_is_apart(out, room, length, bytes, size)
         || !kohiblad_is_apart(out, room, length, offsets, count * sizeof *offsets))
         return KOHIBLAD_OVERLAP;
-    return kohiblad_export_build_object(kohiblad_in(bytes), size, kohiblad_offsets_in(offsets),
-        count, depth, kohiblad_out(out), room, length);
+    return kohiblad_export_build_object(kohiblad_in(bytes), size, kohiblad_sizes_in(offsets), count,
+        depth, kohiblad_out(out), room, length);
 }
 static inline bool kohiblad_is_canonical(const uint8_t *bytes, size_t size, size_t depth) {
     return kohiblad_export_is_canonical(kohiblad_in(bytes), size, depth);
@@ -2321,9 +2379,8 @@ static inline uint32_t kohiblad_key_cut(const uint8_t *bytes, size_t size, size_
     return kohiblad_export_key_cut(kohiblad_in(bytes), size, depth, kohiblad_out(out), room,
         length);
 }
-static inline uint32_t kohiblad_member_key(const uint8_t *bytes, size_t size,
-    const uint8_t *names, size_t names_size, size_t depth, uint8_t *out, size_t room,
-    size_t *length) {
+static inline uint32_t kohiblad_member_key(const uint8_t *bytes, size_t size, const uint8_t *names,
+    size_t names_size, size_t depth, uint8_t *out, size_t room, size_t *length) {
     if (!kohiblad_is_room(out, room, length)
         || !kohiblad_is_apart(out, room, length, bytes, size)
         || !kohiblad_is_apart(out, room, length, names, names_size))
@@ -2336,62 +2393,24 @@ static inline uint32_t kohiblad_sort(const uint8_t *bytes, size_t size, const si
     if (kohiblad_meet(order, room * sizeof *order, bytes, size)
         || kohiblad_meet(order, room * sizeof *order, offsets, count * sizeof *offsets))
         return KOHIBLAD_OVERLAP;
-    return kohiblad_export_sort(kohiblad_in(bytes), size, kohiblad_offsets_in(offsets), count,
-        depth, kohiblad_order_out(order), room);
+    return kohiblad_export_sort(kohiblad_in(bytes), size, kohiblad_sizes_in(offsets), count, depth,
+        kohiblad_sizes_out(order), room);
 }
 static inline struct kohiblad_survey_counts kohiblad_survey(const uint8_t *bytes, size_t size,
     const size_t *offsets, size_t count, const uint8_t *path, size_t path_size, size_t depth) {
-    return kohiblad_export_survey(kohiblad_in(bytes), size, kohiblad_offsets_in(offsets), count,
+    return kohiblad_export_survey(kohiblad_in(bytes), size, kohiblad_sizes_in(offsets), count,
         kohiblad_in(path), path_size, depth);
-}
-/* Whether the values and states of rows lie apart from each other, */
-static inline bool kohiblad_is_column(const void *values, size_t size, const uint8_t *states,
-                                      size_t room) {
-    return !kohiblad_meet(values, size, states, room);
-}
-/* and each from rows and a path. */
-static inline bool kohiblad_is_outside(const void *out, size_t out_size, const uint8_t *bytes,
-                                       size_t size, const size_t *offsets, size_t count,
-                                       const uint8_t *path, size_t path_size) {
-    return !kohiblad_meet(out, out_size, bytes, size)
-        && !kohiblad_meet(out, out_size, offsets, count * sizeof *offsets)
-        && !kohiblad_meet(out, out_size, path, path_size);
-}
-/* The same of the bytes of texts or binary values, their length, and where they begin. */
-static inline bool kohiblad_is_byte_column(const uint8_t *out, size_t room, const size_t *length,
-                                           const void *starts, size_t starts_size,
-                                           const uint8_t *states, size_t states_room,
-                                           const uint8_t *bytes, size_t size,
-                                           const size_t *offsets, size_t count,
-                                           const uint8_t *path, size_t path_size) {
-    return kohiblad_is_room(out, room, length)
-        && kohiblad_is_apart(out, room, length, starts, starts_size)
-        && kohiblad_is_apart(out, room, length, states, states_room)
-        && kohiblad_is_column(starts, starts_size, states, states_room)
-        && kohiblad_is_outside(out, room, bytes, size, offsets, count, path, path_size)
-        && kohiblad_is_outside(length, sizeof *length, bytes, size, offsets, count, path,
-                               path_size)
-        && kohiblad_is_outside(starts, starts_size, bytes, size, offsets, count, path, path_size)
-        && kohiblad_is_outside(states, states_room, bytes, size, offsets, count, path, path_size);
-}
-static inline int64_t *kohiblad_int64s_out(int64_t *out) {
-    static int64_t none;
-    return out ? out : &none;
-}
-static inline struct kohiblad_int128 *kohiblad_int128s_out(struct kohiblad_int128 *out) {
-    static struct kohiblad_int128 none;
-    return out ? out : &none;
 }
 static inline struct kohiblad_taken kohiblad_take_int64(const uint8_t *bytes, size_t size,
     const size_t *offsets, size_t count, const uint8_t *path, size_t path_size, size_t depth,
     uint32_t fit, int64_t *values, size_t room, uint8_t *states, size_t states_room) {
     struct kohiblad_taken overlap = { KOHIBLAD_OVERLAP, 0, 0 };
-    if (!kohiblad_is_column(values, room * sizeof *values, states, states_room)
+    if (kohiblad_meet(values, room * sizeof *values, states, states_room)
         || !kohiblad_is_outside(values, room * sizeof *values, bytes, size, offsets, count, path,
                                 path_size)
         || !kohiblad_is_outside(states, states_room, bytes, size, offsets, count, path, path_size))
         return overlap;
-    return kohiblad_export_take_int64(kohiblad_in(bytes), size, kohiblad_offsets_in(offsets), count,
+    return kohiblad_export_take_int64(kohiblad_in(bytes), size, kohiblad_sizes_in(offsets), count,
         kohiblad_in(path), path_size, depth, fit, kohiblad_int64s_out(values), room,
         kohiblad_out(states), states_room);
 }
@@ -2399,13 +2418,13 @@ static inline struct kohiblad_taken kohiblad_take_uint64(const uint8_t *bytes, s
     const size_t *offsets, size_t count, const uint8_t *path, size_t path_size, size_t depth,
     uint32_t fit, uint64_t *values, size_t room, uint8_t *states, size_t states_room) {
     struct kohiblad_taken overlap = { KOHIBLAD_OVERLAP, 0, 0 };
-    if (!kohiblad_is_column(values, room * sizeof *values, states, states_room)
+    if (kohiblad_meet(values, room * sizeof *values, states, states_room)
         || !kohiblad_is_outside(values, room * sizeof *values, bytes, size, offsets, count, path,
                                 path_size)
         || !kohiblad_is_outside(states, states_room, bytes, size, offsets, count, path, path_size))
         return overlap;
-    return kohiblad_export_take_uint64(kohiblad_in(bytes), size, kohiblad_offsets_in(offsets),
-        count, kohiblad_in(path), path_size, depth, fit, kohiblad_keys_out(values), room,
+    return kohiblad_export_take_uint64(kohiblad_in(bytes), size, kohiblad_sizes_in(offsets), count,
+        kohiblad_in(path), path_size, depth, fit, kohiblad_uint64s_out(values), room,
         kohiblad_out(states), states_room);
 }
 static inline struct kohiblad_taken kohiblad_take_decimal(const uint8_t *bytes, size_t size,
@@ -2413,52 +2432,58 @@ static inline struct kohiblad_taken kohiblad_take_decimal(const uint8_t *bytes, 
     uint32_t fit, uint32_t scale, struct kohiblad_int128 *values, size_t room, uint8_t *states,
     size_t states_room) {
     struct kohiblad_taken overlap = { KOHIBLAD_OVERLAP, 0, 0 };
-    if (!kohiblad_is_column(values, room * sizeof *values, states, states_room)
+    if (kohiblad_meet(values, room * sizeof *values, states, states_room)
         || !kohiblad_is_outside(values, room * sizeof *values, bytes, size, offsets, count, path,
                                 path_size)
         || !kohiblad_is_outside(states, states_room, bytes, size, offsets, count, path, path_size))
         return overlap;
-    return kohiblad_export_take_decimal(kohiblad_in(bytes), size, kohiblad_offsets_in(offsets),
-        count, kohiblad_in(path), path_size, depth, fit, scale, kohiblad_int128s_out(values), room,
+    return kohiblad_export_take_decimal(kohiblad_in(bytes), size, kohiblad_sizes_in(offsets), count,
+        kohiblad_in(path), path_size, depth, fit, scale, kohiblad_int128s_out(values), room,
         kohiblad_out(states), states_room);
 }
 static inline struct kohiblad_taken kohiblad_take_boolean(const uint8_t *bytes, size_t size,
     const size_t *offsets, size_t count, const uint8_t *path, size_t path_size, size_t depth,
     uint8_t *values, size_t room, uint8_t *states, size_t states_room) {
     struct kohiblad_taken overlap = { KOHIBLAD_OVERLAP, 0, 0 };
-    if (!kohiblad_is_column(values, room * sizeof *values, states, states_room)
-        || !kohiblad_is_outside(values, room * sizeof *values, bytes, size, offsets, count, path,
-                                path_size)
+    if (kohiblad_meet(values, room, states, states_room)
+        || !kohiblad_is_outside(values, room, bytes, size, offsets, count, path, path_size)
         || !kohiblad_is_outside(states, states_room, bytes, size, offsets, count, path, path_size))
         return overlap;
-    return kohiblad_export_take_boolean(kohiblad_in(bytes), size, kohiblad_offsets_in(offsets),
-        count, kohiblad_in(path), path_size, depth, kohiblad_out(values), room,
-        kohiblad_out(states), states_room);
+    return kohiblad_export_take_boolean(kohiblad_in(bytes), size, kohiblad_sizes_in(offsets), count,
+        kohiblad_in(path), path_size, depth, kohiblad_out(values), room, kohiblad_out(states),
+        states_room);
 }
 static inline struct kohiblad_taken kohiblad_take_text(const uint8_t *bytes, size_t size,
     const size_t *offsets, size_t count, const uint8_t *path, size_t path_size, size_t depth,
     uint8_t *out, size_t room, size_t *length, size_t *text_offsets, size_t offsets_room,
     uint8_t *states, size_t states_room) {
     struct kohiblad_taken overlap = { KOHIBLAD_OVERLAP, 0, 0 };
-    if (!kohiblad_is_byte_column(out, room, length, text_offsets,
-                                 offsets_room * sizeof *text_offsets, states, states_room, bytes,
-                                 size, offsets, count, path, path_size))
+    if (!kohiblad_is_room(out, room, length)
+        || !kohiblad_is_apart(out, room, length, text_offsets, offsets_room * sizeof *text_offsets)
+        || !kohiblad_is_apart(out, room, length, states, states_room)
+        || !kohiblad_is_apart(out, room, length, bytes, size)
+        || !kohiblad_is_apart(out, room, length, offsets, count * sizeof *offsets)
+        || !kohiblad_is_apart(out, room, length, path, path_size)
+        || kohiblad_meet(text_offsets, offsets_room * sizeof *text_offsets, states, states_room)
+        || !kohiblad_is_outside(text_offsets, offsets_room * sizeof *text_offsets, bytes, size,
+                                offsets, count, path, path_size)
+        || !kohiblad_is_outside(states, states_room, bytes, size, offsets, count, path, path_size))
         return overlap;
-    return kohiblad_export_take_text(kohiblad_in(bytes), size, kohiblad_offsets_in(offsets), count,
+    return kohiblad_export_take_text(kohiblad_in(bytes), size, kohiblad_sizes_in(offsets), count,
         kohiblad_in(path), path_size, depth, kohiblad_out(out), room, length,
-        kohiblad_order_out(text_offsets), offsets_room, kohiblad_out(states), states_room);
+        kohiblad_sizes_out(text_offsets), offsets_room, kohiblad_out(states), states_room);
 }
 static inline struct kohiblad_taken kohiblad_take_int64_unchecked(const uint8_t *bytes, size_t size,
     const size_t *offsets, size_t count, const uint8_t *path, size_t path_size, size_t depth,
     uint32_t fit, int64_t *values, size_t room, uint8_t *states, size_t states_room) {
     struct kohiblad_taken overlap = { KOHIBLAD_OVERLAP, 0, 0 };
-    if (!kohiblad_is_column(values, room * sizeof *values, states, states_room)
+    if (kohiblad_meet(values, room * sizeof *values, states, states_room)
         || !kohiblad_is_outside(values, room * sizeof *values, bytes, size, offsets, count, path,
                                 path_size)
         || !kohiblad_is_outside(states, states_room, bytes, size, offsets, count, path, path_size))
         return overlap;
     return kohiblad_export_take_int64_unchecked(kohiblad_in(bytes), size,
-        kohiblad_offsets_in(offsets), count, kohiblad_in(path), path_size, depth, fit,
+        kohiblad_sizes_in(offsets), count, kohiblad_in(path), path_size, depth, fit,
         kohiblad_int64s_out(values), room, kohiblad_out(states), states_room);
 }
 static inline struct kohiblad_taken kohiblad_take_uint64_unchecked(const uint8_t *bytes,
@@ -2466,40 +2491,39 @@ static inline struct kohiblad_taken kohiblad_take_uint64_unchecked(const uint8_t
     size_t depth, uint32_t fit, uint64_t *values, size_t room, uint8_t *states,
     size_t states_room) {
     struct kohiblad_taken overlap = { KOHIBLAD_OVERLAP, 0, 0 };
-    if (!kohiblad_is_column(values, room * sizeof *values, states, states_room)
+    if (kohiblad_meet(values, room * sizeof *values, states, states_room)
         || !kohiblad_is_outside(values, room * sizeof *values, bytes, size, offsets, count, path,
                                 path_size)
         || !kohiblad_is_outside(states, states_room, bytes, size, offsets, count, path, path_size))
         return overlap;
     return kohiblad_export_take_uint64_unchecked(kohiblad_in(bytes), size,
-        kohiblad_offsets_in(offsets), count, kohiblad_in(path), path_size, depth, fit,
-        kohiblad_keys_out(values), room, kohiblad_out(states), states_room);
+        kohiblad_sizes_in(offsets), count, kohiblad_in(path), path_size, depth, fit,
+        kohiblad_uint64s_out(values), room, kohiblad_out(states), states_room);
 }
 static inline struct kohiblad_taken kohiblad_take_decimal_unchecked(const uint8_t *bytes,
     size_t size, const size_t *offsets, size_t count, const uint8_t *path, size_t path_size,
     size_t depth, uint32_t fit, uint32_t scale, struct kohiblad_int128 *values, size_t room,
     uint8_t *states, size_t states_room) {
     struct kohiblad_taken overlap = { KOHIBLAD_OVERLAP, 0, 0 };
-    if (!kohiblad_is_column(values, room * sizeof *values, states, states_room)
+    if (kohiblad_meet(values, room * sizeof *values, states, states_room)
         || !kohiblad_is_outside(values, room * sizeof *values, bytes, size, offsets, count, path,
                                 path_size)
         || !kohiblad_is_outside(states, states_room, bytes, size, offsets, count, path, path_size))
         return overlap;
     return kohiblad_export_take_decimal_unchecked(kohiblad_in(bytes), size,
-        kohiblad_offsets_in(offsets), count, kohiblad_in(path), path_size, depth, fit, scale,
+        kohiblad_sizes_in(offsets), count, kohiblad_in(path), path_size, depth, fit, scale,
         kohiblad_int128s_out(values), room, kohiblad_out(states), states_room);
 }
 static inline struct kohiblad_taken kohiblad_take_boolean_unchecked(const uint8_t *bytes,
     size_t size, const size_t *offsets, size_t count, const uint8_t *path, size_t path_size,
     size_t depth, uint8_t *values, size_t room, uint8_t *states, size_t states_room) {
     struct kohiblad_taken overlap = { KOHIBLAD_OVERLAP, 0, 0 };
-    if (!kohiblad_is_column(values, room * sizeof *values, states, states_room)
-        || !kohiblad_is_outside(values, room * sizeof *values, bytes, size, offsets, count, path,
-                                path_size)
+    if (kohiblad_meet(values, room, states, states_room)
+        || !kohiblad_is_outside(values, room, bytes, size, offsets, count, path, path_size)
         || !kohiblad_is_outside(states, states_room, bytes, size, offsets, count, path, path_size))
         return overlap;
     return kohiblad_export_take_boolean_unchecked(kohiblad_in(bytes), size,
-        kohiblad_offsets_in(offsets), count, kohiblad_in(path), path_size, depth,
+        kohiblad_sizes_in(offsets), count, kohiblad_in(path), path_size, depth,
         kohiblad_out(values), room, kohiblad_out(states), states_room);
 }
 static inline struct kohiblad_taken kohiblad_take_text_unchecked(const uint8_t *bytes, size_t size,
@@ -2507,30 +2531,39 @@ static inline struct kohiblad_taken kohiblad_take_text_unchecked(const uint8_t *
     uint8_t *out, size_t room, size_t *length, size_t *text_offsets, size_t offsets_room,
     uint8_t *states, size_t states_room) {
     struct kohiblad_taken overlap = { KOHIBLAD_OVERLAP, 0, 0 };
-    if (!kohiblad_is_byte_column(out, room, length, text_offsets,
-                                 offsets_room * sizeof *text_offsets, states, states_room, bytes,
-                                 size, offsets, count, path, path_size))
+    if (!kohiblad_is_room(out, room, length)
+        || !kohiblad_is_apart(out, room, length, text_offsets, offsets_room * sizeof *text_offsets)
+        || !kohiblad_is_apart(out, room, length, states, states_room)
+        || !kohiblad_is_apart(out, room, length, bytes, size)
+        || !kohiblad_is_apart(out, room, length, offsets, count * sizeof *offsets)
+        || !kohiblad_is_apart(out, room, length, path, path_size)
+        || kohiblad_meet(text_offsets, offsets_room * sizeof *text_offsets, states, states_room)
+        || !kohiblad_is_outside(text_offsets, offsets_room * sizeof *text_offsets, bytes, size,
+                                offsets, count, path, path_size)
+        || !kohiblad_is_outside(states, states_room, bytes, size, offsets, count, path, path_size))
         return overlap;
-    return kohiblad_export_take_text_unchecked(kohiblad_in(bytes), size,
-        kohiblad_offsets_in(offsets), count, kohiblad_in(path), path_size, depth,
-        kohiblad_out(out), room, length, kohiblad_order_out(text_offsets), offsets_room,
-        kohiblad_out(states), states_room);
-}
-static inline uint32_t *kohiblad_uint32s_out(uint32_t *out) {
-    static uint32_t none;
-    return out ? out : &none;
+    return kohiblad_export_take_text_unchecked(kohiblad_in(bytes), size, kohiblad_sizes_in(offsets),
+        count, kohiblad_in(path), path_size, depth, kohiblad_out(out), room, length,
+        kohiblad_sizes_out(text_offsets), offsets_room, kohiblad_out(states), states_room);
 }
 static inline struct kohiblad_taken kohiblad_take_text32(const uint8_t *bytes, size_t size,
     const size_t *offsets, size_t count, const uint8_t *path, size_t path_size, size_t depth,
     uint8_t *out, size_t room, size_t *length, uint32_t *text_offsets, size_t offsets_room,
     uint8_t *states, size_t states_room) {
     struct kohiblad_taken overlap = { KOHIBLAD_OVERLAP, 0, 0 };
-    if (!kohiblad_is_byte_column(out, room, length, text_offsets,
-                                 offsets_room * sizeof *text_offsets, states, states_room, bytes,
-                                 size, offsets, count, path, path_size))
+    if (!kohiblad_is_room(out, room, length)
+        || !kohiblad_is_apart(out, room, length, text_offsets, offsets_room * sizeof *text_offsets)
+        || !kohiblad_is_apart(out, room, length, states, states_room)
+        || !kohiblad_is_apart(out, room, length, bytes, size)
+        || !kohiblad_is_apart(out, room, length, offsets, count * sizeof *offsets)
+        || !kohiblad_is_apart(out, room, length, path, path_size)
+        || kohiblad_meet(text_offsets, offsets_room * sizeof *text_offsets, states, states_room)
+        || !kohiblad_is_outside(text_offsets, offsets_room * sizeof *text_offsets, bytes, size,
+                                offsets, count, path, path_size)
+        || !kohiblad_is_outside(states, states_room, bytes, size, offsets, count, path, path_size))
         return overlap;
-    return kohiblad_export_take_text32(kohiblad_in(bytes), size, kohiblad_offsets_in(offsets),
-        count, kohiblad_in(path), path_size, depth, kohiblad_out(out), room, length,
+    return kohiblad_export_take_text32(kohiblad_in(bytes), size, kohiblad_sizes_in(offsets), count,
+        kohiblad_in(path), path_size, depth, kohiblad_out(out), room, length,
         kohiblad_uint32s_out(text_offsets), offsets_room, kohiblad_out(states), states_room);
 }
 static inline struct kohiblad_taken kohiblad_take_text32_unchecked(const uint8_t *bytes,
@@ -2538,12 +2571,19 @@ static inline struct kohiblad_taken kohiblad_take_text32_unchecked(const uint8_t
     size_t depth, uint8_t *out, size_t room, size_t *length, uint32_t *text_offsets,
     size_t offsets_room, uint8_t *states, size_t states_room) {
     struct kohiblad_taken overlap = { KOHIBLAD_OVERLAP, 0, 0 };
-    if (!kohiblad_is_byte_column(out, room, length, text_offsets,
-                                 offsets_room * sizeof *text_offsets, states, states_room, bytes,
-                                 size, offsets, count, path, path_size))
+    if (!kohiblad_is_room(out, room, length)
+        || !kohiblad_is_apart(out, room, length, text_offsets, offsets_room * sizeof *text_offsets)
+        || !kohiblad_is_apart(out, room, length, states, states_room)
+        || !kohiblad_is_apart(out, room, length, bytes, size)
+        || !kohiblad_is_apart(out, room, length, offsets, count * sizeof *offsets)
+        || !kohiblad_is_apart(out, room, length, path, path_size)
+        || kohiblad_meet(text_offsets, offsets_room * sizeof *text_offsets, states, states_room)
+        || !kohiblad_is_outside(text_offsets, offsets_room * sizeof *text_offsets, bytes, size,
+                                offsets, count, path, path_size)
+        || !kohiblad_is_outside(states, states_room, bytes, size, offsets, count, path, path_size))
         return overlap;
     return kohiblad_export_take_text32_unchecked(kohiblad_in(bytes), size,
-        kohiblad_offsets_in(offsets), count, kohiblad_in(path), path_size, depth, kohiblad_out(out),
+        kohiblad_sizes_in(offsets), count, kohiblad_in(path), path_size, depth, kohiblad_out(out),
         room, length, kohiblad_uint32s_out(text_offsets), offsets_room, kohiblad_out(states),
         states_room);
 }
@@ -2552,43 +2592,54 @@ static inline struct kohiblad_taken kohiblad_take_binary(const uint8_t *bytes, s
     uint8_t *out, size_t room, size_t *length, size_t *value_offsets, size_t offsets_room,
     uint8_t *states, size_t states_room) {
     struct kohiblad_taken overlap = { KOHIBLAD_OVERLAP, 0, 0 };
-    if (!kohiblad_is_byte_column(out, room, length, value_offsets,
-                                 offsets_room * sizeof *value_offsets, states, states_room, bytes,
-                                 size, offsets, count, path, path_size))
+    if (!kohiblad_is_room(out, room, length)
+        || !kohiblad_is_apart(out, room, length, value_offsets,
+                              offsets_room * sizeof *value_offsets)
+        || !kohiblad_is_apart(out, room, length, states, states_room)
+        || !kohiblad_is_apart(out, room, length, bytes, size)
+        || !kohiblad_is_apart(out, room, length, offsets, count * sizeof *offsets)
+        || !kohiblad_is_apart(out, room, length, path, path_size)
+        || kohiblad_meet(value_offsets, offsets_room * sizeof *value_offsets, states, states_room)
+        || !kohiblad_is_outside(value_offsets, offsets_room * sizeof *value_offsets, bytes, size,
+                                offsets, count, path, path_size)
+        || !kohiblad_is_outside(states, states_room, bytes, size, offsets, count, path, path_size))
         return overlap;
-    return kohiblad_export_take_binary(kohiblad_in(bytes), size,
-        kohiblad_offsets_in(offsets), count, kohiblad_in(path), path_size, depth,
-        kohiblad_out(out), room, length, kohiblad_order_out(value_offsets), offsets_room,
-        kohiblad_out(states), states_room);
+    return kohiblad_export_take_binary(kohiblad_in(bytes), size, kohiblad_sizes_in(offsets), count,
+        kohiblad_in(path), path_size, depth, kohiblad_out(out), room, length,
+        kohiblad_sizes_out(value_offsets), offsets_room, kohiblad_out(states), states_room);
 }
 static inline struct kohiblad_taken kohiblad_take_binary_unchecked(const uint8_t *bytes,
     size_t size, const size_t *offsets, size_t count, const uint8_t *path, size_t path_size,
     size_t depth, uint8_t *out, size_t room, size_t *length, size_t *value_offsets,
     size_t offsets_room, uint8_t *states, size_t states_room) {
     struct kohiblad_taken overlap = { KOHIBLAD_OVERLAP, 0, 0 };
-    if (!kohiblad_is_byte_column(out, room, length, value_offsets,
-                                 offsets_room * sizeof *value_offsets, states, states_room, bytes,
-                                 size, offsets, count, path, path_size))
+    if (!kohiblad_is_room(out, room, length)
+        || !kohiblad_is_apart(out, room, length, value_offsets,
+                              offsets_room * sizeof *value_offsets)
+        || !kohiblad_is_apart(out, room, length, states, states_room)
+        || !kohiblad_is_apart(out, room, length, bytes, size)
+        || !kohiblad_is_apart(out, room, length, offsets, count * sizeof *offsets)
+        || !kohiblad_is_apart(out, room, length, path, path_size)
+        || kohiblad_meet(value_offsets, offsets_room * sizeof *value_offsets, states, states_room)
+        || !kohiblad_is_outside(value_offsets, offsets_room * sizeof *value_offsets, bytes, size,
+                                offsets, count, path, path_size)
+        || !kohiblad_is_outside(states, states_room, bytes, size, offsets, count, path, path_size))
         return overlap;
     return kohiblad_export_take_binary_unchecked(kohiblad_in(bytes), size,
-        kohiblad_offsets_in(offsets), count, kohiblad_in(path), path_size, depth,
-        kohiblad_out(out), room, length, kohiblad_order_out(value_offsets), offsets_room,
-        kohiblad_out(states), states_room);
-}
-static inline int32_t *kohiblad_int32s_out(int32_t *out) {
-    static int32_t none;
-    return out ? out : &none;
+        kohiblad_sizes_in(offsets), count, kohiblad_in(path), path_size, depth, kohiblad_out(out),
+        room, length, kohiblad_sizes_out(value_offsets), offsets_room, kohiblad_out(states),
+        states_room);
 }
 static inline struct kohiblad_taken kohiblad_take_date(const uint8_t *bytes, size_t size,
     const size_t *offsets, size_t count, const uint8_t *path, size_t path_size, size_t depth,
     int32_t *values, size_t room, uint8_t *states, size_t states_room) {
     struct kohiblad_taken overlap = { KOHIBLAD_OVERLAP, 0, 0 };
-    if (!kohiblad_is_column(values, room * sizeof *values, states, states_room)
+    if (kohiblad_meet(values, room * sizeof *values, states, states_room)
         || !kohiblad_is_outside(values, room * sizeof *values, bytes, size, offsets, count, path,
                                 path_size)
         || !kohiblad_is_outside(states, states_room, bytes, size, offsets, count, path, path_size))
         return overlap;
-    return kohiblad_export_take_date(kohiblad_in(bytes), size, kohiblad_offsets_in(offsets), count,
+    return kohiblad_export_take_date(kohiblad_in(bytes), size, kohiblad_sizes_in(offsets), count,
         kohiblad_in(path), path_size, depth, kohiblad_int32s_out(values), room,
         kohiblad_out(states), states_room);
 }
@@ -2596,25 +2647,25 @@ static inline struct kohiblad_taken kohiblad_take_date_unchecked(const uint8_t *
     const size_t *offsets, size_t count, const uint8_t *path, size_t path_size, size_t depth,
     int32_t *values, size_t room, uint8_t *states, size_t states_room) {
     struct kohiblad_taken overlap = { KOHIBLAD_OVERLAP, 0, 0 };
-    if (!kohiblad_is_column(values, room * sizeof *values, states, states_room)
+    if (kohiblad_meet(values, room * sizeof *values, states, states_room)
         || !kohiblad_is_outside(values, room * sizeof *values, bytes, size, offsets, count, path,
                                 path_size)
         || !kohiblad_is_outside(states, states_room, bytes, size, offsets, count, path, path_size))
         return overlap;
-    return kohiblad_export_take_date_unchecked(kohiblad_in(bytes), size,
-        kohiblad_offsets_in(offsets), count, kohiblad_in(path), path_size, depth,
-        kohiblad_int32s_out(values), room, kohiblad_out(states), states_room);
+    return kohiblad_export_take_date_unchecked(kohiblad_in(bytes), size, kohiblad_sizes_in(offsets),
+        count, kohiblad_in(path), path_size, depth, kohiblad_int32s_out(values), room,
+        kohiblad_out(states), states_room);
 }
 static inline struct kohiblad_taken kohiblad_take_timestamp(const uint8_t *bytes, size_t size,
     const size_t *offsets, size_t count, const uint8_t *path, size_t path_size, size_t depth,
     int64_t *values, size_t room, uint8_t *states, size_t states_room) {
     struct kohiblad_taken overlap = { KOHIBLAD_OVERLAP, 0, 0 };
-    if (!kohiblad_is_column(values, room * sizeof *values, states, states_room)
+    if (kohiblad_meet(values, room * sizeof *values, states, states_room)
         || !kohiblad_is_outside(values, room * sizeof *values, bytes, size, offsets, count, path,
                                 path_size)
         || !kohiblad_is_outside(states, states_room, bytes, size, offsets, count, path, path_size))
         return overlap;
-    return kohiblad_export_take_timestamp(kohiblad_in(bytes), size, kohiblad_offsets_in(offsets),
+    return kohiblad_export_take_timestamp(kohiblad_in(bytes), size, kohiblad_sizes_in(offsets),
         count, kohiblad_in(path), path_size, depth, kohiblad_int64s_out(values), room,
         kohiblad_out(states), states_room);
 }
@@ -2622,34 +2673,26 @@ static inline struct kohiblad_taken kohiblad_take_timestamp_unchecked(const uint
     size_t size, const size_t *offsets, size_t count, const uint8_t *path, size_t path_size,
     size_t depth, int64_t *values, size_t room, uint8_t *states, size_t states_room) {
     struct kohiblad_taken overlap = { KOHIBLAD_OVERLAP, 0, 0 };
-    if (!kohiblad_is_column(values, room * sizeof *values, states, states_room)
+    if (kohiblad_meet(values, room * sizeof *values, states, states_room)
         || !kohiblad_is_outside(values, room * sizeof *values, bytes, size, offsets, count, path,
                                 path_size)
         || !kohiblad_is_outside(states, states_room, bytes, size, offsets, count, path, path_size))
         return overlap;
     return kohiblad_export_take_timestamp_unchecked(kohiblad_in(bytes), size,
-        kohiblad_offsets_in(offsets), count, kohiblad_in(path), path_size, depth,
+        kohiblad_sizes_in(offsets), count, kohiblad_in(path), path_size, depth,
         kohiblad_int64s_out(values), room, kohiblad_out(states), states_room);
-}
-static inline struct kohiblad_timestamp_tz *kohiblad_zoned_out(struct kohiblad_timestamp_tz *out) {
-    static struct kohiblad_timestamp_tz none;
-    return out ? out : &none;
-}
-static inline struct kohiblad_interval *kohiblad_intervals_out(struct kohiblad_interval *out) {
-    static struct kohiblad_interval none;
-    return out ? out : &none;
 }
 static inline struct kohiblad_taken kohiblad_take_timestamp_tz(const uint8_t *bytes, size_t size,
     const size_t *offsets, size_t count, const uint8_t *path, size_t path_size, size_t depth,
     struct kohiblad_timestamp_tz *values, size_t room, uint8_t *states, size_t states_room) {
     struct kohiblad_taken overlap = { KOHIBLAD_OVERLAP, 0, 0 };
-    if (!kohiblad_is_column(values, room * sizeof *values, states, states_room)
+    if (kohiblad_meet(values, room * sizeof *values, states, states_room)
         || !kohiblad_is_outside(values, room * sizeof *values, bytes, size, offsets, count, path,
                                 path_size)
         || !kohiblad_is_outside(states, states_room, bytes, size, offsets, count, path, path_size))
         return overlap;
-    return kohiblad_export_take_timestamp_tz(kohiblad_in(bytes), size, kohiblad_offsets_in(offsets),
-        count, kohiblad_in(path), path_size, depth, kohiblad_zoned_out(values), room,
+    return kohiblad_export_take_timestamp_tz(kohiblad_in(bytes), size, kohiblad_sizes_in(offsets),
+        count, kohiblad_in(path), path_size, depth, kohiblad_timestamp_tzs_out(values), room,
         kohiblad_out(states), states_room);
 }
 static inline struct kohiblad_taken kohiblad_take_timestamp_tz_unchecked(const uint8_t *bytes,
@@ -2657,25 +2700,25 @@ static inline struct kohiblad_taken kohiblad_take_timestamp_tz_unchecked(const u
     size_t depth, struct kohiblad_timestamp_tz *values, size_t room, uint8_t *states,
     size_t states_room) {
     struct kohiblad_taken overlap = { KOHIBLAD_OVERLAP, 0, 0 };
-    if (!kohiblad_is_column(values, room * sizeof *values, states, states_room)
+    if (kohiblad_meet(values, room * sizeof *values, states, states_room)
         || !kohiblad_is_outside(values, room * sizeof *values, bytes, size, offsets, count, path,
                                 path_size)
         || !kohiblad_is_outside(states, states_room, bytes, size, offsets, count, path, path_size))
         return overlap;
     return kohiblad_export_take_timestamp_tz_unchecked(kohiblad_in(bytes), size,
-        kohiblad_offsets_in(offsets), count, kohiblad_in(path), path_size, depth,
-        kohiblad_zoned_out(values), room, kohiblad_out(states), states_room);
+        kohiblad_sizes_in(offsets), count, kohiblad_in(path), path_size, depth,
+        kohiblad_timestamp_tzs_out(values), room, kohiblad_out(states), states_room);
 }
 static inline struct kohiblad_taken kohiblad_take_interval(const uint8_t *bytes, size_t size,
     const size_t *offsets, size_t count, const uint8_t *path, size_t path_size, size_t depth,
     struct kohiblad_interval *values, size_t room, uint8_t *states, size_t states_room) {
     struct kohiblad_taken overlap = { KOHIBLAD_OVERLAP, 0, 0 };
-    if (!kohiblad_is_column(values, room * sizeof *values, states, states_room)
+    if (kohiblad_meet(values, room * sizeof *values, states, states_room)
         || !kohiblad_is_outside(values, room * sizeof *values, bytes, size, offsets, count, path,
                                 path_size)
         || !kohiblad_is_outside(states, states_room, bytes, size, offsets, count, path, path_size))
         return overlap;
-    return kohiblad_export_take_interval(kohiblad_in(bytes), size, kohiblad_offsets_in(offsets),
+    return kohiblad_export_take_interval(kohiblad_in(bytes), size, kohiblad_sizes_in(offsets),
         count, kohiblad_in(path), path_size, depth, kohiblad_intervals_out(values), room,
         kohiblad_out(states), states_room);
 }
@@ -2684,18 +2727,89 @@ static inline struct kohiblad_taken kohiblad_take_interval_unchecked(const uint8
     size_t depth, struct kohiblad_interval *values, size_t room, uint8_t *states,
     size_t states_room) {
     struct kohiblad_taken overlap = { KOHIBLAD_OVERLAP, 0, 0 };
-    if (!kohiblad_is_column(values, room * sizeof *values, states, states_room)
+    if (kohiblad_meet(values, room * sizeof *values, states, states_room)
         || !kohiblad_is_outside(values, room * sizeof *values, bytes, size, offsets, count, path,
                                 path_size)
         || !kohiblad_is_outside(states, states_room, bytes, size, offsets, count, path, path_size))
         return overlap;
     return kohiblad_export_take_interval_unchecked(kohiblad_in(bytes), size,
-        kohiblad_offsets_in(offsets), count, kohiblad_in(path), path_size, depth,
+        kohiblad_sizes_in(offsets), count, kohiblad_in(path), path_size, depth,
         kohiblad_intervals_out(values), room, kohiblad_out(states), states_room);
 }
-static inline const struct kohiblad_place *kohiblad_places_in(const struct kohiblad_place *places) {
-    static const struct kohiblad_place none = { 0, 0, 0, 0 };
-    return places ? places : &none;
+static inline uint32_t kohiblad_zones_int64(const int64_t *values, size_t values_count,
+    const uint8_t *states, size_t states_count, size_t block_rows, struct kohiblad_int64_zone *out,
+    size_t room, size_t *count) {
+    if (!kohiblad_is_room(out, room * sizeof *out, count)
+        || !kohiblad_is_apart(out, room * sizeof *out, count, values, values_count * sizeof *values)
+        || !kohiblad_is_apart(out, room * sizeof *out, count, states, states_count))
+        return KOHIBLAD_OVERLAP;
+    return kohiblad_export_zones_int64(kohiblad_int64s_in(values), values_count,
+        kohiblad_in(states), states_count, block_rows, kohiblad_int64_zones_out(out), room, count);
+}
+static inline uint32_t kohiblad_zones_uint64(const uint64_t *values, size_t values_count,
+    const uint8_t *states, size_t states_count, size_t block_rows, struct kohiblad_uint64_zone *out,
+    size_t room, size_t *count) {
+    if (!kohiblad_is_room(out, room * sizeof *out, count)
+        || !kohiblad_is_apart(out, room * sizeof *out, count, values, values_count * sizeof *values)
+        || !kohiblad_is_apart(out, room * sizeof *out, count, states, states_count))
+        return KOHIBLAD_OVERLAP;
+    return kohiblad_export_zones_uint64(kohiblad_uint64s_in(values), values_count,
+        kohiblad_in(states), states_count, block_rows, kohiblad_uint64_zones_out(out), room, count);
+}
+static inline uint32_t kohiblad_zones_decimal(const struct kohiblad_int128 *values,
+    size_t values_count, const uint8_t *states, size_t states_count, size_t block_rows,
+    struct kohiblad_decimal_zone *out, size_t room, size_t *count) {
+    if (!kohiblad_is_room(out, room * sizeof *out, count)
+        || !kohiblad_is_apart(out, room * sizeof *out, count, values, values_count * sizeof *values)
+        || !kohiblad_is_apart(out, room * sizeof *out, count, states, states_count))
+        return KOHIBLAD_OVERLAP;
+    return kohiblad_export_zones_decimal(kohiblad_int128s_in(values), values_count,
+        kohiblad_in(states), states_count, block_rows, kohiblad_decimal_zones_out(out), room,
+        count);
+}
+static inline uint32_t kohiblad_zones_date(const int32_t *values, size_t values_count,
+    const uint8_t *states, size_t states_count, size_t block_rows, struct kohiblad_date_zone *out,
+    size_t room, size_t *count) {
+    if (!kohiblad_is_room(out, room * sizeof *out, count)
+        || !kohiblad_is_apart(out, room * sizeof *out, count, values, values_count * sizeof *values)
+        || !kohiblad_is_apart(out, room * sizeof *out, count, states, states_count))
+        return KOHIBLAD_OVERLAP;
+    return kohiblad_export_zones_date(kohiblad_int32s_in(values), values_count, kohiblad_in(states),
+        states_count, block_rows, kohiblad_date_zones_out(out), room, count);
+}
+static inline uint32_t kohiblad_build_typed_file(const uint8_t *bytes, size_t size,
+    const size_t *offsets, size_t count, const uint8_t *names, size_t names_size,
+    const uint8_t *types, size_t types_size, size_t depth, uint8_t *out, size_t room,
+    size_t *length) {
+    if (!kohiblad_is_room(out, room, length)
+        || !kohiblad_is_apart(out, room, length, bytes, size)
+        || !kohiblad_is_apart(out, room, length, offsets, count * sizeof *offsets)
+        || !kohiblad_is_apart(out, room, length, names, names_size)
+        || !kohiblad_is_apart(out, room, length, types, types_size))
+        return KOHIBLAD_OVERLAP;
+    return kohiblad_export_build_typed_file(kohiblad_in(bytes), size, kohiblad_sizes_in(offsets),
+        count, kohiblad_in(names), names_size, kohiblad_in(types), types_size, depth,
+        kohiblad_out(out), room, length);
+}
+static inline struct kohiblad_typed_file kohiblad_check_typed_file(const uint8_t *bytes,
+    size_t size, size_t depth) {
+    return kohiblad_export_check_typed_file(kohiblad_in(bytes), size, depth);
+}
+static inline uint32_t kohiblad_typed_columns(const uint8_t *bytes, size_t size,
+    struct kohiblad_typed_column *out, size_t room, size_t *count) {
+    if (!kohiblad_is_room(out, room * sizeof *out, count)
+        || !kohiblad_is_apart(out, room * sizeof *out, count, bytes, size))
+        return KOHIBLAD_OVERLAP;
+    return kohiblad_export_typed_columns(kohiblad_in(bytes), size, kohiblad_typed_columns_out(out),
+        room, count);
+}
+static inline uint32_t kohiblad_typed_row(const uint8_t *bytes, size_t size, size_t index,
+    size_t depth, uint8_t *out, size_t room, size_t *length) {
+    if (!kohiblad_is_room(out, room, length)
+        || !kohiblad_is_apart(out, room, length, bytes, size))
+        return KOHIBLAD_OVERLAP;
+    return kohiblad_export_typed_row(kohiblad_in(bytes), size, index, depth, kohiblad_out(out),
+        room, length);
 }
 static inline uint32_t kohiblad_locate(const uint8_t *bytes, size_t size, const size_t *offsets,
     size_t count, const uint8_t *names, size_t names_size, size_t depth,
@@ -2703,7 +2817,7 @@ static inline uint32_t kohiblad_locate(const uint8_t *bytes, size_t size, const 
     if (!kohiblad_is_outside(places, room * sizeof *places, bytes, size, offsets, count, names,
                              names_size))
         return KOHIBLAD_OVERLAP;
-    return kohiblad_export_locate(kohiblad_in(bytes), size, kohiblad_offsets_in(offsets), count,
+    return kohiblad_export_locate(kohiblad_in(bytes), size, kohiblad_sizes_in(offsets), count,
         kohiblad_in(names), names_size, depth, kohiblad_places_out(places), room);
 }
 static inline uint32_t kohiblad_locate_unchecked(const uint8_t *bytes, size_t size,
@@ -2712,25 +2826,18 @@ static inline uint32_t kohiblad_locate_unchecked(const uint8_t *bytes, size_t si
     if (!kohiblad_is_outside(places, room * sizeof *places, bytes, size, offsets, count, names,
                              names_size))
         return KOHIBLAD_OVERLAP;
-    return kohiblad_export_locate_unchecked(kohiblad_in(bytes), size, kohiblad_offsets_in(offsets),
+    return kohiblad_export_locate_unchecked(kohiblad_in(bytes), size, kohiblad_sizes_in(offsets),
         count, kohiblad_in(names), names_size, depth, kohiblad_places_out(places), room);
-}
-/* Whether values and states lie apart from each other, from the bytes and from places. */
-static inline bool kohiblad_is_taken_apart(const void *values, size_t size, const uint8_t *states,
-                                           size_t room, const uint8_t *bytes, size_t bytes_size,
-                                           const struct kohiblad_place *places, size_t count) {
-    return kohiblad_is_column(values, size, states, room)
-        && !kohiblad_meet(values, size, bytes, bytes_size)
-        && !kohiblad_meet(values, size, places, count * sizeof *places)
-        && !kohiblad_meet(states, room, bytes, bytes_size)
-        && !kohiblad_meet(states, room, places, count * sizeof *places);
 }
 static inline struct kohiblad_taken kohiblad_take_int64_at(const uint8_t *bytes, size_t size,
     const struct kohiblad_place *places, size_t count, size_t step, uint32_t fit, int64_t *values,
     size_t room, uint8_t *states, size_t states_room) {
     struct kohiblad_taken overlap = { KOHIBLAD_OVERLAP, 0, 0 };
-    if (!kohiblad_is_taken_apart(values, room * sizeof *values, states, states_room, bytes, size,
-                                 places, count))
+    if (kohiblad_meet(values, room * sizeof *values, states, states_room)
+        || kohiblad_meet(values, room * sizeof *values, bytes, size)
+        || kohiblad_meet(values, room * sizeof *values, places, count * sizeof *places)
+        || kohiblad_meet(states, states_room, bytes, size)
+        || kohiblad_meet(states, states_room, places, count * sizeof *places))
         return overlap;
     return kohiblad_export_take_int64_at(kohiblad_in(bytes), size, kohiblad_places_in(places),
         count, step, fit, kohiblad_int64s_out(values), room, kohiblad_out(states), states_room);
@@ -2739,18 +2846,24 @@ static inline struct kohiblad_taken kohiblad_take_uint64_at(const uint8_t *bytes
     const struct kohiblad_place *places, size_t count, size_t step, uint32_t fit, uint64_t *values,
     size_t room, uint8_t *states, size_t states_room) {
     struct kohiblad_taken overlap = { KOHIBLAD_OVERLAP, 0, 0 };
-    if (!kohiblad_is_taken_apart(values, room * sizeof *values, states, states_room, bytes, size,
-                                 places, count))
+    if (kohiblad_meet(values, room * sizeof *values, states, states_room)
+        || kohiblad_meet(values, room * sizeof *values, bytes, size)
+        || kohiblad_meet(values, room * sizeof *values, places, count * sizeof *places)
+        || kohiblad_meet(states, states_room, bytes, size)
+        || kohiblad_meet(states, states_room, places, count * sizeof *places))
         return overlap;
     return kohiblad_export_take_uint64_at(kohiblad_in(bytes), size, kohiblad_places_in(places),
-        count, step, fit, kohiblad_keys_out(values), room, kohiblad_out(states), states_room);
+        count, step, fit, kohiblad_uint64s_out(values), room, kohiblad_out(states), states_room);
 }
 static inline struct kohiblad_taken kohiblad_take_decimal_at(const uint8_t *bytes, size_t size,
     const struct kohiblad_place *places, size_t count, size_t step, uint32_t fit, uint32_t scale,
     struct kohiblad_int128 *values, size_t room, uint8_t *states, size_t states_room) {
     struct kohiblad_taken overlap = { KOHIBLAD_OVERLAP, 0, 0 };
-    if (!kohiblad_is_taken_apart(values, room * sizeof *values, states, states_room, bytes, size,
-                                 places, count))
+    if (kohiblad_meet(values, room * sizeof *values, states, states_room)
+        || kohiblad_meet(values, room * sizeof *values, bytes, size)
+        || kohiblad_meet(values, room * sizeof *values, places, count * sizeof *places)
+        || kohiblad_meet(states, states_room, bytes, size)
+        || kohiblad_meet(states, states_room, places, count * sizeof *places))
         return overlap;
     return kohiblad_export_take_decimal_at(kohiblad_in(bytes), size, kohiblad_places_in(places),
         count, step, fit, scale, kohiblad_int128s_out(values), room, kohiblad_out(states),
@@ -2760,8 +2873,11 @@ static inline struct kohiblad_taken kohiblad_take_boolean_at(const uint8_t *byte
     const struct kohiblad_place *places, size_t count, size_t step, uint8_t *values, size_t room,
     uint8_t *states, size_t states_room) {
     struct kohiblad_taken overlap = { KOHIBLAD_OVERLAP, 0, 0 };
-    if (!kohiblad_is_taken_apart(values, room * sizeof *values, states, states_room, bytes, size,
-                                 places, count))
+    if (kohiblad_meet(values, room, states, states_room)
+        || kohiblad_meet(values, room, bytes, size)
+        || kohiblad_meet(values, room, places, count * sizeof *places)
+        || kohiblad_meet(states, states_room, bytes, size)
+        || kohiblad_meet(states, states_room, places, count * sizeof *places))
         return overlap;
     return kohiblad_export_take_boolean_at(kohiblad_in(bytes), size, kohiblad_places_in(places),
         count, step, kohiblad_out(values), room, kohiblad_out(states), states_room);
@@ -2770,8 +2886,11 @@ static inline struct kohiblad_taken kohiblad_take_date_at(const uint8_t *bytes, 
     const struct kohiblad_place *places, size_t count, size_t step, int32_t *values, size_t room,
     uint8_t *states, size_t states_room) {
     struct kohiblad_taken overlap = { KOHIBLAD_OVERLAP, 0, 0 };
-    if (!kohiblad_is_taken_apart(values, room * sizeof *values, states, states_room, bytes, size,
-                                 places, count))
+    if (kohiblad_meet(values, room * sizeof *values, states, states_room)
+        || kohiblad_meet(values, room * sizeof *values, bytes, size)
+        || kohiblad_meet(values, room * sizeof *values, places, count * sizeof *places)
+        || kohiblad_meet(states, states_room, bytes, size)
+        || kohiblad_meet(states, states_room, places, count * sizeof *places))
         return overlap;
     return kohiblad_export_take_date_at(kohiblad_in(bytes), size, kohiblad_places_in(places), count,
         step, kohiblad_int32s_out(values), room, kohiblad_out(states), states_room);
@@ -2780,45 +2899,38 @@ static inline struct kohiblad_taken kohiblad_take_timestamp_at(const uint8_t *by
     const struct kohiblad_place *places, size_t count, size_t step, int64_t *values, size_t room,
     uint8_t *states, size_t states_room) {
     struct kohiblad_taken overlap = { KOHIBLAD_OVERLAP, 0, 0 };
-    if (!kohiblad_is_taken_apart(values, room * sizeof *values, states, states_room, bytes, size,
-                                 places, count))
+    if (kohiblad_meet(values, room * sizeof *values, states, states_room)
+        || kohiblad_meet(values, room * sizeof *values, bytes, size)
+        || kohiblad_meet(values, room * sizeof *values, places, count * sizeof *places)
+        || kohiblad_meet(states, states_room, bytes, size)
+        || kohiblad_meet(states, states_room, places, count * sizeof *places))
         return overlap;
     return kohiblad_export_take_timestamp_at(kohiblad_in(bytes), size, kohiblad_places_in(places),
         count, step, kohiblad_int64s_out(values), room, kohiblad_out(states), states_room);
-}
-/* The same of the bytes of texts or binary values at places, their length, and where they begin. */
-static inline bool kohiblad_is_byte_column_at(const uint8_t *out, size_t room, const size_t *length,
-                                              const void *starts, size_t starts_size,
-                                              const uint8_t *states, size_t states_room,
-                                              const uint8_t *bytes, size_t size,
-                                              const struct kohiblad_place *places, size_t count) {
-    return kohiblad_is_room(out, room, length)
-        && kohiblad_is_apart(out, room, length, starts, starts_size)
-        && kohiblad_is_apart(out, room, length, states, states_room)
-        && kohiblad_is_taken_apart(starts, starts_size, states, states_room, bytes, size, places,
-                                   count)
-        && !kohiblad_meet(out, room, bytes, size)
-        && !kohiblad_meet(out, room, places, count * sizeof *places)
-        && !kohiblad_meet(length, sizeof *length, bytes, size)
-        && !kohiblad_meet(length, sizeof *length, places, count * sizeof *places);
 }
 static inline struct kohiblad_taken kohiblad_take_timestamp_tz_at(const uint8_t *bytes, size_t size,
     const struct kohiblad_place *places, size_t count, size_t step,
     struct kohiblad_timestamp_tz *values, size_t room, uint8_t *states, size_t states_room) {
     struct kohiblad_taken overlap = { KOHIBLAD_OVERLAP, 0, 0 };
-    if (!kohiblad_is_taken_apart(values, room * sizeof *values, states, states_room, bytes, size,
-                                 places, count))
+    if (kohiblad_meet(values, room * sizeof *values, states, states_room)
+        || kohiblad_meet(values, room * sizeof *values, bytes, size)
+        || kohiblad_meet(values, room * sizeof *values, places, count * sizeof *places)
+        || kohiblad_meet(states, states_room, bytes, size)
+        || kohiblad_meet(states, states_room, places, count * sizeof *places))
         return overlap;
     return kohiblad_export_take_timestamp_tz_at(kohiblad_in(bytes), size,
-        kohiblad_places_in(places), count, step, kohiblad_zoned_out(values), room,
+        kohiblad_places_in(places), count, step, kohiblad_timestamp_tzs_out(values), room,
         kohiblad_out(states), states_room);
 }
 static inline struct kohiblad_taken kohiblad_take_interval_at(const uint8_t *bytes, size_t size,
     const struct kohiblad_place *places, size_t count, size_t step,
     struct kohiblad_interval *values, size_t room, uint8_t *states, size_t states_room) {
     struct kohiblad_taken overlap = { KOHIBLAD_OVERLAP, 0, 0 };
-    if (!kohiblad_is_taken_apart(values, room * sizeof *values, states, states_room, bytes, size,
-                                 places, count))
+    if (kohiblad_meet(values, room * sizeof *values, states, states_room)
+        || kohiblad_meet(values, room * sizeof *values, bytes, size)
+        || kohiblad_meet(values, room * sizeof *values, places, count * sizeof *places)
+        || kohiblad_meet(states, states_room, bytes, size)
+        || kohiblad_meet(states, states_room, places, count * sizeof *places))
         return overlap;
     return kohiblad_export_take_interval_at(kohiblad_in(bytes), size, kohiblad_places_in(places),
         count, step, kohiblad_intervals_out(values), room, kohiblad_out(states), states_room);
@@ -2828,12 +2940,20 @@ static inline struct kohiblad_taken kohiblad_take_text_at(const uint8_t *bytes, 
     size_t *length, size_t *text_offsets, size_t offsets_room, uint8_t *states,
     size_t states_room) {
     struct kohiblad_taken overlap = { KOHIBLAD_OVERLAP, 0, 0 };
-    if (!kohiblad_is_byte_column_at(out, room, length, text_offsets,
-                                    offsets_room * sizeof *text_offsets, states, states_room, bytes,
-                                    size, places, count))
+    if (!kohiblad_is_room(out, room, length)
+        || !kohiblad_is_apart(out, room, length, text_offsets, offsets_room * sizeof *text_offsets)
+        || !kohiblad_is_apart(out, room, length, states, states_room)
+        || !kohiblad_is_apart(out, room, length, bytes, size)
+        || !kohiblad_is_apart(out, room, length, places, count * sizeof *places)
+        || kohiblad_meet(text_offsets, offsets_room * sizeof *text_offsets, states, states_room)
+        || kohiblad_meet(text_offsets, offsets_room * sizeof *text_offsets, bytes, size)
+        || kohiblad_meet(text_offsets, offsets_room * sizeof *text_offsets, places,
+                         count * sizeof *places)
+        || kohiblad_meet(states, states_room, bytes, size)
+        || kohiblad_meet(states, states_room, places, count * sizeof *places))
         return overlap;
     return kohiblad_export_take_text_at(kohiblad_in(bytes), size, kohiblad_places_in(places), count,
-        step, kohiblad_out(out), room, length, kohiblad_order_out(text_offsets), offsets_room,
+        step, kohiblad_out(out), room, length, kohiblad_sizes_out(text_offsets), offsets_room,
         kohiblad_out(states), states_room);
 }
 static inline struct kohiblad_taken kohiblad_take_text32_at(const uint8_t *bytes, size_t size,
@@ -2841,9 +2961,17 @@ static inline struct kohiblad_taken kohiblad_take_text32_at(const uint8_t *bytes
     size_t *length, uint32_t *text_offsets, size_t offsets_room, uint8_t *states,
     size_t states_room) {
     struct kohiblad_taken overlap = { KOHIBLAD_OVERLAP, 0, 0 };
-    if (!kohiblad_is_byte_column_at(out, room, length, text_offsets,
-                                    offsets_room * sizeof *text_offsets, states, states_room, bytes,
-                                    size, places, count))
+    if (!kohiblad_is_room(out, room, length)
+        || !kohiblad_is_apart(out, room, length, text_offsets, offsets_room * sizeof *text_offsets)
+        || !kohiblad_is_apart(out, room, length, states, states_room)
+        || !kohiblad_is_apart(out, room, length, bytes, size)
+        || !kohiblad_is_apart(out, room, length, places, count * sizeof *places)
+        || kohiblad_meet(text_offsets, offsets_room * sizeof *text_offsets, states, states_room)
+        || kohiblad_meet(text_offsets, offsets_room * sizeof *text_offsets, bytes, size)
+        || kohiblad_meet(text_offsets, offsets_room * sizeof *text_offsets, places,
+                         count * sizeof *places)
+        || kohiblad_meet(states, states_room, bytes, size)
+        || kohiblad_meet(states, states_room, places, count * sizeof *places))
         return overlap;
     return kohiblad_export_take_text32_at(kohiblad_in(bytes), size, kohiblad_places_in(places),
         count, step, kohiblad_out(out), room, length, kohiblad_uint32s_out(text_offsets),
@@ -2854,13 +2982,198 @@ static inline struct kohiblad_taken kohiblad_take_binary_at(const uint8_t *bytes
     size_t *length, size_t *value_offsets, size_t offsets_room, uint8_t *states,
     size_t states_room) {
     struct kohiblad_taken overlap = { KOHIBLAD_OVERLAP, 0, 0 };
-    if (!kohiblad_is_byte_column_at(out, room, length, value_offsets,
-                                    offsets_room * sizeof *value_offsets, states, states_room,
-                                    bytes, size, places, count))
+    if (!kohiblad_is_room(out, room, length)
+        || !kohiblad_is_apart(out, room, length, value_offsets,
+                              offsets_room * sizeof *value_offsets)
+        || !kohiblad_is_apart(out, room, length, states, states_room)
+        || !kohiblad_is_apart(out, room, length, bytes, size)
+        || !kohiblad_is_apart(out, room, length, places, count * sizeof *places)
+        || kohiblad_meet(value_offsets, offsets_room * sizeof *value_offsets, states, states_room)
+        || kohiblad_meet(value_offsets, offsets_room * sizeof *value_offsets, bytes, size)
+        || kohiblad_meet(value_offsets, offsets_room * sizeof *value_offsets, places,
+                         count * sizeof *places)
+        || kohiblad_meet(states, states_room, bytes, size)
+        || kohiblad_meet(states, states_room, places, count * sizeof *places))
         return overlap;
     return kohiblad_export_take_binary_at(kohiblad_in(bytes), size, kohiblad_places_in(places),
-        count, step, kohiblad_out(out), room, length, kohiblad_order_out(value_offsets),
+        count, step, kohiblad_out(out), room, length, kohiblad_sizes_out(value_offsets),
         offsets_room, kohiblad_out(states), states_room);
+}
+static inline struct kohiblad_truth kohiblad_contains(const uint8_t *left, size_t left_size,
+    const uint8_t *right, size_t right_size, size_t depth, size_t steps) {
+    return kohiblad_export_contains(kohiblad_in(left), left_size, kohiblad_in(right), right_size,
+        depth, steps);
+}
+static inline struct kohiblad_truth kohiblad_exists(const uint8_t *bytes, size_t size,
+    const uint8_t *key, size_t key_size, size_t depth) {
+    return kohiblad_export_exists(kohiblad_in(bytes), size, kohiblad_in(key), key_size, depth);
+}
+static inline struct kohiblad_truth kohiblad_exists_any(const uint8_t *bytes, size_t size,
+    const uint8_t *names, size_t names_size, size_t depth) {
+    return kohiblad_export_exists_any(kohiblad_in(bytes), size, kohiblad_in(names), names_size,
+        depth);
+}
+static inline struct kohiblad_truth kohiblad_exists_all(const uint8_t *bytes, size_t size,
+    const uint8_t *names, size_t names_size, size_t depth) {
+    return kohiblad_export_exists_all(kohiblad_in(bytes), size, kohiblad_in(names), names_size,
+        depth);
+}
+static inline uint32_t kohiblad_concat(const uint8_t *left, size_t left_size, const uint8_t *right,
+    size_t right_size, size_t depth, uint8_t *out, size_t room, size_t *length) {
+    if (!kohiblad_is_room(out, room, length)
+        || !kohiblad_is_apart(out, room, length, left, left_size)
+        || !kohiblad_is_apart(out, room, length, right, right_size))
+        return KOHIBLAD_OVERLAP;
+    return kohiblad_export_concat(kohiblad_in(left), left_size, kohiblad_in(right), right_size,
+        depth, kohiblad_out(out), room, length);
+}
+static inline uint32_t kohiblad_merge_patch(const uint8_t *target, size_t target_size,
+    const uint8_t *patch, size_t patch_size, size_t depth, uint8_t *out, size_t room,
+    size_t *length) {
+    if (!kohiblad_is_room(out, room, length)
+        || !kohiblad_is_apart(out, room, length, target, target_size)
+        || !kohiblad_is_apart(out, room, length, patch, patch_size))
+        return KOHIBLAD_OVERLAP;
+    return kohiblad_export_merge_patch(kohiblad_in(target), target_size, kohiblad_in(patch),
+        patch_size, depth, kohiblad_out(out), room, length);
+}
+static inline uint32_t kohiblad_strip_nulls(const uint8_t *bytes, size_t size, size_t depth,
+    uint8_t *out, size_t room, size_t *length) {
+    if (!kohiblad_is_room(out, room, length)
+        || !kohiblad_is_apart(out, room, length, bytes, size))
+        return KOHIBLAD_OVERLAP;
+    return kohiblad_export_strip_nulls(kohiblad_in(bytes), size, depth, kohiblad_out(out), room,
+        length);
+}
+static inline uint32_t kohiblad_pick(const uint8_t *bytes, size_t size, const uint8_t *names,
+    size_t names_size, uint32_t others, size_t depth, uint8_t *out, size_t room, size_t *length) {
+    if (!kohiblad_is_room(out, room, length)
+        || !kohiblad_is_apart(out, room, length, bytes, size)
+        || !kohiblad_is_apart(out, room, length, names, names_size))
+        return KOHIBLAD_OVERLAP;
+    return kohiblad_export_pick(kohiblad_in(bytes), size, kohiblad_in(names), names_size, others,
+        depth, kohiblad_out(out), room, length);
+}
+static inline uint32_t kohiblad_object_keys(const uint8_t *bytes, size_t size, size_t depth,
+    uint8_t *out, size_t room, size_t *length) {
+    if (!kohiblad_is_room(out, room, length)
+        || !kohiblad_is_apart(out, room, length, bytes, size))
+        return KOHIBLAD_OVERLAP;
+    return kohiblad_export_object_keys(kohiblad_in(bytes), size, depth, kohiblad_out(out), room,
+        length);
+}
+static inline uint32_t kohiblad_array_distinct(const uint8_t *bytes, size_t size, size_t depth,
+    uint8_t *out, size_t room, size_t *length) {
+    if (!kohiblad_is_room(out, room, length)
+        || !kohiblad_is_apart(out, room, length, bytes, size))
+        return KOHIBLAD_OVERLAP;
+    return kohiblad_export_array_distinct(kohiblad_in(bytes), size, depth, kohiblad_out(out), room,
+        length);
+}
+static inline uint32_t kohiblad_array_intersection(const uint8_t *left, size_t left_size,
+    const uint8_t *right, size_t right_size, size_t depth, uint8_t *out, size_t room,
+    size_t *length) {
+    if (!kohiblad_is_room(out, room, length)
+        || !kohiblad_is_apart(out, room, length, left, left_size)
+        || !kohiblad_is_apart(out, room, length, right, right_size))
+        return KOHIBLAD_OVERLAP;
+    return kohiblad_export_array_intersection(kohiblad_in(left), left_size, kohiblad_in(right),
+        right_size, depth, kohiblad_out(out), room, length);
+}
+static inline uint32_t kohiblad_array_except(const uint8_t *left, size_t left_size,
+    const uint8_t *right, size_t right_size, size_t depth, uint8_t *out, size_t room,
+    size_t *length) {
+    if (!kohiblad_is_room(out, room, length)
+        || !kohiblad_is_apart(out, room, length, left, left_size)
+        || !kohiblad_is_apart(out, room, length, right, right_size))
+        return KOHIBLAD_OVERLAP;
+    return kohiblad_export_array_except(kohiblad_in(left), left_size, kohiblad_in(right),
+        right_size, depth, kohiblad_out(out), room, length);
+}
+static inline struct kohiblad_truth kohiblad_array_overlap(const uint8_t *left, size_t left_size,
+    const uint8_t *right, size_t right_size, size_t depth) {
+    return kohiblad_export_array_overlap(kohiblad_in(left), left_size, kohiblad_in(right),
+        right_size, depth);
+}
+static inline uint32_t kohiblad_edit(const uint8_t *bytes, size_t size, const uint8_t *path,
+    size_t path_size, uint32_t edit, const uint8_t *value, size_t value_size, size_t depth,
+    uint8_t *out, size_t room, size_t *length) {
+    if (!kohiblad_is_room(out, room, length)
+        || !kohiblad_is_apart(out, room, length, bytes, size)
+        || !kohiblad_is_apart(out, room, length, path, path_size)
+        || !kohiblad_is_apart(out, room, length, value, value_size))
+        return KOHIBLAD_OVERLAP;
+    return kohiblad_export_edit(kohiblad_in(bytes), size, kohiblad_in(path), path_size, edit,
+        kohiblad_in(value), value_size, depth, kohiblad_out(out), room, length);
+}
+static inline uint32_t kohiblad_path_of_text(const uint8_t *text, size_t size, uint8_t *out,
+    size_t room, size_t *length) {
+    if (!kohiblad_is_room(out, room, length)
+        || !kohiblad_is_apart(out, room, length, text, size))
+        return KOHIBLAD_OVERLAP;
+    return kohiblad_export_path_of_text(kohiblad_in(text), size, kohiblad_out(out), room, length);
+}
+static inline uint32_t kohiblad_path_in(const uint8_t *bytes, size_t size, const uint8_t *text,
+    size_t text_size, size_t depth, uint8_t *out, size_t room, size_t *length) {
+    if (!kohiblad_is_room(out, room, length)
+        || !kohiblad_is_apart(out, room, length, bytes, size)
+        || !kohiblad_is_apart(out, room, length, text, text_size))
+        return KOHIBLAD_OVERLAP;
+    return kohiblad_export_path_in(kohiblad_in(bytes), size, kohiblad_in(text), text_size, depth,
+        kohiblad_out(out), room, length);
+}
+static inline struct kohiblad_place kohiblad_get_path(const uint8_t *bytes, size_t size,
+    const uint8_t *path, size_t path_size, size_t depth) {
+    return kohiblad_export_get_path(kohiblad_in(bytes), size, kohiblad_in(path), path_size, depth);
+}
+static inline uint32_t kohiblad_select(const uint8_t *bytes, size_t size, const uint8_t *path,
+    size_t path_size, size_t depth, struct kohiblad_place *out, size_t room, size_t *count) {
+    if (!kohiblad_is_room(out, room * sizeof *out, count)
+        || !kohiblad_is_apart(out, room * sizeof *out, count, bytes, size)
+        || !kohiblad_is_apart(out, room * sizeof *out, count, path, path_size))
+        return KOHIBLAD_OVERLAP;
+    return kohiblad_export_select(kohiblad_in(bytes), size, kohiblad_in(path), path_size, depth,
+        kohiblad_places_out(out), room, count);
+}
+static inline uint32_t kohiblad_select_within(const uint8_t *bytes, size_t size,
+    const uint8_t *path, size_t path_size, size_t depth, size_t steps, struct kohiblad_place *out,
+    size_t room, size_t *count) {
+    if (!kohiblad_is_room(out, room * sizeof *out, count)
+        || !kohiblad_is_apart(out, room * sizeof *out, count, bytes, size)
+        || !kohiblad_is_apart(out, room * sizeof *out, count, path, path_size))
+        return KOHIBLAD_OVERLAP;
+    return kohiblad_export_select_within(kohiblad_in(bytes), size, kohiblad_in(path), path_size,
+        depth, steps, kohiblad_places_out(out), room, count);
+}
+static inline uint32_t kohiblad_index_keys(const uint8_t *bytes, size_t size, size_t depth,
+    uint64_t *out, size_t room, size_t *count) {
+    if (!kohiblad_is_room(out, room * sizeof *out, count)
+        || !kohiblad_is_apart(out, room * sizeof *out, count, bytes, size))
+        return KOHIBLAD_OVERLAP;
+    return kohiblad_export_index_keys(kohiblad_in(bytes), size, depth, kohiblad_uint64s_out(out),
+        room, count);
+}
+static inline uint32_t kohiblad_top_keys(const uint8_t *bytes, size_t size, size_t depth,
+    uint64_t *out, size_t room, size_t *count) {
+    if (!kohiblad_is_room(out, room * sizeof *out, count)
+        || !kohiblad_is_apart(out, room * sizeof *out, count, bytes, size))
+        return KOHIBLAD_OVERLAP;
+    return kohiblad_export_top_keys(kohiblad_in(bytes), size, depth, kohiblad_uint64s_out(out),
+        room, count);
+}
+
+static inline uint32_t kohiblad_next(const uint8_t *bytes, size_t size,
+    struct kohiblad_cursor *cursor, struct kohiblad_place *key, struct kohiblad_place *value) {
+    struct kohiblad_place unused;
+    if (!key) key = &unused;
+    if (kohiblad_meet(cursor, sizeof *cursor, bytes, size)
+        || kohiblad_meet(key, sizeof *key, bytes, size)
+        || kohiblad_meet(value, sizeof *value, bytes, size)
+        || kohiblad_meet(key, sizeof *key, value, sizeof *value)
+        || kohiblad_meet(cursor, sizeof *cursor, key, sizeof *key)
+        || kohiblad_meet(cursor, sizeof *cursor, value, sizeof *value))
+        return KOHIBLAD_OVERLAP;
+    return kohiblad_export_next(kohiblad_in(bytes), size, cursor, key, value);
 }
 
 /* Takes one member of a batch of rows, which begins at row `first`. */
@@ -2923,7 +3236,7 @@ static inline bool kohiblad_is_member_apart(const struct kohiblad_member *member
 static inline bool kohiblad_is_member_alone(const struct kohiblad_member *member, size_t after,
                                             size_t rows) {
     size_t size = rows * kohiblad_value_size(member->type);
-    if (!kohiblad_is_column(member->values, size, member->states, rows)) return false;
+    if (kohiblad_meet(member->values, size, member->states, rows)) return false;
     for (size_t j = 1; j <= after; j++)
         if (!kohiblad_is_member_apart(&member[j], rows, member->values, size)
             || !kohiblad_is_member_apart(&member[j], rows, member->states, rows))
@@ -2988,248 +3301,6 @@ static inline uint32_t kohiblad_take_members(const uint8_t *bytes, size_t size,
         first += batch;
     } while (first < rows);
     return KOHIBLAD_OK;
-}
-static inline struct kohiblad_truth kohiblad_contains(const uint8_t *left, size_t left_size,
-    const uint8_t *right, size_t right_size, size_t depth, size_t steps) {
-    return kohiblad_export_contains(kohiblad_in(left), left_size, kohiblad_in(right), right_size,
-        depth, steps);
-}
-static inline struct kohiblad_truth kohiblad_exists(const uint8_t *bytes, size_t size,
-    const uint8_t *key, size_t key_size, size_t depth) {
-    return kohiblad_export_exists(kohiblad_in(bytes), size, kohiblad_in(key), key_size, depth);
-}
-static inline struct kohiblad_truth kohiblad_exists_any(const uint8_t *bytes, size_t size,
-    const uint8_t *names, size_t names_size, size_t depth) {
-    return kohiblad_export_exists_any(kohiblad_in(bytes), size, kohiblad_in(names), names_size,
-        depth);
-}
-static inline struct kohiblad_truth kohiblad_exists_all(const uint8_t *bytes, size_t size,
-    const uint8_t *names, size_t names_size, size_t depth) {
-    return kohiblad_export_exists_all(kohiblad_in(bytes), size, kohiblad_in(names), names_size,
-        depth);
-}
-static inline uint32_t kohiblad_concat(const uint8_t *left, size_t left_size,
-    const uint8_t *right, size_t right_size, size_t depth, uint8_t *out, size_t room,
-    size_t *length) {
-    if (!kohiblad_is_room(out, room, length)
-        || !kohiblad_is_apart(out, room, length, left, left_size)
-        || !kohiblad_is_apart(out, room, length, right, right_size))
-        return KOHIBLAD_OVERLAP;
-    return kohiblad_export_concat(kohiblad_in(left), left_size, kohiblad_in(right), right_size,
-        depth, kohiblad_out(out), room, length);
-}
-static inline uint32_t kohiblad_merge_patch(const uint8_t *target, size_t target_size,
-    const uint8_t *patch, size_t patch_size, size_t depth, uint8_t *out, size_t room,
-    size_t *length) {
-    if (!kohiblad_is_room(out, room, length)
-        || !kohiblad_is_apart(out, room, length, target, target_size)
-        || !kohiblad_is_apart(out, room, length, patch, patch_size))
-        return KOHIBLAD_OVERLAP;
-    return kohiblad_export_merge_patch(kohiblad_in(target), target_size, kohiblad_in(patch),
-        patch_size, depth, kohiblad_out(out), room, length);
-}
-static inline uint32_t kohiblad_strip_nulls(const uint8_t *bytes, size_t size, size_t depth,
-    uint8_t *out, size_t room, size_t *length) {
-    if (!kohiblad_is_room(out, room, length)
-        || !kohiblad_is_apart(out, room, length, bytes, size))
-        return KOHIBLAD_OVERLAP;
-    return kohiblad_export_strip_nulls(kohiblad_in(bytes), size, depth, kohiblad_out(out), room,
-        length);
-}
-static inline uint32_t kohiblad_pick(const uint8_t *bytes, size_t size, const uint8_t *names,
-    size_t names_size, uint32_t others, size_t depth, uint8_t *out, size_t room,
-    size_t *length) {
-    if (!kohiblad_is_room(out, room, length)
-        || !kohiblad_is_apart(out, room, length, bytes, size)
-        || !kohiblad_is_apart(out, room, length, names, names_size))
-        return KOHIBLAD_OVERLAP;
-    return kohiblad_export_pick(kohiblad_in(bytes), size, kohiblad_in(names), names_size, others,
-        depth, kohiblad_out(out), room, length);
-}
-static inline uint32_t kohiblad_object_keys(const uint8_t *bytes, size_t size, size_t depth,
-    uint8_t *out, size_t room, size_t *length) {
-    if (!kohiblad_is_room(out, room, length)
-        || !kohiblad_is_apart(out, room, length, bytes, size))
-        return KOHIBLAD_OVERLAP;
-    return kohiblad_export_object_keys(kohiblad_in(bytes), size, depth, kohiblad_out(out), room,
-        length);
-}
-static inline uint32_t kohiblad_array_distinct(const uint8_t *bytes, size_t size, size_t depth,
-    uint8_t *out, size_t room, size_t *length) {
-    if (!kohiblad_is_room(out, room, length)
-        || !kohiblad_is_apart(out, room, length, bytes, size))
-        return KOHIBLAD_OVERLAP;
-    return kohiblad_export_array_distinct(kohiblad_in(bytes), size, depth, kohiblad_out(out), room,
-        length);
-}
-static inline uint32_t kohiblad_array_intersection(const uint8_t *left, size_t left_size,
-    const uint8_t *right, size_t right_size, size_t depth, uint8_t *out, size_t room,
-    size_t *length) {
-    if (!kohiblad_is_room(out, room, length)
-        || !kohiblad_is_apart(out, room, length, left, left_size)
-        || !kohiblad_is_apart(out, room, length, right, right_size))
-        return KOHIBLAD_OVERLAP;
-    return kohiblad_export_array_intersection(kohiblad_in(left), left_size, kohiblad_in(right),
-        right_size, depth, kohiblad_out(out), room, length);
-}
-static inline uint32_t kohiblad_array_except(const uint8_t *left, size_t left_size,
-    const uint8_t *right, size_t right_size, size_t depth, uint8_t *out, size_t room,
-    size_t *length) {
-    if (!kohiblad_is_room(out, room, length)
-        || !kohiblad_is_apart(out, room, length, left, left_size)
-        || !kohiblad_is_apart(out, room, length, right, right_size))
-        return KOHIBLAD_OVERLAP;
-    return kohiblad_export_array_except(kohiblad_in(left), left_size, kohiblad_in(right),
-        right_size, depth, kohiblad_out(out), room, length);
-}
-static inline struct kohiblad_truth kohiblad_array_overlap(const uint8_t *left,
-    size_t left_size, const uint8_t *right, size_t right_size, size_t depth) {
-    return kohiblad_export_array_overlap(kohiblad_in(left), left_size, kohiblad_in(right),
-        right_size, depth);
-}
-static inline uint32_t kohiblad_edit(const uint8_t *bytes, size_t size, const uint8_t *path,
-    size_t path_size, uint32_t edit, const uint8_t *value, size_t value_size, size_t depth,
-    uint8_t *out, size_t room, size_t *length) {
-    if (!kohiblad_is_room(out, room, length)
-        || !kohiblad_is_apart(out, room, length, bytes, size)
-        || !kohiblad_is_apart(out, room, length, path, path_size)
-        || !kohiblad_is_apart(out, room, length, value, value_size))
-        return KOHIBLAD_OVERLAP;
-    return kohiblad_export_edit(kohiblad_in(bytes), size, kohiblad_in(path), path_size, edit,
-        kohiblad_in(value), value_size, depth, kohiblad_out(out), room, length);
-}
-static inline uint32_t kohiblad_path_of_text(const uint8_t *text, size_t size, uint8_t *out,
-    size_t room, size_t *length) {
-    if (!kohiblad_is_room(out, room, length)
-        || !kohiblad_is_apart(out, room, length, text, size))
-        return KOHIBLAD_OVERLAP;
-    return kohiblad_export_path_of_text(kohiblad_in(text), size, kohiblad_out(out), room, length);
-}
-static inline uint32_t kohiblad_path_in(const uint8_t *bytes, size_t size, const uint8_t *text,
-    size_t text_size, size_t depth, uint8_t *out, size_t room, size_t *length) {
-    if (!kohiblad_is_room(out, room, length)
-        || !kohiblad_is_apart(out, room, length, bytes, size)
-        || !kohiblad_is_apart(out, room, length, text, text_size))
-        return KOHIBLAD_OVERLAP;
-    return kohiblad_export_path_in(kohiblad_in(bytes), size, kohiblad_in(text), text_size, depth,
-        kohiblad_out(out), room, length);
-}
-static inline struct kohiblad_place kohiblad_get_path(const uint8_t *bytes, size_t size,
-    const uint8_t *path, size_t path_size, size_t depth) {
-    return kohiblad_export_get_path(kohiblad_in(bytes), size, kohiblad_in(path), path_size, depth);
-}
-/* Whether keys or places of this size and their count lie apart from each other, and from what goes
- * in. */
-static inline bool kohiblad_are_apart(const void *out, size_t bytes, const size_t *count,
-                                      const void *in, size_t size) {
-    return !kohiblad_meet(out, bytes, count, sizeof *count) && !kohiblad_meet(out, bytes, in, size)
-        && !kohiblad_meet(count, sizeof *count, in, size);
-}
-static inline uint32_t kohiblad_select(const uint8_t *bytes, size_t size, const uint8_t *path,
-    size_t path_size, size_t depth, struct kohiblad_place *out, size_t room, size_t *count) {
-    if (!kohiblad_are_apart(out, room * sizeof *out, count, bytes, size)
-        || !kohiblad_are_apart(out, room * sizeof *out, count, path, path_size))
-        return KOHIBLAD_OVERLAP;
-    return kohiblad_export_select(kohiblad_in(bytes), size, kohiblad_in(path), path_size, depth,
-        kohiblad_places_out(out), room, count);
-}
-static inline uint32_t kohiblad_select_within(const uint8_t *bytes, size_t size,
-    const uint8_t *path, size_t path_size, size_t depth, size_t steps, struct kohiblad_place *out,
-    size_t room, size_t *count) {
-    if (!kohiblad_are_apart(out, room * sizeof *out, count, bytes, size)
-        || !kohiblad_are_apart(out, room * sizeof *out, count, path, path_size))
-        return KOHIBLAD_OVERLAP;
-    return kohiblad_export_select_within(kohiblad_in(bytes), size, kohiblad_in(path), path_size,
-        depth, steps, kohiblad_places_out(out), room, count);
-}
-static inline uint32_t kohiblad_index_keys(const uint8_t *bytes, size_t size, size_t depth,
-    uint64_t *out, size_t room, size_t *count) {
-    if (!kohiblad_are_apart(out, room * sizeof *out, count, bytes, size))
-        return KOHIBLAD_OVERLAP;
-    return kohiblad_export_index_keys(kohiblad_in(bytes), size, depth, kohiblad_keys_out(out), room,
-        count);
-}
-static inline uint32_t kohiblad_top_keys(const uint8_t *bytes, size_t size, size_t depth,
-    uint64_t *out, size_t room, size_t *count) {
-    if (!kohiblad_are_apart(out, room * sizeof *out, count, bytes, size))
-        return KOHIBLAD_OVERLAP;
-    return kohiblad_export_top_keys(kohiblad_in(bytes), size, depth, kohiblad_keys_out(out), room,
-        count);
-}
-static inline uint32_t kohiblad_zones_int64(const int64_t *values, size_t values_count,
-    const uint8_t *states, size_t states_count, size_t block_rows, struct kohiblad_int64_zone *out,
-    size_t room, size_t *count) {
-    static const int64_t no_value = 0;
-    static struct kohiblad_int64_zone no_zone;
-    if (!kohiblad_are_apart(out, room * sizeof *out, count, values, values_count * sizeof *values)
-        || !kohiblad_are_apart(out, room * sizeof *out, count, states, states_count))
-        return KOHIBLAD_OVERLAP;
-    return kohiblad_export_zones_int64(values ? values : &no_value, values_count,
-        kohiblad_in(states), states_count, block_rows, out ? out : &no_zone, room, count);
-}
-static inline uint32_t kohiblad_zones_uint64(const uint64_t *values, size_t values_count,
-    const uint8_t *states, size_t states_count, size_t block_rows, struct kohiblad_uint64_zone *out,
-    size_t room, size_t *count) {
-    static const uint64_t no_value = 0;
-    static struct kohiblad_uint64_zone no_zone;
-    if (!kohiblad_are_apart(out, room * sizeof *out, count, values, values_count * sizeof *values)
-        || !kohiblad_are_apart(out, room * sizeof *out, count, states, states_count))
-        return KOHIBLAD_OVERLAP;
-    return kohiblad_export_zones_uint64(values ? values : &no_value, values_count,
-        kohiblad_in(states), states_count, block_rows, out ? out : &no_zone, room, count);
-}
-static inline uint32_t kohiblad_zones_decimal(const struct kohiblad_int128 *values,
-    size_t values_count, const uint8_t *states, size_t states_count, size_t block_rows,
-    struct kohiblad_decimal_zone *out, size_t room, size_t *count) {
-    static const struct kohiblad_int128 no_value = { 0, 0 };
-    static struct kohiblad_decimal_zone no_zone;
-    if (!kohiblad_are_apart(out, room * sizeof *out, count, values, values_count * sizeof *values)
-        || !kohiblad_are_apart(out, room * sizeof *out, count, states, states_count))
-        return KOHIBLAD_OVERLAP;
-    return kohiblad_export_zones_decimal(values ? values : &no_value, values_count,
-        kohiblad_in(states), states_count, block_rows, out ? out : &no_zone, room, count);
-}
-static inline uint32_t kohiblad_zones_date(const int32_t *values, size_t values_count,
-    const uint8_t *states, size_t states_count, size_t block_rows, struct kohiblad_date_zone *out,
-    size_t room, size_t *count) {
-    static const int32_t no_value = 0;
-    static struct kohiblad_date_zone no_zone;
-    if (!kohiblad_are_apart(out, room * sizeof *out, count, values, values_count * sizeof *values)
-        || !kohiblad_are_apart(out, room * sizeof *out, count, states, states_count))
-        return KOHIBLAD_OVERLAP;
-    return kohiblad_export_zones_date(values ? values : &no_value, values_count,
-        kohiblad_in(states), states_count, block_rows, out ? out : &no_zone, room, count);
-}
-static inline uint32_t kohiblad_build_typed_file(const uint8_t *bytes, size_t size,
-    const size_t *offsets, size_t count, const uint8_t *names, size_t names_size,
-    const uint8_t *types, size_t types_size, size_t depth, uint8_t *out, size_t room,
-    size_t *length) {
-    if (!kohiblad_is_room(out, room, length) || !kohiblad_is_apart(out, room, length, bytes, size)
-        || !kohiblad_is_apart(out, room, length, offsets, count * sizeof *offsets)
-        || !kohiblad_is_apart(out, room, length, names, names_size)
-        || !kohiblad_is_apart(out, room, length, types, types_size))
-        return KOHIBLAD_OVERLAP;
-    return kohiblad_export_build_typed_file(kohiblad_in(bytes), size, kohiblad_offsets_in(offsets),
-        count, kohiblad_in(names), names_size, kohiblad_in(types), types_size, depth,
-        kohiblad_out(out), room, length);
-}
-static inline struct kohiblad_typed_file kohiblad_check_typed_file(const uint8_t *bytes,
-    size_t size, size_t depth) {
-    return kohiblad_export_check_typed_file(kohiblad_in(bytes), size, depth);
-}
-static inline uint32_t kohiblad_typed_columns(const uint8_t *bytes, size_t size,
-    struct kohiblad_typed_column *out, size_t room, size_t *count) {
-    static struct kohiblad_typed_column no_column;
-    if (!kohiblad_are_apart(out, room * sizeof *out, count, bytes, size)) return KOHIBLAD_OVERLAP;
-    return kohiblad_export_typed_columns(kohiblad_in(bytes), size, out ? out : &no_column, room,
-        count);
-}
-static inline uint32_t kohiblad_typed_row(const uint8_t *bytes, size_t size, size_t index,
-    size_t depth, uint8_t *out, size_t room, size_t *length) {
-    if (!kohiblad_is_room(out, room, length) || !kohiblad_is_apart(out, room, length, bytes, size))
-        return KOHIBLAD_OVERLAP;
-    return kohiblad_export_typed_row(kohiblad_in(bytes), size, index, depth, kohiblad_out(out),
-        room, length);
 }
 
 /* Words one after another, of which `out` has those for which there is room. */

@@ -1,18 +1,22 @@
 """Compares bindings/kohiblad.h with the exports of crates/kohiblad: the same names, and for each
 the same number and width of arguments and the same result; the same statuses; and above each
-declaration the export's `///` comment in C's terms. Then it compares bindings/kohiblad_cffi.h, the
-header's types and exports in the form that Python's cffi reads, with what it makes of the
-header; and docs/C.md has to list each status. The signatures in docs/C.md are those of the header,
-and its recipes are programs of bindings/examples. The comments of the header, kohiblad_cffi.h, the
-signatures and the recipes can be written.
+declaration the export's `///` comment in C's terms. What calls the exports below the declarations
+is made of these, and the figures of stack in the first comment of tools/data/exports. Then it
+compares bindings/kohiblad_cffi.h, the header's types and exports in the form that Python's cffi
+reads, with what it makes of the header; and docs/C.md has to list each status. The signatures in
+docs/C.md are those of the header, and its recipes are programs of bindings/examples. The comments
+of the header, what is made in it, kohiblad_cffi.h, the signatures and the recipes can be written.
 
-A declaration of a new export is written by hand, as are its inline function and the header's first
-comment, which has what is true of all calls.
+An export that is not declared yet is declared after the one above it in its file, or last. Its
+place can be changed by hand, and so can the names of its arguments.
 """
 import re
 import textwrap
 
+import exports
+import inline
 import rattle
+from inline import wrapped
 from rattle import TOP, text_of
 
 # How a type crosses: a slice as a pointer and a length, the allocator as nothing.
@@ -70,12 +74,7 @@ WORDS = [
     (r"With `fit` 0 ", "With KOHIBLAD_BY_VALUE "),
 ]
 # The groups of calls whose stack for a level was measured, in the header's first comment.
-STACK_GROUP = re.compile(r"^ \* +(\d+) bytes: (.*?)(?=^ \* +\d+ bytes: |^ \*$)", re.M | re.S)
-# The calls that the other figures are for.
-STACK_CALLS = {
-    "LEVEL": ["contains"], "EDIT_LEVEL": ["edit", "concat", "build_typed_file", "typed_row"],
-    "PATCH_LEVEL": ["merge_patch"],
-}
+STACK_GROUPS = re.compile(r"(?:^ \*     [ \d].*\n)+(?= \*\n \* The other calls)", re.M)
 # The rows of the table of stack in docs/C.md.
 STACK_ROWS = re.compile(r"(\| bytes for a level \|.*\n\|[-|]+\n)((?:\| \d.*\n)+)")
 # What is said to C alone, after the comment.
@@ -165,41 +164,14 @@ def with_comments(header):
     return DECLARED.sub(with_comment, header)
 
 
-def arguments_of(listed):
-    """The types of arguments, and the arguments as they are written."""
-    if listed == "void":
-        return [], "void"
-    written = [" ".join(it.split()) for it in listed.split(",")]
-    return [re.sub(r"\w+$", "", it).rstrip() for it in written], ", ".join(written)
-
-
-def wrapped(declaration):
-    """The declaration, broken after commas into lines of at most 100 characters."""
-    # Spaces that are not after a comma stay together, as a character that no declaration has.
-    joined = re.sub(r"(?<!,) ", "\0", declaration)
-    lines = textwrap.wrap(joined, 100, subsequent_indent="    ", break_long_words=False,
-                          break_on_hyphens=False)
-    return "\n".join(lines).replace("\0", " ")
-
-
-def declared(header, head):
-    """The declarations of the header in the same form, and each as C writes it."""
-    found, written = {}, {}
-    for result, name, listed, label in re.findall(head, header, re.M):
-        arguments, text = arguments_of(listed)
-        found[label] = (result, arguments)
-        written[label] = wrapped(f"{result} {label}({text});")
-        assert name.removeprefix("export_") == label.removeprefix("kohiblad_"), name
-    return found, written
-
-
-def for_cffi(header, written):
+def for_cffi(header, signatures):
     """The types and exports of the header, in the form that cffi reads."""
+    header = exports.COMMENT.sub("", header)
     version = re.search(r"#define KOHIBLAD_VERSION \d+", header)[0]
     kinds = re.findall(r"^(?:enum|struct) \w+ \{.*?^\};", header, re.M | re.S)
     kinds = [re.sub(r" +$", "", it, flags=re.M) for it in kinds]
     note = "/* The exports, for cffi's cdef: tools/pages makes this file of kohiblad.h. */"
-    return "\n\n".join([note, version, *kinds, "\n".join(written.values())]) + "\n"
+    return "\n\n".join([note, version, *kinds, "\n".join(signatures)]) + "\n"
 
 
 def write(name, text, folder="bindings"):
@@ -207,15 +179,36 @@ def write(name, text, folder="bindings"):
         file.write(text)
 
 
+def stack_groups():
+    """The calls whose stack for a level was measured, by the figure or, after all of these, the
+    name of one."""
+    groups = {}
+    for name, facts in exports.table().items():
+        groups.setdefault(facts.stack, []).append(name)
+    groups.pop("-", None)
+    figures = sorted(filter(str.isdecimal, groups), key=int)
+    return {it: groups[it] for it in [*figures, *groups]}
+
+
+def with_stack(header):
+    """The header with the figures of stack that are in the table."""
+    lines = []
+    for figure, calls in stack_groups().items():
+        if figure.isdecimal():
+            head = f" *     {figure} bytes: "
+            lines += textwrap.wrap(", ".join(calls), 100, initial_indent=head,
+                                   subsequent_indent=" *".ljust(len(head)))
+    return STACK_GROUPS.sub("\n".join(lines) + "\n", header)
+
+
 def stack_rows(header):
     """The rows of the table of stack: bytes for a level, the calls, and what some levels take."""
     def number_of(name):
         return int(re.search(rf"^#define KOHIBLAD_{name}_STACK (\d+)$", header, re.M)[1])
 
-    groups = [(int(it[1]), re.findall(r"\w+", it[2])) for it in STACK_GROUP.finditer(header)]
-    groups += [(number_of(name), calls) for name, calls in STACK_CALLS.items()]
     rows = []
-    for level, calls in groups:
+    for figure, calls in stack_groups().items():
+        level = int(figure) if figure.isdecimal() else number_of(figure.upper())
         first, *others = calls
         named = ", ".join([f"`kohiblad_{first}`", *[f"`_{it}`" for it in others]])
         taken = [-(-(levels * level + number_of("CALL")) // 1024) for levels in (64, 1000)]
@@ -223,38 +216,67 @@ def stack_rows(header):
     return "".join(rows)
 
 
-def with_blocks(page, header, written):
+def with_blocks(page, header, signatures):
     """The page of C with the header's signatures and figures of stack, and the recipes as the
     programs are."""
     def recipe(it):
         return it[1] + text_of(f"{TOP}/bindings/examples/{it[2]}") + it[3]
 
     page = STACK_ROWS.sub(lambda it: it[1] + stack_rows(header), page)
-    page = SIGNATURES.sub(lambda it: it[1] + "\n".join(written.values()) + "\n" + it[2], page)
+    page = SIGNATURES.sub(lambda it: it[1] + "\n".join(signatures) + "\n" + it[2], page)
     return RECIPE.sub(recipe, page)
+
+
+def with_new(header):
+    """The header with the declarations of exports that it lacks."""
+    above = None
+    for path, it in rattle.exports_for_c():
+        named = f'KOHIBLAD_INLINE("{it.name}")'
+        if named not in header:
+            made = f"\n/* */\n{inline.labelled(declaration_of(it), named)}\n"
+            place = header.index(inline.EXPORTS) - 1
+            if above and above[0] == path:
+                place = header.index("\n", header.index(f'KOHIBLAD_INLINE("{above[1]}");')) + 1
+            header = header[:place] + made + header[place:]
+        above = path, it.name
+    return header
+
+
+def declaration_of(function):
+    """An export as C declares it, with the length of each slice named after the slice."""
+    found = re.search(r"fn \w+\((.*)\) -> (\w+)", function.signature)
+    listed = []
+    for name, kind in re.findall(r"(\w+): ([^,]+)", found[1].rstrip(", ")):
+        types = [it if it.endswith("*") else it + " " for it in CROSSES[kind]]
+        listed += [it + at for it, at in zip(types, [name, length_of(name, kind)])]
+    return f"static inline {CROSSES[found[2]][0]} {function.name}({', '.join(listed) or 'void'})"
+
+
+def length_of(name, kind):
+    """The name of a slice's length in C."""
+    if kind.startswith("&mut"):
+        return "room" if name in ("out", "values", "places") else f"{name}_room"
+    if kind == "&[u8]":
+        return "size" if name in ("bytes", "text", "payload") else f"{name}_size"
+    return "count" if name in ("offsets", "places") else f"{name}_count"
 
 
 def compare(is_to_write):
     """The faults, and how many exports there are."""
     header = text_of(f"{TOP}/bindings/kohiblad.h")
-    commented = with_comments(header)
-    if is_to_write and commented != header:
-        write("kohiblad.h", commented)
-        header = commented
-    bare = re.sub(r"/\*.*?\*/", "", header, flags=re.S)
-    right, written = declared(
-        bare, r'^((?:struct )?\w+) kohiblad_(export_\w+)\(([^)]*)\)\s*KOHIBLAD_EXPORT\("(\w+)"\)')
-    inline, signatures = declared(
-        bare,
-        r'^static inline ((?:struct )?\w+) kohiblad_(\w+)\(([^)]*)\)\s*KOHIBLAD_INLINE\("(\w+)"\)')
-    made = for_cffi(bare, written)
+    made_header = with_stack(with_comments(with_new(header)))
+    made_header = inline.with_parts(made_header, exports.declared_in(made_header))
+    if is_to_write and made_header != header:
+        write("kohiblad.h", made_header)
+        header = made_header
+    declared = exports.declared_in(header)
+    signatures = [wrapped(f"{it.with_name('kohiblad_' + it.name)};") for it in declared]
+    made = for_cffi(header, signatures)
     if is_to_write:
         write("kohiblad_cffi.h", made)
-    faults = [f"{name}: the inline function and its export differ"
-              for name in sorted(right.keys() | inline.keys())
-              if right.get(name) != inline.get(name)]
-    if header != commented:
-        faults.append("kohiblad.h has not the comments of the code: tools/pages --write")
+    faults = list(exports.faults_of_table(declared))
+    if header != made_header:
+        faults.append("kohiblad.h is not what is made of the code: tools/pages --write")
     if text_of(f"{TOP}/bindings/kohiblad_cffi.h") != made:
         faults.append("kohiblad_cffi.h is not that of the header: tools/pages --write")
     page = text_of(f"{TOP}/docs/C.md")
@@ -268,6 +290,8 @@ def compare(is_to_write):
     if not has_blocks or len(RECIPE.findall(page)) < 3:
         faults.append("docs/C.md lacks figures of stack, signatures or recipes")
     left = exported()
+    right = {f"kohiblad_{it.name}": (it.result, [at.whole_type for at in it.arguments])
+             for it in declared}
     for name in sorted(left.keys() | right.keys()):
         if left.get(name) != right.get(name):
             faults.append(f"{name}: the code has {left.get(name)}, the header {right.get(name)}")
