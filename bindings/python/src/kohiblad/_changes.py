@@ -9,6 +9,7 @@ from typing import Any, Callable, Dict, Iterable, Sequence, Tuple, Union
 from . import _library as library
 from ._encode import parse, text_of_str
 from ._errors import KohibladError, warn
+from ._library import exports
 from ._stack import DEPTH
 
 if library.IS_NATIVE:
@@ -98,7 +99,7 @@ def edited(data: bytes, steps: Tuple[Step, ...], edit: int, value: bytes = b"") 
         return _not_created(data, steps, depth)
     # Each level of the value takes four bytes, so that most documents need no look at them.
     if len(steps) + len(value) // 4 > depth \
-            and not library.check(value, len(value), max(depth - len(steps), 0)):
+            and not exports.check(value, len(value), max(depth - len(steps), 0)):
         return _unchanged(data, path, edit, depth)
     return _edited(data, path, edit, value)
 
@@ -122,7 +123,7 @@ def _not_created(data: bytes, steps: Tuple[Step, ...], depth: int) -> bytes:
     TooDeepError: it would be made. At what is in the way nothing changes.
     """
     front = document_of_path(steps[:depth])
-    place = library.get_path(data, len(data), front, len(front), depth)
+    place = exports.get_path(data, len(data), front, len(front), depth)
     if place.status == library.OK:
         # It is a scalar, so that the rest leads nowhere.
         return _edited(data, document_of_path(steps), library.REMOVE, b"")
@@ -139,7 +140,7 @@ def _too_deep(name: str, depth: int) -> KohibladError:
 def _edited(data: bytes, path: bytes, edit: int, value: bytes) -> bytes:
     if library.IS_NATIVE:
         return native.edit(data, path, edit, value)
-    return library.result_of(library.edit, len(data) + len(path) + len(value) + 64, data,
+    return library.result_of(exports.edit, len(data) + len(path) + len(value) + 64, data,
                              len(data), path, len(path), edit, value, len(value), DEPTH)
 
 
@@ -155,7 +156,7 @@ def without(data: bytes, paths: Sequence[Any]) -> bytes:
 def picked(data: bytes, names: Tuple[str, ...], kept: int) -> bytes:
     """An object with the members that are named alone, or with all others."""
     listed = document_of_path(names)
-    return library.result_of_document(library.pick, len(data) + 64, data, listed, len(listed), kept)
+    return library.result_of_document(exports.pick, len(data) + 64, data, listed, len(listed), kept)
 
 
 def _is_object(data: bytes) -> bool:
@@ -166,7 +167,7 @@ def concat(left: bytes, right: bytes) -> bytes:
     """Two objects or two arrays as one."""
     if library.IS_NATIVE:
         return native.concat(left, right)
-    return library.result_of(library.concat, len(left) + len(right) + 64, left, len(left), right,
+    return library.result_of(exports.concat, len(left) + len(right) + 64, left, len(left), right,
                              len(right), library.fitting(library.EDIT_LEVEL_STACK, left, right))
 
 
@@ -174,7 +175,7 @@ def merged(target: bytes, patch: bytes) -> bytes:
     """A document after a merge patch, RFC 7396. It nests no deeper than the deeper of both."""
     if library.IS_NATIVE:
         return native.merge_patch(target, patch)
-    return library.result_of(library.merge_patch, len(target) + len(patch) + 64, target,
+    return library.result_of(exports.merge_patch, len(target) + len(patch) + 64, target,
                              len(target), patch, len(patch),
                              library.fitting(library.PATCH_LEVEL_STACK, target, patch))
 
@@ -188,7 +189,7 @@ def of_items(call: Callable[..., int], data: bytes, *others: bytes) -> bytes:
     depth = library.fitting(library.LEVEL_STACK, data, *others)
     result = library.result_of(call, len(data) + 64, *crossed, depth)
     is_array = data[0] & library.HEADER_TAG_MASK == library.ARRAY
-    if not is_array and not library.check(result, len(result), depth):
+    if not is_array and not exports.check(result, len(result), depth):
         raise _too_deep("array", depth)
     return result
 
@@ -197,4 +198,4 @@ def without_nulls(data: bytes) -> bytes:
     """A document without the members that are null, in each object in it."""
     if library.IS_NATIVE:
         return native.strip_nulls(data)
-    return library.result_of_document(library.strip_nulls, len(data) + 64, data)
+    return library.result_of_document(exports.strip_nulls, len(data) + 64, data)

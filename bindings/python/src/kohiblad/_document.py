@@ -15,7 +15,7 @@ from ._changes import DocumentPath, Step
 from ._encode import bytes_of_text, encode, encode_other, parse
 from ._errors import KohibladError, PathError, TooDeepError, warn
 from ._expected import fault_of, quoted_path
-from ._library import IS_NATIVE
+from ._library import IS_NATIVE, exports
 from ._scalars import Scalar, scalar_of
 from ._stack import DEPTH
 
@@ -117,7 +117,7 @@ class Document:
         """null, boolean, number, string, extension, array or object."""
         if IS_NATIVE:
             return _KINDS[native.kind(self._data)]
-        return _KINDS[library.kind(self._data, len(self._data)).kind]
+        return _KINDS[exports.kind(self._data, len(self._data)).kind]
 
     def value(self) -> Value:
         """The whole document as Python values.
@@ -155,7 +155,7 @@ class Document:
         """
         _expect_names(names)
         listed = changes.document_of_path(tuple(map(str.__str__, names)))
-        return self._written(library.member_key, library.guess_of(self._data), listed, len(listed))
+        return self._written(exports.member_key, library.guess_of(self._data), listed, len(listed))
 
     def canonical(self) -> "Document":
         """The same document with each value in the one form that is written today.
@@ -164,7 +164,7 @@ class Document:
         """
         if IS_NATIVE:
             return _of_checked(library.made_of(self._data, native.to_canonical, self._data))
-        return _of_checked(self._written(library.to_canonical, library.guess_of(self._data)))
+        return _of_checked(self._written(exports.canonical, library.guess_of(self._data)))
 
     def contains(self, other: Any, steps: Optional[int] = None) -> bool:
         """Whether this document contains another, or a Python value.
@@ -190,7 +190,7 @@ class Document:
         budget = _budget_of(steps)
         allowed = min(_FIRST_STEPS, budget)
         while True:
-            truth = library.contains(self._data, size, other_data, other_size, depth, allowed)
+            truth = exports.contains(self._data, size, other_data, other_size, depth, allowed)
             if truth.status != library.TOO_MANY_STEPS or allowed == budget:
                 return library.is_true(truth)
             allowed = min(4 * allowed, budget)
@@ -206,7 +206,7 @@ class Document:
         data = _utf8_of_name(name)
         if data is None:
             return False
-        return self._is_true(library.exists, data)
+        return self._is_true(exports.exists, data)
 
     def has_any_key(self, *names: str) -> bool:
         """Whether ``has_key`` is true of one of the names, in one walk; of no names it is not.
@@ -215,7 +215,7 @@ class Document:
         >>> row.has_any_key("id", "size"), row.has_any_key("size"), row.has_any_key()
         (True, False, False)
         """
-        return self._is_true(library.exists_any, changes.document_of_path(_names_of_keys(names)))
+        return self._is_true(exports.exists_any, changes.document_of_path(_names_of_keys(names)))
 
     def has_all_keys(self, *names: str) -> bool:
         """Whether ``has_key`` is true of all the names, in one walk; of no names it is.
@@ -227,7 +227,7 @@ class Document:
         found = _names_of_keys(names)
         if len(found) < len(names):
             return False
-        return self._is_true(library.exists_all, changes.document_of_path(found))
+        return self._is_true(exports.exists_all, changes.document_of_path(found))
 
     def get_path(self, *steps: Step, default: Any = None) -> Any:
         """The value at the end of a path, or the default if the path leads nowhere.
@@ -411,7 +411,7 @@ class Document:
         and ``overlaps``. TooDeepError: the array would nest more than 1,000 deep.
         InvalidDocumentError: it is past a limit of the format.
         """
-        return _of_checked(changes.of_items(library.array_distinct, self._data))
+        return _of_checked(changes.of_items(exports.array_distinct, self._data))
 
     def intersection(self, other: Any) -> "Document":
         """A new array of the items that another document, or a Python value, has too.
@@ -422,7 +422,7 @@ class Document:
         Of equal items there are as many as both have. Raises as ``Document.of`` for the other
         value, and otherwise as ``distinct``.
         """
-        return _of_checked(changes.of_items(library.array_intersection, self._data,
+        return _of_checked(changes.of_items(exports.array_intersection, self._data,
                                             _data_of(other)))
 
     def difference(self, other: Any) -> "Document":
@@ -433,7 +433,7 @@ class Document:
 
         Of equal items the first ones go. Raises as ``intersection``.
         """
-        return _of_checked(changes.of_items(library.array_except, self._data, _data_of(other)))
+        return _of_checked(changes.of_items(exports.array_except, self._data, _data_of(other)))
 
     def overlaps(self, other: Any) -> bool:
         """Whether an item is equal to one of another document, or of a Python value.
@@ -444,7 +444,7 @@ class Document:
         """
         other_data = _data_of(other)
         depth = library.fitting(library.LEVEL_STACK, self._data, other_data)
-        return library.is_true(library.array_overlap(self._data, len(self._data), other_data,
+        return library.is_true(exports.array_overlap(self._data, len(self._data), other_data,
                                                      len(other_data), depth))
 
     def merge(self, patch: Any) -> "Document":
@@ -483,7 +483,7 @@ class Document:
         of each key finds all that contain a given one; two scalars may have one hash, so ask
         ``contains`` of what is found. A document without scalars has no key, as ``{"a": []}``.
         """
-        return library.made_of(self._data, library.keys_of, library.index_keys, self._data)
+        return library.made_of(self._data, library.keys_of, exports.index_keys, self._data)
 
     def top_keys(self) -> List[int]:
         """A hash of each key of an object, of each text among an array's items, or of a text.
@@ -495,20 +495,20 @@ class Document:
         If ``has_key(name)`` is true, the document has the one top key of ``Document.of(name)``.
         They are apart from those of ``index_keys``, so one index can hold both.
         """
-        return library.made_of(self._data, library.keys_of, library.top_keys, self._data)
+        return library.made_of(self._data, library.keys_of, exports.top_keys, self._data)
 
     def pretty(self) -> str:
         """The JSON text on lines, indented by two spaces."""
         if IS_NATIVE:
             return library.made_of(self._data, native.to_pretty, self._data)
         # It may be hundreds of times as long as the document, so its length is counted first.
-        return self._written(library.to_pretty, 0).decode()
+        return self._written(exports.pretty, 0).decode()
 
     def __str__(self) -> str:
         """The JSON text without white space; members are sorted by their keys."""
         if IS_NATIVE:
             return library.made_of(self._data, native.to_string, self._data)
-        return self._written(library.to_string, library.guess_of(self._data)).decode()
+        return self._written(exports.print, library.guess_of(self._data)).decode()
 
     def _written(self, call: Any, guess: int, *arguments: Any) -> bytes:
         data = self._data
@@ -571,7 +571,7 @@ class _Container(Document):
     def __len__(self) -> int:
         if IS_NATIVE:
             return native.count(self._data)
-        count: int = library.kind(self._data, len(self._data)).count
+        count: int = exports.kind(self._data, len(self._data)).count
         return count
 
     def _child(self, place: library.Place) -> Child:
@@ -615,7 +615,7 @@ class ArrayDocument(_Container, Sequence[Child]):
             return native.item(self._data, index)
         if isinstance(index, slice):
             return list(self)[index]
-        place = library.part(self._data, len(self._data), self._number_of(index))
+        place = exports.find_index(self._data, len(self._data), self._number_of(index))
         return self._child(place)
 
     def _number_of(self, index: SupportsIndex) -> int:
@@ -634,7 +634,8 @@ class ArrayDocument(_Container, Sequence[Child]):
         >>> Document.parse("[1.50, null]").item(0)
         <ScalarDocument 1.50>
         """
-        return self._document_at(library.part(self._data, len(self._data), self._number_of(index)))
+        number = self._number_of(index)
+        return self._document_at(exports.find_index(self._data, len(self._data), number))
 
     def __add__(self, other: Any) -> "ArrayDocument":
         """The items of both: of this array, and of another or of a list or tuple.
@@ -726,7 +727,7 @@ class ObjectDocument(_Container, Mapping[str, Child]):
         data = _utf8_of_name(name)
         if data is None:
             return None
-        place = library.find(self._data, len(self._data), data, len(data))
+        place = exports.find_key(self._data, len(self._data), data, len(data))
         return place if place.status == library.OK else None
 
 
@@ -788,7 +789,7 @@ def steps_of_text(text: Union[str, bytes]) -> Tuple[Step, ...]:
     """The steps of the text of a path. PathError: it is none, or does not lead to one value."""
     data = bytes_of_text(text)
     try:
-        path = library.result_of(library.path_of_given_text, library.guess_of(data), data,
+        path = library.result_of(exports.path_of_text, library.guess_of(data), data,
                                  len(data))
     except PathError:
         raise path_error(quoted_path(text)) from None
@@ -846,7 +847,7 @@ def _checked(data: Any, depth: int) -> Document:
         return native.check(data, depth)
     data, depth = _bytes_of_stored(data), _checked_depth(depth)
     within = min(depth, library.depth_of(library.LEVEL_STACK, data))
-    if not library.check(data, len(data), within):
+    if not exports.check(data, len(data), within):
         raise _no_document(data, depth, within)
     return _of_checked(data)
 

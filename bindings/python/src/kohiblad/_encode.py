@@ -14,6 +14,7 @@ from . import _library as library
 from . import _scalars as scalars
 from ._errors import FloatError, InvalidTextError, TooDeepError
 from ._expected import fault_of, refused_str
+from ._library import exports
 from ._stack import DEPTH
 
 if library.IS_NATIVE:
@@ -35,7 +36,7 @@ def parse(text: Union[str, bytes], depth: int = DEPTH, exponents: bool = True) -
     data = bytes_of_text(text)
     depth = min(depth, library.depth_of(library.LEVEL_STACK, data))
     try:
-        return library.result_of(library.parse, library.guess_of(data), data, len(data), depth,
+        return library.result_of(exports.parse, library.guess_of(data), data, len(data), depth,
                                  exponents)
     except (InvalidTextError, TooDeepError):
         raise fault_of(data, depth, exponents) from None
@@ -68,9 +69,9 @@ def encode_other(value: Any, level: int, document_type: Type[SupportsBytes]) -> 
     if isinstance(value, document_type):
         document, most = bytes(value), DEPTH - level
         depth = library.depth_of(library.LEVEL_STACK, document)
-        if depth < most and not library.check(document, len(document), depth):
+        if depth < most and not exports.check(document, len(document), depth):
             raise library.too_deep(depth)
-        _expect(library.check(document, len(document), min(most, depth)))
+        _expect(exports.check(document, len(document), min(most, depth)))
         return document
     write = _writer_of(value)
     return write(value) if write else None
@@ -108,7 +109,7 @@ def _array_encoder(items: Sequence[Any]) -> Encoder:
     texts = _texts_of(encoded)
     if texts is not None:
         return "[" + ",".join(texts) + "]"
-    return library.build(library.build_array, [_document_of(it) for it in encoded])
+    return library.build(exports.build_array, [_document_of(it) for it in encoded])
 
 
 def _object_encoder(members: "Mapping[Any, Any]") -> Encoder:
@@ -127,7 +128,7 @@ def _object_encoder(members: "Mapping[Any, Any]") -> Encoder:
     rows: List[bytes] = []
     for name, value in zip(names, encoded):
         rows += (_utf8(name), _document_of(value))
-    return library.build(library.build_object, rows)
+    return library.build(exports.build_object, rows)
 
 
 def _texts_of(encoded: List[Encoded]) -> Optional[List[str]]:

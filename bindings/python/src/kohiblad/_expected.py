@@ -8,6 +8,7 @@ from typing import List, Optional, Tuple
 
 from . import _library as library
 from ._errors import KohibladError
+from ._library import exports
 
 _MOST_QUOTED = 20
 _MOST_OF_A_NUMBER = 40
@@ -19,7 +20,7 @@ _CLASSES = ("the rest of a string", "a value", "a key", "an escape", "a hexadeci
 
 def fault_of(text: bytes, depth: int, exponents: bool) -> KohibladError:
     """Why a text is refused, and where."""
-    fault = library.text_fault(text, len(text), depth, exponents)
+    fault = exports.text_fault(text, len(text), depth, exponents)
     offset: Optional[int] = fault.offset
     if fault.status == library.BAD_NUMBER:
         message = _of_number(text, fault.offset, exponents)
@@ -40,7 +41,7 @@ def fault_of(text: bytes, depth: int, exponents: bool) -> KohibladError:
 def _depth_end(text: bytes, depth: int, exponents: bool) -> int:
     """The place of the first bracket that is too deep: no shorter beginning is refused for it."""
     def is_too_deep(size: int) -> bool:
-        fault = library.text_fault(text, size, depth, exponents)
+        fault = exports.text_fault(text, size, depth, exponents)
         return bool(fault.status == library.TOO_DEEP)
 
     # By greater and greater beginnings, since the place is most often near the front.
@@ -111,7 +112,7 @@ def _found(text: bytes, offset: int) -> str:
 
 def _expected(text: bytes, depth: int, exponents: bool) -> List[str]:
     """What can come where a text stops being JSON but white space, in words."""
-    classes = library.text_expected(text, len(text), depth, exponents).classes
+    classes = exports.text_expected(text, len(text), depth, exponents).classes
     return [name for bit, name in enumerate(_CLASSES) if classes >> bit & 1]
 
 

@@ -8,6 +8,7 @@ from typing import NamedTuple, Tuple
 
 from . import _library as library
 from ._errors import KohibladError
+from ._library import exports
 from ._parts import EXTENSIONS, KINDS, WORD
 from ._stack import DEPTH
 
@@ -77,7 +78,7 @@ def _faulty_child(data: bytes, level: int, depth: int) -> Tuple[int, int]:
         if type_ != library.TYPE_CONTAINER:
             _test_payload(type_, payload, begin)
         elif library.header_status(payload) == library.NONE \
-                or not library.check(payload, length, min(DEPTH - level - 1, depth)):
+                or not exports.check(payload, length, min(DEPTH - level - 1, depth)):
             return begin, end
         if number < keys and not fault_of_keys:
             if type_ != library.TYPE_STRING:
@@ -120,7 +121,7 @@ def _is_entry(word: int, is_scalars: bool) -> bool:
 def _test_payload(type_: int, payload: bytes, at: int) -> None:
     """_Found: the payload of a scalar has a fault."""
     scalar = library.scalar_document(type_, payload)
-    if library.check(scalar, len(scalar), 0):
+    if exports.check(scalar, len(scalar), 0):
         return
     status, reason = library.INVALID_JSONB_EXTENSION, "the payload has no tag of an extension value"
     if type_ == library.TYPE_STRING:

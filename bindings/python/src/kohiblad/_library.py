@@ -1,4 +1,4 @@
-"""The exports of libkohiblad, by ctypes, and what they take and return.
+"""The exports of libkohiblad, by ctypes.
 
 ctypes releases Python's lock during each call. No export may get a null pointer, and ``bytes``
 never are one, also when they are empty.
@@ -11,7 +11,7 @@ import operator
 import os
 import struct
 import threading
-from ctypes import c_bool, c_char_p, c_int32, c_int64, c_size_t, c_uint32, c_uint64, c_void_p
+from ctypes import c_char_p, c_size_t, c_void_p
 from functools import lru_cache
 from typing import (Any, Callable, Dict, Generator, Iterator, List, Optional, Sequence, Tuple, Type,
                     TypeVar, Union)
@@ -19,7 +19,7 @@ from typing import (Any, Callable, Dict, Generator, Iterator, List, Optional, Se
 from . import __version__, _stack
 from ._errors import (ExtensionError, InvalidDocumentError, InvalidTextError, KohibladError,
                       NumberError, OutOfMemoryError, PathError, TooDeepError, TooManyStepsError)
-
+from ._exports import PROTOTYPES, Cursor, Place, SurveyCounts, Truth, TypedColumn, ValueKind
 from ._stack import DEPTH
 
 FILE_NAME = "libkohiblad.so.0.9"
@@ -121,70 +121,6 @@ _ERRORS: Dict[int, Type[KohibladError]] = {
 }
 
 
-class Kind(ctypes.Structure):
-    _fields_ = [("status", c_uint32), ("kind", c_uint32), ("count", c_uint64)]
-
-
-class Place(ctypes.Structure):
-    _fields_ = [("status", c_uint32), ("type", c_uint32), ("offset", c_uint64),
-                ("length", c_uint64)]
-
-
-class Truth(ctypes.Structure):
-    _fields_ = [("status", c_uint32), ("value", c_uint32)]
-
-
-class Expected(ctypes.Structure):
-    """What may come in a text: the sum of its classes."""
-    _fields_ = [("status", c_uint32), ("classes", c_uint32)]
-
-
-class Fault(ctypes.Structure):
-    _fields_ = [("status", c_uint32), ("offset", c_uint64)]
-
-
-class Cursor(ctypes.Structure):
-    _fields_ = [("index", c_uint64), ("key", c_uint64), ("value", c_uint64)]
-
-
-class Number(ctypes.Structure):
-    _fields_ = [("status", c_uint32), ("scale", c_uint32), ("high", c_int64), ("low", c_uint64)]
-
-
-class Taken(ctypes.Structure):
-    """How many rows of a column have no value of its type but null, and the first of them."""
-    _fields_ = [("status", c_uint32), ("unfit", c_uint64), ("first_unfit", c_uint64)]
-
-
-class TypedFileTold(ctypes.Structure):
-    """How many rows and columns a file of typed columns has."""
-    _fields_ = [("status", c_uint32), ("rows", c_uint64), ("columns", c_uint64)]
-
-
-class TypedColumn(ctypes.Structure):
-    """A column of a file, and where its name and its buffers lie."""
-    _fields_ = [("type", c_uint32), ("scale", c_uint32), ("rows", c_uint64), ("name", c_uint64),
-                ("name_length", c_uint64), ("flags", c_uint64), ("flags_length", c_uint64),
-                ("numbers", c_uint64), ("numbers_length", c_uint64), ("texts", c_uint64),
-                ("texts_length", c_uint64)]
-
-
-class SurveyCounts(ctypes.Structure):
-    """In how many rows a member is what a count is named after."""
-    COUNTS = ("rows", "not_documents", "absent", "nulls", "booleans", "int64s", "uint64s",
-              "decimal64s", "decimal128s", "texts", "binaries", "dates", "timestamps",
-              "zoned_timestamps", "intervals", "opaques", "arrays", "objects")
-    _fields_ = [("status", c_uint32), ("least_scale", c_uint32), ("greatest_scale", c_uint32),
-                ("most_digits", c_uint64), ("longest_text", c_uint64),
-                *((it, c_uint64) for it in COUNTS)]
-
-
-class ExtensionValue(ctypes.Structure):
-    _fields_ = [("status", c_uint32), ("tag", c_uint32), ("value", c_int64), ("months", c_int32),
-                ("days", c_int32), ("seconds", c_int32), ("offset", c_uint64),
-                ("length", c_uint64)]
-
-
 def _open() -> ctypes.CDLL:
     """The library that KOHIBLAD_LIBRARY names, or of this package, or of the system."""
     beside = os.path.join(os.path.dirname(os.path.abspath(__file__)), FILE_NAME)
@@ -199,16 +135,22 @@ def _open() -> ctypes.CDLL:
 _library = _open()
 
 
-def _export(name: str, result: Any, *arguments: Any) -> Callable[..., Any]:
-    function = _library["kohiblad_" + name]
-    function.restype = result
-    function.argtypes = arguments
-    return function
+class _Exports:
+    """The exports by their names without kohiblad_, each from its first use on."""
+
+    def __getattr__(self, name: str) -> Callable[..., Any]:
+        if name not in PROTOTYPES:
+            raise AttributeError(f"there is no export {name}")
+        function = _library["kohiblad_" + name]
+        function.restype, *function.argtypes = PROTOTYPES[name]
+        setattr(self, name, function)
+        return function
 
 
-version = _export("version", c_uint32)
-if version() < OLDEST_VERSION:
-    raise ImportError(f"kohiblad needs {FILE_NAME} of version {OLDEST_VERSION}, not {version()}")
+exports = _Exports()
+if exports.version() < OLDEST_VERSION:
+    raise ImportError(f"kohiblad needs {FILE_NAME} of version {OLDEST_VERSION}, not "
+                      f"{exports.version()}")
 
 
 def _has_native() -> bool:
@@ -250,107 +192,30 @@ def addresses(*names: str) -> Dict[str, int]:
     return {name: ctypes.cast(_library["kohiblad_" + name], c_void_p).value or 0 for name in names}
 
 
-_BYTES = (c_char_p, c_size_t)
-_OUT = (c_void_p, c_size_t, c_void_p)
-_ROWS = (*_BYTES, c_void_p, c_size_t)
-
-check = _export("check", c_bool, *_BYTES, c_size_t)
-kind = _export("kind", Kind, *_BYTES)
-find = _export("find_key", Place, *_BYTES, *_BYTES)
-part = _export("find_index", Place, *_BYTES, c_size_t)
-find_in_prefix = _export("find_key_in_prefix", Place, *_BYTES, c_size_t, *_BYTES)
-item_in_prefix = _export("find_index_in_prefix", Place, *_BYTES, c_size_t, c_size_t)
-of_part = _export("copy", c_uint32, c_uint32, *_BYTES, *_OUT)
-number = _export("as_decimal", Number, *_BYTES)
-extension = _export("as_extension", ExtensionValue, *_BYTES)
-parse = _export("parse", c_uint32, *_BYTES, c_size_t, c_uint32, *_OUT)
-text_fault = _export("text_fault", Fault, *_BYTES, c_size_t, c_uint32)
-text_expected = _export("text_expected", Expected, *_BYTES, c_size_t, c_uint32)
-key = _export("key", c_uint32, *_BYTES, c_size_t, *_OUT)
-to_string = _export("print", c_uint32, *_BYTES, c_size_t, *_OUT)
-to_pretty = _export("pretty", c_uint32, *_BYTES, c_size_t, *_OUT)
-to_canonical = _export("canonical", c_uint32, *_BYTES, c_size_t, *_OUT)
-of_extension = _export("of_extension", c_uint32, c_uint32, c_int64, c_int32, c_int32, c_int32,
-                       *_BYTES, *_OUT)
-build_array = _export("build_array", c_uint32, *_ROWS, c_size_t, *_OUT)
-build_object = _export("build_object", c_uint32, *_ROWS, c_size_t, *_OUT)
-contains = _export("contains", Truth, *_BYTES, *_BYTES, c_size_t, c_size_t)
-exists = _export("exists", Truth, *_BYTES, *_BYTES, c_size_t)
-exists_any = _export("exists_any", Truth, *_BYTES, *_BYTES, c_size_t)
-exists_all = _export("exists_all", Truth, *_BYTES, *_BYTES, c_size_t)
-concat = _export("concat", c_uint32, *_BYTES, *_BYTES, c_size_t, *_OUT)
-merge_patch = _export("merge_patch", c_uint32, *_BYTES, *_BYTES, c_size_t, *_OUT)
-strip_nulls = _export("strip_nulls", c_uint32, *_BYTES, c_size_t, *_OUT)
-pick = _export("pick", c_uint32, *_BYTES, *_BYTES, c_uint32, c_size_t, *_OUT)
-array_distinct = _export("array_distinct", c_uint32, *_BYTES, c_size_t, *_OUT)
-array_intersection = _export("array_intersection", c_uint32, *_BYTES, *_BYTES, c_size_t, *_OUT)
-array_except = _export("array_except", c_uint32, *_BYTES, *_BYTES, c_size_t, *_OUT)
-array_overlap = _export("array_overlap", Truth, *_BYTES, *_BYTES, c_size_t)
-member_key = _export("member_key", c_uint32, *_BYTES, *_BYTES, c_size_t, *_OUT)
-edit = _export("edit", c_uint32, *_BYTES, *_BYTES, c_uint32, *_BYTES, c_size_t, *_OUT)
-path_in = _export("path_in", c_uint32, *_BYTES, *_BYTES, c_size_t, *_OUT)
-select = _export("select", c_uint32, *_BYTES, *_BYTES, c_size_t, *_OUT)
-index_keys = _export("index_keys", c_uint32, *_BYTES, c_size_t, *_OUT)
-top_keys = _export("top_keys", c_uint32, *_BYTES, c_size_t, *_OUT)
-path_of_given_text = _export("path_of_text", c_uint32, *_BYTES, *_OUT)
-get_path = _export("get_path", Place, *_BYTES, *_BYTES, c_size_t)
-# Of rows by their address, at the end of a path and within a depth.
-_MEMBERS = (c_void_p, c_size_t, c_void_p, c_size_t, *_BYTES, c_size_t)
-_COLUMN = (c_void_p, c_size_t, c_void_p, c_size_t)
-survey = _export("survey", SurveyCounts, *_MEMBERS)
-
-
-# Of bytes, places and the step from one to the next.
-_PLACES = (c_void_p, c_size_t, c_void_p, c_size_t, c_size_t)
 Takes = Tuple[Callable[..., Any], Callable[..., Any], Callable[..., Any]]
 
 
-def _take(name: str, *parameters: Any) -> Takes:
+def _take(name: str) -> Takes:
     """The call that takes the members of rows, the one that does not check the rows, and the one
     that takes them at places."""
-    return (_export(name, Taken, *_MEMBERS, *parameters),
-            _export(f"{name}_unchecked", Taken, *_MEMBERS, *parameters),
-            _export(f"{name}_at", Taken, *_PLACES, *parameters))
+    return (getattr(exports, f"take_{name}"), getattr(exports, f"take_{name}_unchecked"),
+            getattr(exports, f"take_{name}_at"))
 
 
-take_int64 = _take("take_int64", c_uint32, *_COLUMN)
-take_uint64 = _take("take_uint64", c_uint32, *_COLUMN)
-take_decimal = _take("take_decimal", c_uint32, c_uint32, *_COLUMN)
-take_boolean = _take("take_boolean", *_COLUMN)
-take_text = _take("take_text", *_OUT, *_COLUMN)
-take_binary = _take("take_binary", *_OUT, *_COLUMN)
-take_date = _take("take_date", *_COLUMN)
-take_timestamp = _take("take_timestamp", *_COLUMN)
-take_timestamp_tz = _take("take_timestamp_tz", *_COLUMN)
-take_interval = _take("take_interval", *_COLUMN)
-# Of names in place of a path, and of the places of their members by their address.
-locate = (_export("locate", c_uint32, *_MEMBERS, c_void_p, c_size_t),
-          _export("locate_unchecked", c_uint32, *_MEMBERS, c_void_p, c_size_t))
+take_int64 = _take("int64")
+take_uint64 = _take("uint64")
+take_decimal = _take("decimal")
+take_boolean = _take("boolean")
+take_text = _take("text")
+take_binary = _take("binary")
+take_date = _take("date")
+take_timestamp = _take("timestamp")
+take_timestamp_tz = _take("timestamp_tz")
+take_interval = _take("interval")
+locate = (exports.locate, exports.locate_unchecked)
 PLACE_SIZE = ctypes.sizeof(Place)
-# Of values and states by their addresses.
-_ZONES = (*_COLUMN, c_size_t, *_OUT)
-zones_int64 = _export("zones_int64", c_uint32, *_ZONES)
-zones_uint64 = _export("zones_uint64", c_uint32, *_ZONES)
-zones_decimal = _export("zones_decimal", c_uint32, *_ZONES)
-zones_date = _export("zones_date", c_uint32, *_ZONES)
-sort = _export("sort", c_uint32, c_void_p, c_size_t, c_void_p, c_size_t, c_size_t, c_void_p,
-               c_size_t)
-build_typed_file = _export("build_typed_file", c_uint32, *_ROWS, *_BYTES, *_BYTES, c_size_t, *_OUT)
-# Of a file by its address.
-_FILE = (c_void_p, c_size_t)
-check_typed_file = _export("check_typed_file", TypedFileTold, *_FILE, c_size_t)
-typed_columns = _export("typed_columns", c_uint32, *_FILE, *_OUT)
-typed_row = _export("typed_row", c_uint32, *_FILE, c_size_t, c_size_t, *_OUT)
-_begin = _export("begin", c_uint32, *_BYTES, c_void_p)
-_next = _export("next", c_uint32, *_BYTES, c_void_p, c_void_p, c_void_p)
-# The same of a document inside another, by its address.
-_INNER = (c_void_p, c_size_t)
-_kind_at = _export("kind", Kind, *_INNER)
-_find_at = _export("find_key", Place, *_INNER, *_BYTES)
-_part_at = _export("find_index", Place, *_INNER, c_size_t)
-_begin_at = _export("begin", c_uint32, *_INNER, c_void_p)
-_next_at = _export("next", c_uint32, *_INNER, c_void_p, c_void_p, c_void_p)
-_status_name = _export("status_name", c_uint32, c_uint32, *_OUT)
+# The counts of a survey: in how many rows a member is what each is named after.
+SURVEY_COUNTS = [name for name, *_ in SurveyCounts._fields_][5:]
 
 
 class Fixed:
@@ -475,7 +340,7 @@ def fitting(level_stack: int, *documents: bytes) -> int:
     depth = depth_of(level_stack, *documents)
     if depth < DEPTH:
         for it in documents:
-            if len(it) // _LEVEL_SIZE >= depth and not check(it, len(it), depth):
+            if len(it) // _LEVEL_SIZE >= depth and not exports.check(it, len(it), depth):
                 raise too_deep(depth)
     return depth
 
@@ -490,7 +355,7 @@ def result_of_document(call: Callable[..., int], guess: int, document: bytes,
 def expect_carried(data: bytes, depth: int) -> None:
     """TooDeepError: bytes, which need be no document, nest deeper than the stack carries."""
     if depth < DEPTH and len(data) // _LEVEL_SIZE >= depth \
-            and not check(data, len(data), depth) and _nests_deeper(data, depth):
+            and not exports.check(data, len(data), depth) and _nests_deeper(data, depth):
         raise too_deep(depth)
 
 
@@ -512,7 +377,7 @@ def _nests_deeper(data: bytes, depth: int) -> bool:
 
 def key_of(data: bytes) -> bytes:
     """The comparable key of bytes, which need be no document: then the call is refused."""
-    return result_of(key, guess_of(data), data, len(data), fitting(LEVEL_STACK, data))
+    return result_of(exports.key, guess_of(data), data, len(data), fitting(LEVEL_STACK, data))
 
 
 # A call over so many bytes may take a tenth of a second.
@@ -602,7 +467,7 @@ def path_of_text(document: bytes, text: bytes) -> bytes:
 
     PathError: the text is not a path.
     """
-    return result_of(path_in, guess_of(text), document, len(document), text, len(text),
+    return result_of(exports.path_in, guess_of(text), document, len(document), text, len(text),
                      fitting(LEVEL_STACK, document))
 
 
@@ -613,12 +478,12 @@ def places_of(document: bytes, path: bytes) -> List[Tuple[int, int, int]]:
     """
     size, each = len(document), ctypes.sizeof(Place)
     depth, room = fitting(LEVEL_STACK, document), _room_of(0)
-    status = select(document, size, path, len(path), depth, room.address, room.size // each,
-                    room.length_address)
+    status = exports.select(document, size, path, len(path), depth, room.address,
+                            room.size // each, room.length_address)
     if status == NO_ROOM:
         room = _Room(each * room.length.value)
-        status = select(document, size, path, len(path), depth, room.address, room.size // each,
-                        room.length_address)
+        status = exports.select(document, size, path, len(path), depth, room.address,
+                                room.size // each, room.length_address)
     if status != OK:
         raise error_of(status)
     found = ctypes.string_at(room.address, each * room.length.value)
@@ -629,7 +494,7 @@ def places_of(document: bytes, path: bytes) -> List[Tuple[int, int, int]]:
 
 def status_name(status: int) -> str:
     """The library's name of a status."""
-    return result_of(_status_name, 0, status).decode()
+    return result_of(exports.status_name, 0, status).decode()
 
 
 def error_of(status: int, message: str = "") -> KohibladError:
@@ -651,9 +516,9 @@ def children(document: bytes) -> Iterator[Tuple[bytes, int, bytes]]:
     cursor = ctypes.addressof(state)
     key_place = cursor + ctypes.sizeof(Cursor)
     place = key_place + ctypes.sizeof(Place)
-    status = _begin(document, size, cursor)
+    status = exports.begin(document, size, cursor)
     while status == OK:
-        status = _next(document, size, cursor, key_place, place)
+        status = exports.next(document, size, cursor, key_place, place)
         if status == OK:
             key_at, key_size, type_, at, length = _STATE.unpack_from(state)
             yield document[key_at:key_at + key_size], type_, document[at:at + length]
@@ -697,9 +562,9 @@ def member_places(document: bytes, at: int, size: int) -> Iterator[Tuple[int, in
     cursor = ctypes.addressof(state)
     key_place = cursor + ctypes.sizeof(Cursor)
     place = key_place + ctypes.sizeof(Place)
-    status = _begin_at(address, size, cursor)
+    status = exports.begin(address, size, cursor)
     while status == OK:
-        status = _next_at(address, size, cursor, key_place, place)
+        status = exports.next(address, size, cursor, key_place, place)
         if status == OK:
             key_at, key_size, type_, child_at, length = _STATE.unpack_from(state)
             yield at + key_at, key_size, type_, at + child_at, length
@@ -707,16 +572,16 @@ def member_places(document: bytes, at: int, size: int) -> Iterator[Tuple[int, in
         raise error_of(status)
 
 
-def kind_at(document: bytes, at: int, size: int) -> Kind:
+def kind_at(document: bytes, at: int, size: int) -> ValueKind:
     """The kind of the document at an offset in another one, and how many children it has."""
-    it: Kind = _kind_at(_address_of(document) + at, size)
+    it: ValueKind = exports.kind(_address_of(document) + at, size)
     return it
 
 
 def header_status(data: bytes) -> int:
     """OK if the first word is of an array or object, NONE if of a scalar, or an error's status."""
     cursor = Cursor()
-    status: int = _begin(data, len(data), ctypes.addressof(cursor))
+    status: int = exports.begin(data, len(data), ctypes.addressof(cursor))
     return status
 
 
@@ -732,13 +597,13 @@ def place_of_path(document: bytes, steps: Sequence[Union[bytes, int]]) \
         if type_ != TYPE_CONTAINER:
             return None
         if isinstance(step, bytes):
-            place = _find_at(front + at, size, step, len(step))
+            place = exports.find_key(front + at, size, step, len(step))
         else:
-            it = _kind_at(front + at, size)
+            it = exports.kind(front + at, size)
             number = step if step >= 0 else it.count + step
             if it.kind != ARRAY_KIND or not 0 <= number < it.count:
                 return None
-            place = _part_at(front + at, size, number)
+            place = exports.find_index(front + at, size, number)
         if place.status != OK:
             return None
         type_, at, size = place.type, at + place.offset, place.length
@@ -754,7 +619,7 @@ def payload_of(document: bytes, place: Place) -> bytes:
 def build(call: Callable[..., int], rows: Sequence[bytes]) -> bytes:
     """What `build_array` or `build_object` make of rows that were checked before."""
     # Those of an object are keys and values in turn.
-    depth = fitting(LEVEL_STACK, *(rows[1::2] if call is build_object else rows))
+    depth = fitting(LEVEL_STACK, *(rows[1::2] if call is exports.build_object else rows))
     offsets = (c_size_t * (len(rows) + 1))()
     end = 0
     for index, row in enumerate(rows, 1):
@@ -767,7 +632,7 @@ def build(call: Callable[..., int], rows: Sequence[bytes]) -> bytes:
 
 def _document_of_part(type_: int, payload: bytes) -> bytes:
     size = len(payload)
-    return result_of(of_part, size + SCALAR_FRONT, type_, payload, size)
+    return result_of(exports.copy, size + SCALAR_FRONT, type_, payload, size)
 
 
 @lru_cache(maxsize=256)

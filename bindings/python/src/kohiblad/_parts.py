@@ -8,6 +8,7 @@ from typing import Iterator, NamedTuple, Optional
 
 from . import _library as library
 from ._errors import printable
+from ._library import exports
 
 WORD = 4
 KINDS = {library.TYPE_NULL: "null", library.TYPE_FALSE: "boolean", library.TYPE_TRUE: "boolean",
@@ -56,7 +57,7 @@ def _shown(text: str) -> str:
 
 def _text_of(scalar: bytes) -> str:
     """The JSON text of a scalar's document, to be shown."""
-    text = library.result_of(library.to_string, library.guess_of(scalar), scalar, len(scalar), 0)
+    text = library.result_of(exports.print, library.guess_of(scalar), scalar, len(scalar), 0)
     return _shown(text.decode())
 
 
@@ -65,9 +66,9 @@ def _meaning_of(type_: int, payload: bytes) -> str:
     size = len(scalar)
     meaning = _text_of(scalar)
     if type_ == library.TYPE_EXTENSION:
-        tag = library.extension(scalar, size).tag
+        tag = exports.as_extension(scalar, size).tag
         meaning = f"{EXTENSIONS.get(tag) or f'opaque, tag {tag:02x}'} {meaning}"
-    if library.result_of(library.to_canonical, size, scalar, size, 0) != scalar:
+    if library.result_of(exports.canonical, size, scalar, size, 0) != scalar:
         meaning += " (old form)"
     return meaning
 

@@ -6,6 +6,7 @@ from typing import Iterable, NamedTuple, Union, cast
 from . import _iso as iso
 from . import _library as library
 from ._errors import NumberError
+from ._library import exports
 
 if library.IS_NATIVE:
     from . import _native as native
@@ -111,7 +112,7 @@ def scalar_of(type_: int, payload: bytes) -> Scalar:
 
 
 def _number_of(document: bytes) -> Union[int, Decimal]:
-    number = library.number(document, len(document))
+    number = exports.as_decimal(document, len(document))
     if number.status:
         raise library.error_of(number.status)
     return decimal_of(number.high << 64 | number.low, number.scale)
@@ -130,7 +131,7 @@ def decimals_of(numbers: Iterable[int], scale: int) -> Iterable[Union[int, Decim
 
 
 def _extension_of(document: bytes) -> Scalar:
-    it = library.extension(document, len(document))
+    it = exports.as_extension(document, len(document))
     if it.status:
         raise library.error_of(it.status)
     return extension_of(it.tag, it.value, it.months, it.days, it.seconds,
@@ -271,5 +272,5 @@ def _extension(tag: int, value: int = 0, months: int = 0, days: int = 0, seconds
             raise library.error_of(library.INVALID_JSONB_EXTENSION, f"{field} has over {bits} bits")
     if library.IS_NATIVE:
         return native.of_extension(tag, value, months, days, seconds, data)
-    return library.result_of(library.of_extension, len(data) + 32, tag, value, months, days,
+    return library.result_of(exports.of_extension, len(data) + 32, tag, value, months, days,
                              seconds, data, len(data))

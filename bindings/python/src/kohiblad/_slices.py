@@ -10,6 +10,7 @@ from . import _changes as changes
 from . import _library as library
 from ._changes import Step
 from ._document import Document, ScalarDocument
+from ._library import exports
 
 if TYPE_CHECKING:
     from typing import Protocol
@@ -58,7 +59,7 @@ def read_path(file: "Seekable", *steps: Step, offset: int = 0, size: Optional[in
 
 def _value_of(type_: int, payload: bytes) -> Any:
     if type_ != library.TYPE_CONTAINER:
-        payload = library.result_of(library.of_part, len(payload) + library.SCALAR_FRONT, type_,
+        payload = library.result_of(exports.copy, len(payload) + library.SCALAR_FRONT, type_,
                                     payload, len(payload))
     document = Document(payload)
     return document.value() if isinstance(document, ScalarDocument) else document
@@ -113,12 +114,12 @@ def _find_in(prefix: bytes, size: int, step: Step) -> library.Place:
             name = step.encode()
         except UnicodeEncodeError:
             return library.Place(status=library.NONE)
-        return library.find_in_prefix(prefix, len(prefix), size, name, len(name))
+        return exports.find_key_in_prefix(prefix, len(prefix), size, name, len(name))
     if step < 0:
-        it = library.kind(prefix, len(prefix))
+        it = exports.kind(prefix, len(prefix))
         if it.status != library.OK:
             raise library.error_of(it.status)
         step += it.count
     if step < 0:
         return library.Place(status=library.NONE)
-    return library.item_in_prefix(prefix, len(prefix), size, step)
+    return exports.find_index_in_prefix(prefix, len(prefix), size, step)

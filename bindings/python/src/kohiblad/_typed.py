@@ -16,6 +16,7 @@ from . import _library as library
 from ._changes import Step, document_of_path, name_of_path, path_text
 from ._document import Document
 from ._errors import KohibladError, UnfitError, warn
+from ._library import exports
 from ._scalars import Interval, date_of, decimal_of, decimals_of, timestamp_of, timestamp_tz_of
 from ._zones import Zones, zones_of
 
@@ -137,15 +138,15 @@ class Survey(NamedTuple):
 
 def survey_of(batches: Iterable[Batch], steps: Tuple[Step, ...]) -> Survey:
     path = document_of_path(steps)
-    totals = [0] * len(library.SurveyCounts.COUNTS)
+    totals = [0] * len(library.SURVEY_COUNTS)
     least_scale, greatest_scale, most_digits, longest_text, has_numbers = 0, 0, 0, 0, False
     for batch in batches:
-        it = library.survey(batch.data, batch.end, batch.offsets, batch.length + 1, path, len(path),
+        it = exports.survey(batch.data, batch.end, batch.offsets, batch.length + 1, path, len(path),
                             batch.depth)
         if it.status != library.OK:
             raise library.error_of(it.status)
         totals = [total + getattr(it, name)
-                  for total, name in zip(totals, library.SurveyCounts.COUNTS)]
+                  for total, name in zip(totals, library.SURVEY_COUNTS)]
         if it.int64s or it.uint64s or it.decimal64s or it.decimal128s:
             least_scale = min(least_scale, it.least_scale) if has_numbers else it.least_scale
             has_numbers = True
@@ -481,7 +482,7 @@ def _int128(low: int, high: int) -> int:
 
 def _member_of(row: bytes, path: bytes) -> Document:
     """The document of the member that a row has at the end of a path."""
-    place = library.get_path(row, len(row), path, len(path),
+    place = exports.get_path(row, len(row), path, len(path),
                              library.fitting(library.LEVEL_STACK, row))
     if place.status != library.OK:
         raise library.error_of(place.status)
@@ -769,7 +770,7 @@ def _told_mixture(words: str) -> _Mixture:
 def _kind_of(member: Document) -> str:
     if member.kind == "extension":
         data = bytes(member)
-        return _EXTENSION_KINDS.get(library.extension(data, len(data)).tag, "opaque")
+        return _EXTENSION_KINDS.get(exports.as_extension(data, len(data)).tag, "opaque")
     return {"string": "text"}.get(member.kind, member.kind)
 
 

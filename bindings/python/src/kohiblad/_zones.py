@@ -5,16 +5,17 @@ from datetime import date, datetime, timedelta
 from typing import Any, Callable, Dict, List, Optional, Tuple, Union
 
 from . import _library as library
+from ._library import exports
 from ._scalars import Date, Timestamp, date_of, decimals_of, timestamp_of
 
 _EPOCH = datetime(1970, 1, 1)
 # The calls of the types, and their structs: the limits, and whether there is a value.
 _KINDS: Dict[str, Tuple[Callable[..., int], struct.Struct]] = {
-    "int64": (library.zones_int64, struct.Struct("=qqQ")),
-    "uint64": (library.zones_uint64, struct.Struct("=QQQ")),
-    "decimal": (library.zones_decimal, struct.Struct("=QqQqQ")),
-    "date": (library.zones_date, struct.Struct("=iiQ")),
-    "timestamp": (library.zones_int64, struct.Struct("=qqQ")),
+    "int64": (exports.zones_int64, struct.Struct("=qqQ")),
+    "uint64": (exports.zones_uint64, struct.Struct("=QQQ")),
+    "decimal": (exports.zones_decimal, struct.Struct("=QqQqQ")),
+    "date": (exports.zones_date, struct.Struct("=iiQ")),
+    "timestamp": (exports.zones_int64, struct.Struct("=qqQ")),
 }
 
 

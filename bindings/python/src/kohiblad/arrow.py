@@ -35,6 +35,7 @@ from . import _typed as typed
 from ._changes import DocumentPath, Step, path_text, steps_of, warn_of_missing
 from ._document import Document, path_error, steps_of_name, steps_of_text
 from ._errors import KohibladError, OutOfMemoryError, TooDeepError, warn
+from ._library import exports
 from ._stack import DEPTH
 from ._typed import Survey, Typed
 from ._zones import Zones
@@ -119,7 +120,7 @@ class _Rows(NamedTuple):
     def sorted_run(self, first: int, count: int) -> List[int]:
         """The numbers of some rows, in their order. Raises as `depth_of`."""
         order, depth = (c_size_t * count)(), self.depth_of(first, count)
-        status = library.sort(self.data, self.offsets[self.first + first + count],
+        status = exports.sort(self.data, self.offsets[self.first + first + count],
                               self.offsets_at(first), count + 1, depth, order, count)
         if status != library.OK:
             raise library.error_of(status)

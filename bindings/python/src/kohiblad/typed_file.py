@@ -21,6 +21,7 @@ from . import _library as library
 from ._changes import document_of_path, edited, warn_of_missing
 from ._document import Document, path_error, steps_of_name
 from ._iso import READERS
+from ._library import exports
 from ._scalars import (Date, Interval, Timestamp, TimestampTz, date_of, decimal_of,
                        document_of_raw_date, document_of_timestamp, document_of_timestamp_tz,
                        timestamp_of, timestamp_tz_of)
@@ -98,7 +99,7 @@ def _with_dates(rows: List[bytes], types: Mapping[str, str]) -> List[bytes]:
 
 
 def _with_date(row: bytes, name: str, kind: str) -> bytes:
-    place = library.find(row, len(row), *_key_of(name))
+    place = exports.find_key(row, len(row), *_key_of(name))
     if place.status or place.type != library.TYPE_STRING:
         return row
     numbers = READERS[kind](library.payload_of(row, place))
@@ -111,7 +112,7 @@ def _tell_missing(rows: List[bytes], names: List[str]) -> None:
     for row in rows:
         if not missing:
             return
-        missing = [it for it in missing if library.find(row, len(row), *_key_of(it)).status]
+        missing = [it for it in missing if exports.find_key(row, len(row), *_key_of(it)).status]
     for name in missing:
         meant = steps_of_name(name)
         if meant and any(_leads_somewhere(row, document_of_path(meant)) for row in rows):
@@ -129,7 +130,7 @@ def _key_of(name: str) -> Tuple[bytes, int]:
 def _leads_somewhere(row: bytes, path: bytes) -> bool:
     """Whether a row has something at the end of a path."""
     depth = library.fitting(library.LEVEL_STACK, row)
-    status: int = library.get_path(row, len(row), path, len(path), depth).status
+    status: int = exports.get_path(row, len(row), path, len(path), depth).status
     return status == library.OK
 
 
@@ -298,7 +299,7 @@ class TypedFile(library.Fixed, Sequence[Document]):
                            _is_checked=bool(check))
         told = self._told()
         if check or not told:
-            checked = library.check_typed_file(self._at, self._size,
+            checked = exports.check_typed_file(self._at, self._size,
                                                library.depth_left(library.LEVEL_STACK))
             if checked.status != library.OK:
                 raise library.error_of(checked.status)
@@ -313,7 +314,7 @@ class TypedFile(library.Fixed, Sequence[Document]):
         count = ctypes.c_size_t()
         told: Any = (library.TypedColumn * 0)()
         while True:
-            status = library.typed_columns(self._at, self._size, ctypes.addressof(told),
+            status = exports.typed_columns(self._at, self._size, ctypes.addressof(told),
                                            len(told), ctypes.addressof(count))
             if status != library.NO_ROOM:
                 break
@@ -351,7 +352,7 @@ class TypedFile(library.Fixed, Sequence[Document]):
         offsets = array.array("Q", accumulate(map(len, rows), initial=0))
         # Each column has at most 16 bytes and a bit for a row.
         guess = 2 * end + len(rows) * (17 * len(names) + 8) + 64 * len(names) + 64
-        words = (library.build_typed_file, guess, data, end, offsets.buffer_info()[0],
+        words = (exports.build_typed_file, guess, data, end, offsets.buffer_info()[0],
                  len(offsets), listed, len(listed), kinds, len(kinds))
         if library.is_long(data):
             return cast(bytes, library.attended(guess, _built, rows, offsets, *words))
@@ -392,7 +393,7 @@ class TypedFile(library.Fixed, Sequence[Document]):
         deep. IndexError: there is no such row."""
         if not 0 <= index < self._length:
             raise IndexError("row out of range")
-        return Document(library.result_of(library.typed_row, 0, self._at, self._size, index,
+        return Document(library.result_of(exports.typed_row, 0, self._at, self._size, index,
                                           library.depth_left(library.EDIT_LEVEL_STACK)))
 
     @property
