@@ -51,6 +51,7 @@ extern crate alloc;
 pub mod bytes;
 mod children;
 mod error;
+mod exports;
 #[allow(unsafe_code)]
 mod ffi;
 mod key;
