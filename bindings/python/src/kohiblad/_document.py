@@ -937,10 +937,7 @@ def dumps(value: Any) -> str:
 
 if IS_NATIVE:
     native.bind(
-        library.addresses("as_boolean", "as_decimal", "as_extension", "as_string", "begin",
-                          "build_array", "build_object", "canonical", "check", "concat", "copy",
-                          "edit", "find_index", "find_key", "key", "kind", "merge_patch", "next",
-                          "of_extension", "parse", "pretty", "print", "select", "strip_nulls"),
+        library.export_address,
         {"scalar_document": ScalarDocument, "object_document": ObjectDocument,
          "array_document": ArrayDocument, "data_slot": vars(Document)["_data"],
          "key_slot": vars(Document)["_key"], "decimal": Decimal, "bytes_of_text": bytes_of_text,

@@ -187,9 +187,9 @@ depth_of: Callable[..., int] = \
     (lambda level_stack, *data: native.depth_left(level_stack)) if IS_NATIVE else _stack.depth_of
 
 
-def addresses(*names: str) -> Dict[str, int]:
-    """The addresses of some exports, by their names without kohiblad_."""
-    return {name: ctypes.cast(_library["kohiblad_" + name], c_void_p).value or 0 for name in names}
+def export_address(name: str) -> int:
+    """The address of an export, named without kohiblad_."""
+    return ctypes.cast(_library["kohiblad_" + name], c_void_p).value or 0
 
 
 Takes = Tuple[Callable[..., Any], Callable[..., Any], Callable[..., Any]]

@@ -2,14 +2,14 @@
 
 ``data`` are the bytes of a checked document. Errors are those of the package's own functions.
 """
-from typing import Any, Dict, Iterator, List, Optional, Tuple, Union
+from typing import Any, Callable, Dict, Iterator, List, Optional, Tuple, Union
 
 from ._document import Child, Document, Value
 
 # The version of the package that the module was built for.
 VERSION: str
 
-def bind(exports: Dict[str, int], objects: Dict[str, Any]) -> None:
+def bind(export_address: Callable[[str], int], objects: Dict[str, Any]) -> None:
     """Takes the addresses of the library's exports, and what the package has for the module."""
 
 def releases(exported: Dict[int, Any]) -> Tuple[int, int, int]:

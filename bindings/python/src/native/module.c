@@ -4,12 +4,8 @@
 #include <string.h>
 
 static const struct { const char *name; size_t offset; } exports[] = {
-#define EXPORT(name) { #name, offsetof(struct library, name) }
-    EXPORT(as_boolean), EXPORT(as_decimal), EXPORT(as_extension), EXPORT(as_string), EXPORT(begin),
-    EXPORT(build_array), EXPORT(build_object), EXPORT(canonical), EXPORT(check), EXPORT(concat),
-    EXPORT(copy), EXPORT(edit), EXPORT(find_index), EXPORT(find_key), EXPORT(key), EXPORT(kind),
-    EXPORT(merge_patch), EXPORT(next), EXPORT(of_extension), EXPORT(parse), EXPORT(pretty),
-    EXPORT(print), EXPORT(select), EXPORT(strip_nulls),
+#define ROW(name) { #name, offsetof(struct library, name) },
+    EXPORTS(ROW)
 };
 
 static const struct { const char *name; size_t offset; } objects[] = {
@@ -55,25 +51,31 @@ bool open_data(PyObject *data, struct input *input)
     return true;
 }
 
-/* bind(exports, objects): takes the addresses of the library's exports, and what the package has
- * for the module, both by their names. ValueError: a name is missing. */
+/* The address of an export, which a function of Python returns by its name; NULL after an error. */
+static void *address_of(PyObject *find, const char *name)
+{
+    PyObject *found = PyObject_CallFunction(find, "s", name);
+    void *address = found ? PyLong_AsVoidPtr(found) : NULL;
+    Py_XDECREF(found);
+    if (!address && !PyErr_Occurred())
+        PyErr_Format(PyExc_ValueError, "there is no export %s", name);
+    return address;
+}
+
+/* bind(export_address, objects): takes the addresses of the library's exports, which a function
+ * returns by their names, and what the package has for the module. ValueError: one is missing. */
 static PyObject *native_bind(PyObject *module, PyObject *const *arguments, Py_ssize_t count)
 {
     struct state *state = PyModule_GetState(module);
     if (!state || !has_count(count, 2)) return NULL;
-    if (!PyDict_Check(arguments[0]) || !PyDict_Check(arguments[1])) {
-        PyErr_SetString(PyExc_TypeError, "two dicts are needed");
+    if (!PyCallable_Check(arguments[0]) || !PyDict_Check(arguments[1])) {
+        PyErr_SetString(PyExc_TypeError, "a function and a dict are needed");
         return NULL;
     }
     state->is_bound = false;
     for (size_t i = 0; i < COUNT_OF(exports); i++) {
-        PyObject *given = PyDict_GetItemString(arguments[0], exports[i].name);
-        void *address = given ? PyLong_AsVoidPtr(given) : NULL;
-        if (!address) {
-            if (!PyErr_Occurred())
-                PyErr_Format(PyExc_ValueError, "there is no export %s", exports[i].name);
-            return NULL;
-        }
+        void *address = address_of(arguments[0], exports[i].name);
+        if (!address) return NULL;
         memcpy((char *)&state->library + exports[i].offset, &address, sizeof address);
     }
     for (size_t i = 0; i < COUNT_OF(objects); i++) {

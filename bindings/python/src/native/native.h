@@ -35,32 +35,19 @@ static inline PyObject *Py_NewRef(PyObject *object)
 /* Python's lock is released for calls over so many bytes or more. */
 #define LONG_SIZE (1 << 14)
 
-/* The exports of the library that are called, each of the header's type. */
+/* The exports of the library that are called. */
+#define EXPORTS(EXPORT) \
+    EXPORT(as_boolean) EXPORT(as_decimal) EXPORT(as_extension) EXPORT(as_string) EXPORT(begin) \
+    EXPORT(build_array) EXPORT(build_object) EXPORT(canonical) EXPORT(check) EXPORT(concat) \
+    EXPORT(copy) EXPORT(edit) EXPORT(find_index) EXPORT(find_key) EXPORT(key) EXPORT(kind) \
+    EXPORT(merge_patch) EXPORT(next) EXPORT(of_extension) EXPORT(parse) EXPORT(pretty) \
+    EXPORT(print) EXPORT(select) EXPORT(strip_nulls)
+
+/* They are of the header's types. */
 struct library {
-    __typeof__(kohiblad_export_as_boolean) *as_boolean;
-    __typeof__(kohiblad_export_as_decimal) *as_decimal;
-    __typeof__(kohiblad_export_as_extension) *as_extension;
-    __typeof__(kohiblad_export_as_string) *as_string;
-    __typeof__(kohiblad_export_begin) *begin;
-    __typeof__(kohiblad_export_build_array) *build_array;
-    __typeof__(kohiblad_export_build_object) *build_object;
-    __typeof__(kohiblad_export_canonical) *canonical;
-    __typeof__(kohiblad_export_check) *check;
-    __typeof__(kohiblad_export_concat) *concat;
-    __typeof__(kohiblad_export_copy) *copy;
-    __typeof__(kohiblad_export_edit) *edit;
-    __typeof__(kohiblad_export_find_index) *find_index;
-    __typeof__(kohiblad_export_find_key) *find_key;
-    __typeof__(kohiblad_export_key) *key;
-    __typeof__(kohiblad_export_kind) *kind;
-    __typeof__(kohiblad_export_merge_patch) *merge_patch;
-    __typeof__(kohiblad_export_next) *next;
-    __typeof__(kohiblad_export_of_extension) *of_extension;
-    __typeof__(kohiblad_export_parse) *parse;
-    __typeof__(kohiblad_export_pretty) *pretty;
-    __typeof__(kohiblad_export_print) *print;
-    __typeof__(kohiblad_export_select) *select;
-    __typeof__(kohiblad_export_strip_nulls) *strip_nulls;
+#define FIELD(name) __typeof__(kohiblad_export_##name) *name;
+    EXPORTS(FIELD)
+#undef FIELD
 };
 
 /* Names that were read lately, each at the place that its bytes choose. */
