@@ -15,7 +15,7 @@ struct block {
 
 #ifdef GUARD
 #include <sys/mman.h>
-enum { PAGE = 4096, MOST = 64, SLOTS = 256 };
+enum { PAGE = 4096, MOST = 64, SLOTS = 512 };
 static struct block make(size_t size) {
     static uint8_t *ring;
     static unsigned turn;

@@ -3,7 +3,7 @@
  * asserted beside what one call says of another's. */
 #define _DEFAULT_SOURCE
 #include "block.h"
-#include "kohiblad.h"
+#include "exports.h"
 
 #include <stdio.h>
 #include <time.h>
@@ -1226,6 +1226,50 @@ static void answer_functions(struct block b, struct block other, size_t depth, s
     select_within(b, shallow, depth, kohiblad_kind(b.at, b.size));
 }
 
+/* What a call reads: bytes, or numbers that may be offsets in them. */
+static struct block read_by(size_t each, struct block b, struct block other) {
+    if (each == 1) return below(3) ? copy_of(b.at, b.size) : copy_of(other.at, other.size);
+    struct block made = make(each * (1 + below(4)));
+    memset(made.at, 0, made.size);
+    for (size_t i = 0; i + sizeof(size_t) <= made.size; i += sizeof(size_t)) {
+        size_t offset = below((uint32_t)b.size + 2);
+        memcpy(made.at + i, &offset, sizeof offset);
+    }
+    return made;
+}
+
+/* Some export over any bytes: nothing is written but with OK, and then no more than there is room
+ * for, which is said by what is beside the blocks. */
+static void call_some(struct block b, struct block other, size_t depth) {
+    enum { EXPORTS = sizeof exports / sizeof *exports, LARGEST = 8 * ROOM };
+    static uint8_t before[MOST_REGIONS][LARGEST];
+    const struct export *it = &exports[below(EXPORTS)];
+    struct arguments arguments = { { { NULL, 0 } }, depth };
+    struct block blocks[MOST_REGIONS];
+    int count = 0;
+    for (; count < MOST_REGIONS && it->regions[count].role != NOTHING; count++) {
+        enum role role = it->regions[count].role;
+        size_t each = it->regions[count].each;
+        struct block made = role == READ ? read_by(each, b, other)
+            : make(role == VALUES ? each * (1 + below(40)) : each);
+        if (role != READ) memset(made.at, 0xA5, made.size);
+        blocks[count] = made;
+        assert(made.size <= LARGEST);
+        memcpy(before[count], made.at, made.size);
+        arguments.regions[count] = (struct region){ made.at, made.size };
+    }
+    uint32_t status = it->call(&arguments);
+    for (int k = 0; k < count; k++) {
+        bool is_same = !memcmp(blocks[k].at, before[k], blocks[k].size);
+        enum role role = it->regions[k].role;
+        assert(is_same || (role == VALUES ? status == KOHIBLAD_OK : role != READ));
+        size_t written = 0;
+        if (role == COUNT) memcpy(&written, blocks[k].at, sizeof written);
+        if (status != KOHIBLAD_OK && status != KOHIBLAD_NO_ROOM) assert(written == 0);
+        drop(blocks[k]);
+    }
+}
+
 /* Whether so many minutes have gone by. */
 static bool is_over(double minutes) {
     static time_t start;
@@ -1371,6 +1415,10 @@ int main(int argc, char **argv) {
         answer_within(b, shallow, depth, out);
         struct block asked = copy_of(docs[other], sizes[other]), wide = make(below(256));
         answer_functions(b, asked, depth, wide);
+        kept = state;
+        call_some(b, asked, depth);
+        call_some(asked, b, depth);
+        state = kept;
         drop(wide);
         drop(asked);
 
