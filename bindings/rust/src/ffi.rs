@@ -418,7 +418,7 @@ fn progress_of(place: &Place) -> Result<Progress, Error> {
         NONE => Ok(Progress::Absent),
         status => tested(status).map(|()| {
             Progress::Found(Slice {
-                entry_type: place.entry_type,
+                entry_type: place.r#type,
                 offset,
                 length,
             })
