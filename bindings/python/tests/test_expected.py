@@ -64,8 +64,8 @@ class ExpectedTest(unittest.TestCase):
                 named = set().union(*(NAMED.get(it, it.strip("'")) for it in words))
                 can_come = set()
                 for it in map(chr, range(33, 127)):
-                    text = beginning + it.encode()
-                    fault = library.exports.text_fault(text, size + 1, 1000, True)
+                    tried = beginning + it.encode()
+                    fault = library.exports.text_fault(tried, size + 1, 1000, True)
                     if fault.status == library.OK or fault.offset > size:
                         can_come.add(it)
                 if "a hexadecimal digit" in words:
