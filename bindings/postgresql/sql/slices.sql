@@ -37,16 +37,16 @@ SELECT name, length(d::bytea) > 100000, pg_column_size(d) < length(d::bytea) / 2
 ORDER BY name;
 
 -- Each look-up finds what it finds in all bytes.
-CREATE TABLE asked AS
+CREATE TABLE sought AS
     SELECT 'key' || i AS key, i AS index
     FROM unnest('{0,1,2,3,7,23,99,299,300,599,600,8000}'::int[]) i
     UNION ALL VALUES ('a', -1), ('b', -2), ('none', -3000), ('', 2999);
-SELECT count(*) FROM long, asked WHERE (d -> key) IS DISTINCT FROM ((d #> '{}') -> key)
+SELECT count(*) FROM long, sought WHERE (d -> key) IS DISTINCT FROM ((d #> '{}') -> key)
     OR (d ->> key) IS DISTINCT FROM ((d #> '{}') ->> key)
     OR (d ? key) IS DISTINCT FROM ((d #> '{}') ? key)
     OR (d -> index) IS DISTINCT FROM ((d #> '{}') -> index)
     OR (d ->> index) IS DISTINCT FROM ((d #> '{}') ->> index);
-SELECT count(*) FROM long, asked,
+SELECT count(*) FROM long, sought,
     unnest(ARRAY['[1,"in",1]', '[-1]', '["id"]', '["tags",0]', '["tags",2]', '[1,"key3"]', '[]',
                  '[1,"key600"]', '["1"]']::kohiblad[]) rest,
     LATERAL (SELECT kohiblad_build_array(key) || rest AS by_key,
