@@ -152,6 +152,16 @@ least_times() {
         END { for (mark in least) print mark, least[mark] }' "$scratch/told"
 }
 
+# One line of the table: a name, and what both types take of 150 and of 350 bytes.
+print_row() {
+    awk -v name="$1" -v ours="$2" -v theirs="$3" -v long="$4" -v their_long="$5" '
+        BEGIN { gsub(/[|]/, "\\|", name)
+                printf("| %s | %.2f | %.2f | %.1f | %.1f |\n", name, ours / theirs,
+                       long / their_long, long, their_long) }'
+}
+
+bytes_of() { psql -At -c "SELECT avg(pg_column_size(doc)) FROM in_$1"; }
+
 print_table() {
     local number size type ms
     declare -A times
@@ -161,13 +171,9 @@ print_table() {
     echo "| of the time of \`jsonb\` | 150 bytes | 350 bytes | ms of 350 | \`jsonb\` |"
     echo "|---|---|---|---|---|"
     for number in "${!names[@]}"; do
-        awk -v name="${names[$number]//TYPE/kohiblad}" \
-            -v ours="${times["$number 150 kohiblad"]}" -v theirs="${times["$number 150 jsonb"]}" \
-            -v long="${times["$number 350 kohiblad"]}" \
-            -v their_long="${times["$number 350 jsonb"]}" \
-            'BEGIN { gsub(/[|]/, "\\|", name)
-                     printf("| %s | %.2f | %.2f | %.1f | %.1f |\n", name, ours / theirs,
-                            long / their_long, long, their_long) }' < /dev/null
+        print_row "${names[$number]//TYPE/kohiblad}" "${times["$number 150 kohiblad"]}" \
+            "${times["$number 150 jsonb"]}" "${times["$number 350 kohiblad"]}" \
+            "${times["$number 350 jsonb"]}"
     done
 }
 
@@ -184,9 +190,6 @@ while [ $rounds = 0 ] || [ $((SECONDS - started)) -lt "$seconds" ]; do
     run_rounds
 done
 least_times | print_table
-psql -At -F ' | ' -c "SELECT '| bytes a row | ' || (SELECT format('%s of %s',
-        (SELECT avg(pg_column_size(doc))::int FROM in_kohiblad_150),
-        (SELECT avg(pg_column_size(doc))::int FROM in_jsonb_150))),
-    (SELECT avg(pg_column_size(doc))::int FROM in_kohiblad_350),
-    (SELECT avg(pg_column_size(doc))::int FROM in_jsonb_350)"
+print_row 'bytes a row' "$(bytes_of kohiblad_150)" "$(bytes_of jsonb_150)" \
+    "$(bytes_of kohiblad_350)" "$(bytes_of jsonb_350)"
 echo "$rounds rounds, seed $seed, load $(cut -d ' ' -f 1-3 /proc/loadavg)"
