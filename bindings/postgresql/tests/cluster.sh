@@ -206,7 +206,7 @@ run_estimates() {
     for server in 1 2 3; do ask 0 "DROP STATISTICS goods_of_price_$server"; done
     expect_planned "$unknown" f
     for server in 1 2 3; do
-        ask "$server" "CREATE STATISTICS ON (doc -> 'price') FROM goods_$server"
+        ask "$server" "CREATE STATISTICS of_price ON (doc -> 'price') FROM goods_$server"
         ask "$server" "ANALYZE goods_$server"
         ask 0 "ALTER SERVER s$server OPTIONS (ADD use_remote_estimate 'true')"
     done
