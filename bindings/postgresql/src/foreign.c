@@ -3,7 +3,8 @@
  * Their keys are texts, and a text has a collation, so postgres_fdw does not send them. So on a
  * foreign table the planner turns them into kohiblad_has, _has_any and _has_all, whose keys are a
  * document. On any other table it turns these into the operators, which have indexes and
- * statistics: so the server that is asked finds its index. */
+ * statistics: so the server that is asked finds its index. How many rows of a foreign table such a
+ * function finds is what the operator would find. */
 #include "at.h"
 
 #include "catalog/pg_class.h"
@@ -17,6 +18,7 @@
 #include "nodes/nodeFuncs.h"
 #include "nodes/pathnodes.h"
 #include "nodes/supportnodes.h"
+#include "optimizer/plancat.h"
 #include "parser/parsetree.h"
 #include "utils/array.h"
 #include "utils/builtins.h"
@@ -105,19 +107,20 @@ static Const *constant_of_document(const Node *argument, Oid type) {
     return makeConst(type, -1, DEFAULT_COLLATION_OID, -1, PointerGetDatum(made), false, false);
 }
 
-/* The operator that does the same, or NULL. */
-static Node *operator_of_texts(const FuncExpr *call, int form) {
-    Oid type = exprType(linitial(call->args));
-    Const *keys = constant_of_document(lsecond(call->args), forms[form].type);
+/* The operator that does the same as a function of a document, or NULL. */
+static OpExpr *operator_of_texts(Oid function, List *arguments, int form) {
+    Oid type = exprType(linitial(arguments));
+    Const *keys = constant_of_document(lsecond(arguments), forms[form].type);
     if (!keys) return NULL;
     Oid operator = GetSysCacheOid4(OPERNAMENSP, Anum_pg_operator_oid,
                                    CStringGetDatum(forms[form].operator), ObjectIdGetDatum(type),
                                    ObjectIdGetDatum(forms[form].type),
-                                   ObjectIdGetDatum(get_func_namespace(call->funcid)));
+                                   ObjectIdGetDatum(get_func_namespace(function)));
     if (!OidIsValid(operator)) return NULL;
-    Node *condition = (Node *)make_opclause(operator, BOOLOID, false, linitial(call->args),
-                                            (Expr *)keys, InvalidOid, DEFAULT_COLLATION_OID);
-    set_opfuncid((OpExpr *)condition);
+    OpExpr *condition =
+        (OpExpr *)make_opclause(operator, BOOLOID, false, linitial(arguments), (Expr *)keys,
+                                InvalidOid, DEFAULT_COLLATION_OID);
+    set_opfuncid(condition);
     return condition;
 }
 
@@ -129,12 +132,28 @@ static Node *other_form(PlannerInfo *root, const FuncExpr *call) {
     bool is_foreign = root && has_foreign_column((Node *)call->args, root);
     bool is_of_document = strcmp(name, forms[form].of_document) == 0;
     if (is_foreign == is_of_document) return NULL;
-    return (is_of_document ? operator_of_texts : call_of_document)(call, form);
+    return is_of_document ? (Node *)operator_of_texts(call->funcid, call->args, form)
+                          : call_of_document(call, form);
+}
+
+/* Puts in the share of the rows that a function of a document finds; whether that is known. */
+static bool estimate_share(SupportRequestSelectivity *request) {
+    const char *name = get_func_name(request->funcid);
+    int form = name ? form_of(name) : -1;
+    if (form < 0 || request->is_join || strcmp(name, forms[form].of_document) != 0) return false;
+    const OpExpr *condition = operator_of_texts(request->funcid, request->args, form);
+    if (!condition) return false;
+    request->selectivity =
+        restriction_selectivity(request->root, condition->opno, condition->args,
+                                condition->inputcollid, request->varRelid);
+    return true;
 }
 
 PG_FUNCTION_INFO_V1(pg_kohiblad_has_support);
 Datum pg_kohiblad_has_support(PG_FUNCTION_ARGS) {
     Node *request = (Node *)PG_GETARG_POINTER(0);
+    if (IsA(request, SupportRequestSelectivity))
+        PG_RETURN_POINTER(estimate_share((SupportRequestSelectivity *)request) ? request : NULL);
     if (!IsA(request, SupportRequestSimplify)) PG_RETURN_POINTER(NULL);
     const SupportRequestSimplify *simplify = (const SupportRequestSimplify *)request;
     PG_RETURN_POINTER(other_form(simplify->root, simplify->fcall));

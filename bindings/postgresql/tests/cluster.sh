@@ -196,6 +196,10 @@ run_estimates() {
         "doc @? '\$.tags[*] ? (@ == \"t7\")'" "doc ? 'city'" "price BETWEEN 100 AND 130")
     local unknown="doc -> 'price' BETWEEN '100' AND '130'"
     for condition in "${known[@]}"; do expect_planned "$condition" t; done
+    for condition in "doc ? 'none'" "doc ?| '{no,none}'" "doc ?& '{id,none}'"; do
+        expect "whether few rows are planned for $condition" t \
+            "$(ask 0 "SELECT $(planned_rows "$condition") < $rows / 100")"
+    done
     expect_planned "$unknown" f
     for server in 1 2 3; do
         ask 0 "CREATE STATISTICS goods_of_price_$server ON (doc -> 'price') FROM goods_$server"
