@@ -15,7 +15,7 @@ CREATE TABLE goods (doc kohiblad NOT NULL,
 \endif
 CREATE SERVER s:part FOREIGN DATA WRAPPER postgres_fdw
     OPTIONS (host :'host', port :'port', dbname 'postgres', extensions 'kohiblad',
-             async_capable 'true', batch_size '1000', connect_timeout '3');
+             async_capable 'true', batch_size '1000', connect_timeout '60');
 CREATE USER MAPPING FOR tester SERVER s:part OPTIONS (user 'tester');
 CREATE FOREIGN TABLE by_hash_:part PARTITION OF by_hash
     FOR VALUES WITH (MODULUS 3, REMAINDER :remainder) SERVER s:part;

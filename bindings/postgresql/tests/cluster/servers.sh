@@ -51,7 +51,7 @@ open_servers() {
         pass_over "postgresql-15, with postgres_fdw"
     chmod 755 "$scratch"
     [ "$(id -u)" != 0 ] || chown "$user" "$scratch"
-    export PGUSER=tester PGDATABASE=postgres PGCONNECT_TIMEOUT=20
+    export PGUSER=tester PGDATABASE=postgres PGCONNECT_TIMEOUT=60
     export PGOPTIONS="-c client_min_messages=warning -c enable_partitionwise_aggregate=on"
     PGOPTIONS+=" -c enable_partitionwise_join=on"
     unset PGHOST PGPORT PGSERVICE PGPASSWORD
