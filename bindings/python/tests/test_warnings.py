@@ -6,6 +6,7 @@ import subprocess
 import sys
 import unittest
 import warnings
+from datetime import date
 from decimal import Decimal
 from importlib.util import find_spec
 
@@ -172,6 +173,20 @@ class MixedTest(WarningsTest):
         with self.assert_warns():
             self.assertEqual((len(it), it.unfit, len(it.rest)), (2, 2, 2))
             repr(it), it.states, it.type
+
+    def test_texts_of_dates_that_are_not_asked_for(self):
+        days = Column.of(Document.of({"a": it}) for it in (None, "2026-11-29", 5))
+        words = "no row has a date at $.a, but texts as 2026-11-29: iso_dates reads them"
+        for unfit in ("rest", "null"):
+            with self.assert_warns(words):
+                days.extract(["a"], ["date"], unfit=unfit)
+        with self.assert_warns():
+            days.extract(["a"], ["timestamp"])
+            days.extract(["a"], ["date"], iso_dates=True)
+            days.extract(["a"], ["text"])
+        some = Column.of(Document.of({"a": it}) for it in (date(2026, 11, 29), "2026-11-29"))
+        with self.assert_warns():
+            some.extract(["a"], ["date"])
 
     def test_numbers_that_no_type_holds(self):
         it = self.mixed([[2**127 - 1], [Decimal("0.1")]])

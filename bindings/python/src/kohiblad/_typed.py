@@ -793,12 +793,25 @@ def extract(rows: Rows, members: Iterable[Tuple[Tuple[Step, ...], Optional[str]]
             column = _filled(rows, steps, name, refuses, exact, is_known)
         if iso_dates:
             column = _with_texts(rows, column, name)
+        else:
+            _tell_of_texts(rows, column)
         if unfit == "error" and column.unfit:
             column.refuse_first(rows)
         # Rows that were checked for one member are not checked again for the next ones.
         is_known = is_known or column.shows_documents()
         columns.append(column.typed(rows, unfit))
     return columns
+
+
+def _tell_of_texts(rows: Rows, column: _Filled) -> None:
+    """Warns if a column of dates or timestamps has no value, and the first text is one."""
+    read = iso.READERS.get(column.name)
+    if read is None or not column.unfit or _VALUE in column.states.tobytes():
+        return
+    text = column.first_text(rows)
+    if text is not None and read(text) is not None:
+        warn(f"no row has a {column.name} at {path_text(column.steps)}, but texts as "
+             f"{text.decode()}: iso_dates reads them")
 
 
 def _with_texts(rows: Rows, column: _Filled, name: Optional[str]) -> _Filled:

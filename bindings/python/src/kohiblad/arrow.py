@@ -381,8 +381,9 @@ class Column(library.Fixed, Sequence[Optional[Document]]):
         type, or there are not as many types as paths. TypeError: the paths are one str. PathError:
         a text is no path, or no row has a key that leads somewhere as the text of a path.
 
-        KohibladWarning: there are rows, and none of them has a member. A column of the type mixed
-        warns when its values are read, and names the first rows that are not as most.
+        KohibladWarning: there are rows, and none of them has a member; or none has a date of the
+        type that is named, and the first text is one that ``iso_dates`` reads. A column of the type
+        mixed warns when its values are read, and names the first rows that are not as most.
         """
         if isinstance(paths, str):
             raise TypeError(f"the paths are a list: for one path give [{paths!r}]")
