@@ -211,8 +211,10 @@ class ProgramTest(unittest.TestCase):
     def test_get(self):
         self.assertEqual(self.run_program("get", "nope"),
                          (0, "\n\n", "kohiblad: no row has a value at $.nope\n"))
-        self.assertEqual(self.run_program("get", "customer.town")[2],
-                         'kohiblad: no row has a value at $."customer.town"\n')
+        for name in ("customer.town", "$.customer.town"):
+            self.assertEqual(self.run_program("get", name)[2],
+                             f'kohiblad: no row has a value at $."{name}": a key is expected, and '
+                             "`extract` takes paths\n")
         self.assertEqual(self.run_program("get", "$.key"), (0, '"k"\n\n', ""))
         self.assertEqual(self.run_program("get", "nope", rows=[]), (0, "", ""))
         self.assertEqual(self.run_program("get", "a", rows=[{"a": None}]), (0, "null\n", ""))

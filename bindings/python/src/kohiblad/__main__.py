@@ -17,6 +17,7 @@ from typing import (IO, Any, Callable, ContextManager, Dict, Iterator, List, NoR
 
 from . import Document, KohibladError, KohibladWarning, __version__
 from ._changes import warn_of_missing
+from ._document import steps_of_name
 from ._errors import printable
 from ._fault import fault_of
 from ._files import documents_of_lines, rest_of, stored, stored_documents
@@ -322,9 +323,15 @@ def _run(options: argparse.Namespace, sources: List[IO[bytes]], target: IO[bytes
         rows_written, has_value = rows_written + 1, has_value or line != _NO_MEMBER
     target.flush()
     if options.command == "get" and rows_written and not has_value:
-        warn_of_missing([[options.name]])
+        _tell_missing(options.name)
     if refusals and refusals.count:
         _say(f"{refusals.count:,} lines were left out")
+
+
+def _tell_missing(name: str) -> None:
+    """Warns that no row has the member, and what to run if the name is the text of a path."""
+    is_path = steps_of_name(name) is not None
+    warn_of_missing([[name]], ": a key is expected, and `extract` takes paths" if is_path else "")
 
 
 def _shown_input(given: str, is_json: bool) -> Tuple[bytes, str]:

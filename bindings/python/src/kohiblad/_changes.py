@@ -67,9 +67,9 @@ def name_of_path(steps: Sequence[Step]) -> str:
     return steps[0] if len(steps) == 1 and isinstance(steps[0], str) else path_text(steps)
 
 
-def warn_of_missing(paths: Iterable[Sequence[Step]]) -> None:
-    """Warns that no row has something at the end of some paths."""
-    warn(f"no row has a value at {', '.join(map(path_text, paths))}")
+def warn_of_missing(paths: Iterable[Sequence[Step]], advice: str = "") -> None:
+    """Warns that no row has something at the end of some paths, and adds what to do."""
+    warn(f"no row has a value at {', '.join(map(path_text, paths))}{advice}")
 
 
 def _json_of(steps: Sequence[Step]) -> str:
