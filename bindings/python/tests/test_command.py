@@ -1,4 +1,5 @@
 """The program `python -m kohiblad`."""
+import functools
 import os
 import shutil
 import signal
@@ -200,9 +201,11 @@ class CommandTest(unittest.TestCase):
     def test_signals_leave_no_file(self):
         for number in (signal.SIGINT, signal.SIGTERM, signal.SIGHUP):
             output = self.path("out", b"before")
+            # A test that runs in the background of a shell has SIGINT ignored.
+            heeds = functools.partial(signal.signal, number, signal.SIG_DFL)
             program = subprocess.Popen([sys.executable, "-m", "kohiblad", "encode", "-o", output,
                                         "--errors", self.path("errors")], stdin=subprocess.PIPE,
-                                       stderr=subprocess.PIPE)
+                                       stderr=subprocess.PIPE, preexec_fn=heeds)
             program.stdin.write(b"1\n[\n")
             program.stdin.flush()
             began = time.monotonic()
