@@ -14,7 +14,7 @@ use Rattle.jsonb_value.specs.declared.number.Number.TheVariants.{Decimal128}
 use Rattle.jsonb_typed.specs.Numbers.{IsNumberAt}
 use Rattle.jsonb_typed.specs.TypeValues.{StandsIn, ValueOf}
 use Rattle.jsonb_typed.specs.Scalars.{ScalarOf, Stands}
-use Rattle.jsonb_typed.specs.Types.{IsNumber}
+use Rattle.jsonb_typed.specs.Types.{IsAtScale}
 use Rattle.jsonb_typed.specs.declared.lattice.LeastType.{LeastType}
 use Rattle.jsonb_typed.specs.declared.lattice.LeastType.TheVariants as types
 use Rattle.jsonb_typed.specs.declared.numbers.Fit.{Fit}
@@ -68,8 +68,8 @@ one_at Exact scale v w x first second =
 one_at ByValue scale v w x first second =
     one_equal (fraction_of x) v w scale first second
 
-one_number : (fit : Fit) (scale : ℕ) (v w : ℤ) (t : Tree) → IsNumber fit scale v t
-    → IsNumber fit scale w t → v ≡ w
+one_number : (fit : Fit) (scale : ℕ) (v w : ℤ) (t : Tree) → IsAtScale fit scale v t
+    → IsAtScale fit scale w t → v ≡ w
 one_number fit scale v w (trees.number x) first second = one_at fit scale v w x first second
 one_number fit scale v w trees.null first second = absurd first
 one_number fit scale v w (trees.boolean b) first second = absurd first

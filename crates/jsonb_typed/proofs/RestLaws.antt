@@ -11,8 +11,8 @@ use Rattle.jsonb_functions.specs.Found.{found_at}
 use Rattle.jsonb_functions.specs.declared.path.Step.{Step}
 use Rattle.typed_vector.specs.Cells.{Cell, absent, other, value}
 use Rattle.jsonb_typed.specs.Cells.{IsCellAt, IsCellOf}
-use Rattle.jsonb_typed.specs.LeastTypes.{IsFirstHeld, IsHeld, IsHeldAt, IsValueOf}
-use Rattle.jsonb_typed.specs.Scalars.{IsScalar, ScalarOf, Stands}
+use Rattle.jsonb_typed.specs.LeastTypes.{IsFirstHeld, IsHeldAt, IsHeldIn, IsValueOf}
+use Rattle.jsonb_typed.specs.Scalars.{IsOfScalarType, ScalarOf, Stands}
 use Rattle.jsonb_typed.specs.TypeValues.{LeavesNull, StandsIn, ValueOf}
 use Rattle.jsonb_typed.specs.declared.lattice.LeastType.{LeastType}
 use Rattle.jsonb_typed.specs.declared.lattice.LeastType.TheVariants as types
@@ -31,7 +31,7 @@ first_holds fit path rows (type ∷ candidates) found (inr (not_held, later)) kn
     first_holds fit path rows candidates found later known
 
 -- A member that is a value of the type has one that stands for it.
-scalar_stands : (fit : Fit) (type : ScalarType) (t : Tree) → IsScalar fit type t
+scalar_stands : (fit : Fit) (type : ScalarType) (t : Tree) → IsOfScalarType fit type t
     → (v : ScalarOf type) × Stands fit type v t
 scalar_stands fit scalars.Boolean t is = is
 scalar_stands fit scalars.Int64 t is = is
@@ -53,7 +53,7 @@ value_stands fit types.Mixed t known is = absurd (known refl)
 
 -- So what a row keeps beside its value is null.
 leaves_null : (fit : Fit) (found : LeastType) (m : Option Tree) (c : Cell (ValueOf found))
-    → (found ≡ types.Mixed → ⊥) → IsHeld fit found m → IsCellOf (StandsIn fit found) m c
+    → (found ≡ types.Mixed → ⊥) → IsHeldIn fit found m → IsCellOf (StandsIn fit found) m c
     → LeavesNull c
 leaves_null fit found m absent known held is = tt
 leaves_null fit found m (value v) known held is = tt

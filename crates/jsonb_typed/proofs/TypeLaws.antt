@@ -4,12 +4,12 @@ use Rattle.std.specs.Prelude.{ℤ, pos, ◌↔◌, FitsSigned, MatchOption, IfSo
 use Rattle.std.specs.Int.{w128}
 use Rattle.jsonb_value.specs.Tree.{Tree}
 use Rattle.jsonb_typed.specs.declared.numbers.Fit.{Fit}
-use Rattle.jsonb_typed.specs.Types.{IsNumber, IsUInt64}
+use Rattle.jsonb_typed.specs.Types.{IsAtScale, IsUInt64}
 
 -- What is found is the value of 128 bits that stands for the member, if there is one.
 abbrev pub IsFound : Option ℤ → Fit → Tree → Type 0
 IsFound found fit t =
-    (v : ℤ) → FitsSigned w128 v → (found ≡ Some v) ↔ IsNumber fit 0 v t
+    (v : ℤ) → FitsSigned w128 v → (found ≡ Some v) ↔ IsAtScale fit 0 v t
 
 wide : (n : ℕ) → n < 2 ^ 64 → FitsSigned w128 (pos n)
 wide n low = record { sfits = omega (arith, low) }

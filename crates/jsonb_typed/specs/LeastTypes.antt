@@ -11,23 +11,23 @@ use Rattle.jsonb_typed.specs.declared.lattice.LeastType.{LeastType}
 use Rattle.jsonb_typed.specs.declared.lattice.LeastType.TheVariants as types
 use Rattle.jsonb_typed.specs.declared.numbers.Fit.{Fit}
 use Rattle.jsonb_typed.specs.declared.scalar.ScalarType.TheVariants as scalars
-use Rattle.jsonb_typed.specs.Scalars.{IsScalar}
+use Rattle.jsonb_typed.specs.Scalars.{IsOfScalarType}
 
 -- Some value of the type stands for the member; of the first type none does, and each member is of
 -- mixed type.
 abbrev pub IsValueOf : Fit → LeastType → Tree → Type 0
 IsValueOf fit types.Nothing t = ⊥
-IsValueOf fit (types.Of type) t = IsScalar fit type t
+IsValueOf fit (types.Of type) t = IsOfScalarType fit type t
 IsValueOf fit types.Mixed t = ⊤
 
 -- There is no member, or it is null, or a value of the type.
-abbrev pub IsHeld : Fit → LeastType → Option Tree → Type 0
-IsHeld fit type None = ⊤
-IsHeld fit type (Some t) = (t ≡ trees.null) ⊎ IsValueOf fit type t
+abbrev pub IsHeldIn : Fit → LeastType → Option Tree → Type 0
+IsHeldIn fit type None = ⊤
+IsHeldIn fit type (Some t) = (t ≡ trees.null) ⊎ IsValueOf fit type t
 
 -- The same of the member of a row.
 abbrev pub IsHeldAt : Fit → LeastType → List Step → Document → Type 0
-IsHeldAt fit type path row = IsHeld fit type (found_at path (document_tree row))
+IsHeldAt fit type path row = IsHeldIn fit type (found_at path (document_tree row))
 
 -- The first of the types that holds the members of all rows; mixed, if none does.
 abbrev pub IsFirstHeld : Fit → List Step → List Document → List LeastType → LeastType → Type 0
@@ -43,10 +43,10 @@ member_scale (Some (trees.number x)) = (fraction_of x).scale
 member_scale (Some t) = 0
 
 -- The most of these among the members of the rows.
-abbrev pub greatest_scale : List Step → List Document → ℕ
-greatest_scale path [] = 0
-greatest_scale path (row ∷ rows) =
-    max (member_scale (found_at path (document_tree row))) (greatest_scale path rows)
+abbrev pub rows_scale : List Step → List Document → ℕ
+rows_scale path [] = 0
+rows_scale path (row ∷ rows) =
+    max (member_scale (found_at path (document_tree row))) (rows_scale path rows)
 
 -- The types in their order, with decimals of one scale.
 abbrev pub types_in_order : ℕ → List LeastType

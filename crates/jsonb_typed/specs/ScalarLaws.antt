@@ -4,12 +4,12 @@ use Rattle.jsonb_value.specs.Tree.{Extension, Tree, boolean, extension}
 use Rattle.jsonb.specs.Node.{IsContainer}
 use Rattle.jsonb.proofs.KindLaws.{container_cases}
 use Rattle.jsonb_typed.specs.declared.numbers.Fit.{Fit}
-use Rattle.jsonb_typed.specs.Types.{IsNumber}
+use Rattle.jsonb_typed.specs.Types.{IsAtScale}
 
 pub scalar_number : (fit : Fit) (scale : ℕ) (v : ℤ) (t : Tree) → IsContainer t
-    → IsNumber fit scale v t → ⊥
+    → IsAtScale fit scale v t → ⊥
 scalar_number fit scale v t is stands =
-    container_cases (λ (u : Tree). IsNumber fit scale v u → ⊥) t is (λ ts h. h) (λ ps h. h) stands
+    container_cases (λ (u : Tree). IsAtScale fit scale v u → ⊥) t is (λ ts h. h) (λ ps h. h) stands
 
 pub scalar_boolean : (b : Bool) (t : Tree) → IsContainer t → t ≡ boolean b → ⊥
 scalar_boolean b t is same =

@@ -9,7 +9,7 @@ use Rattle.jsonb_value.specs.declared.extension.TimestampTz.{TimestampTz}
 use Rattle.jsonb_typed.specs.declared.numbers.Fit.{Fit}
 use Rattle.jsonb_typed.specs.declared.scalar.ScalarType.{ScalarType}
 use Rattle.jsonb_typed.specs.declared.scalar.ScalarType.TheVariants as types
-use Rattle.jsonb_typed.specs.Types.{IsBinary, IsDecimal, IsInt64, IsText, IsUInt64}
+use Rattle.jsonb_typed.specs.Types.{IsBinary, IsDecimalAt, IsInt64, IsText, IsUInt64}
 
 -- The code of a type, and the scale of decimals.
 abbrev pub type_bytes : ScalarType → List ℕ
@@ -42,7 +42,7 @@ abbrev pub Stands : Fit → (type : ScalarType) → ScalarOf type → Tree → T
 Stands fit types.Boolean v t = t ≡ trees.boolean v
 Stands fit types.Int64 v t = IsInt64 fit v t
 Stands fit types.UInt64 n t = IsUInt64 fit n t
-Stands fit (types.Decimal scale) v t = IsDecimal fit scale v t
+Stands fit (types.Decimal scale) v t = IsDecimalAt fit scale v t
 Stands fit types.Text s t = IsText s t
 Stands fit types.Date d t = t ≡ trees.extension (trees.date d)
 Stands fit types.Timestamp s t = t ≡ trees.extension (trees.timestamp s)
@@ -51,15 +51,15 @@ Stands fit types.Interval i t = t ≡ trees.extension (trees.interval i)
 Stands fit types.Binary s t = IsBinary s t
 
 -- Some value of the type stands for the member.
-abbrev pub IsScalar : Fit → ScalarType → Tree → Type 0
-IsScalar fit types.Boolean t = (v : Bool) × (t ≡ trees.boolean v)
-IsScalar fit types.Int64 t = (v : ℤ) × IsInt64 fit v t
-IsScalar fit types.UInt64 t = (n : ℕ) × IsUInt64 fit n t
-IsScalar fit (types.Decimal scale) t = (v : ℤ) × IsDecimal fit scale v t
-IsScalar fit types.Text t = (s : List ℕ) × IsText s t
-IsScalar fit types.Date t = (d : Date) × (t ≡ trees.extension (trees.date d))
-IsScalar fit types.Timestamp t = (s : Timestamp) × (t ≡ trees.extension (trees.timestamp s))
-IsScalar fit types.ZonedTimestamp t =
+abbrev pub IsOfScalarType : Fit → ScalarType → Tree → Type 0
+IsOfScalarType fit types.Boolean t = (v : Bool) × (t ≡ trees.boolean v)
+IsOfScalarType fit types.Int64 t = (v : ℤ) × IsInt64 fit v t
+IsOfScalarType fit types.UInt64 t = (n : ℕ) × IsUInt64 fit n t
+IsOfScalarType fit (types.Decimal scale) t = (v : ℤ) × IsDecimalAt fit scale v t
+IsOfScalarType fit types.Text t = (s : List ℕ) × IsText s t
+IsOfScalarType fit types.Date t = (d : Date) × (t ≡ trees.extension (trees.date d))
+IsOfScalarType fit types.Timestamp t = (s : Timestamp) × (t ≡ trees.extension (trees.timestamp s))
+IsOfScalarType fit types.ZonedTimestamp t =
     (s : TimestampTz) × (t ≡ trees.extension (trees.timestamp_tz s))
-IsScalar fit types.Interval t = (i : Interval) × (t ≡ trees.extension (trees.interval i))
-IsScalar fit types.Binary t = (s : List ℕ) × IsBinary s t
+IsOfScalarType fit types.Interval t = (i : Interval) × (t ≡ trees.extension (trees.interval i))
+IsOfScalarType fit types.Binary t = (s : List ℕ) × IsBinary s t

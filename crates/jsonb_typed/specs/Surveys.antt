@@ -22,8 +22,8 @@ member_cell None = absent
 member_cell (Some t) = value t
 
 -- The same of the member of a row at the end of a path.
-abbrev pub cell_at : List Step → Document → Cell Tree
-cell_at path row = member_cell (found_at path (document_tree row))
+abbrev pub cell_found : List Step → Document → Cell Tree
+cell_found path row = member_cell (found_at path (document_tree row))
 
 -- Each tree stands for itself.
 abbrev pub is_tree : Tree → Tree → Type 0

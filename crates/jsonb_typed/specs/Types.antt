@@ -11,21 +11,21 @@ abbrev pub HoldsScalars : {V : Type 0} → (V → Tree → Type 0) → Type 0
 HoldsScalars {V = V} Stands = (v : V) (t : Tree) → IsContainer t → Stands v t → ⊥
 
 -- The value / 10^scale is this member, a number, as the fit says.
-abbrev pub IsNumber : Fit → ℕ → ℤ → Tree → Type 0
-IsNumber fit scale v (number x) = IsNumberAt fit scale v x
-IsNumber fit scale v t = ⊥
+abbrev pub IsAtScale : Fit → ℕ → ℤ → Tree → Type 0
+IsAtScale fit scale v (number x) = IsNumberAt fit scale v x
+IsAtScale fit scale v t = ⊥
 
 -- The same of a whole number of 64 bits with a sign.
 abbrev pub IsInt64 : Fit → ℤ → Tree → Type 0
-IsInt64 fit v t = FitsSigned w64 v × IsNumber fit 0 v t
+IsInt64 fit v t = FitsSigned w64 v × IsAtScale fit 0 v t
 
 -- The same of a whole number of 64 bits without a sign.
 abbrev pub IsUInt64 : Fit → ℕ → Tree → Type 0
-IsUInt64 fit n t = (n < 2 ^ 64) × IsNumber fit 0 (pos n) t
+IsUInt64 fit n t = (n < 2 ^ 64) × IsAtScale fit 0 (pos n) t
 
 -- The same of a value of 128 bits.
-abbrev pub IsDecimal : Fit → ℕ → ℤ → Tree → Type 0
-IsDecimal fit scale v t = FitsSigned w128 v × IsNumber fit scale v t
+abbrev pub IsDecimalAt : Fit → ℕ → ℤ → Tree → Type 0
+IsDecimalAt fit scale v t = FitsSigned w128 v × IsAtScale fit scale v t
 
 -- The tree of an extension value; no other has one.
 abbrev pub extension_tree : Tree → Option Tree

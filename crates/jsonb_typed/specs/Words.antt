@@ -18,17 +18,17 @@ pub use Rattle.jsonb_functions.specs.declared.path.Step.{Step}
 pub use Rattle.typed_vector.specs.Cells.{Cell, rest_cell}
 pub use Rattle.jsonb_typed.specs.Cells.{HasCell, IsCellAt, IsCellOf, IsCellOfRow}
 pub use Rattle.jsonb_typed.specs.Numbers.{IsNumberAt}
-pub use Rattle.jsonb_typed.specs.Types.{IsBinary, IsDecimal, IsInt64, IsNumber, IsText, IsUInt64}
-pub use Rattle.jsonb_typed.specs.Types.{HoldsScalars, extension_tree}
-pub use Rattle.jsonb_typed.specs.Scalars.{IsScalar, ScalarOf, Stands, type_bytes}
+pub use Rattle.jsonb_typed.specs.Types.{HoldsScalars, IsAtScale, IsBinary, IsDecimalAt, IsInt64}
+pub use Rattle.jsonb_typed.specs.Types.{IsText, IsUInt64, extension_tree}
+pub use Rattle.jsonb_typed.specs.Scalars.{IsOfScalarType, ScalarOf, Stands, type_bytes}
 pub use Rattle.jsonb_typed.specs.ScalarLaws.{scalar_boolean, scalar_extension, scalar_number}
-pub use Rattle.jsonb_typed.specs.LeastTypes.{IsFirstHeld, IsHeld, IsHeldAt, IsValueOf}
-pub use Rattle.jsonb_typed.specs.LeastTypes.{greatest_scale, member_scale, types_in_order}
+pub use Rattle.jsonb_typed.specs.LeastTypes.{IsFirstHeld, IsHeldAt, IsHeldIn, IsValueOf}
+pub use Rattle.jsonb_typed.specs.LeastTypes.{member_scale, rows_scale, types_in_order}
 pub use Rattle.jsonb_typed.specs.TypeNames.{IsScale, IsType, ends_word, scale_of_digits}
 pub use Rattle.jsonb_typed.specs.TypeNames.{scalar_type_named, scalar_type_word, type_named}
 pub use Rattle.jsonb_typed.specs.TypeNames.{type_text, type_word}
 pub use Rattle.jsonb_typed.specs.TypeValues.{LeavesNull, StandsIn, ValueOf}
-pub use Rattle.jsonb_typed.specs.Surveys.{cell_at, is_tree, member_cell, no_rows, one_more}
+pub use Rattle.jsonb_typed.specs.Surveys.{cell_found, is_tree, member_cell, no_rows, one_more}
 pub use Rattle.jsonb_typed.specs.Surveys.{survey_of, widened, with_cell, with_extension}
 pub use Rattle.jsonb_typed.specs.Surveys.{with_number, with_number_kind, with_row, with_text}
 pub use Rattle.jsonb_typed.specs.Surveys.{with_tree}

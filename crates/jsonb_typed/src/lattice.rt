@@ -1,8 +1,8 @@
 //! The least type of columns that holds the members of all rows.
 
 ghost use Rattle.std.specs.Prelude.{◌≡◌, ◌↔◌, All, IsTrue, option_map};
-ghost use Rattle.jsonb_typed.specs.Words.{HoldsNoScalar, IsFirstHeld, IsHeld, IsHeldAt, IsValueOf};
-ghost use Rattle.jsonb_typed.specs.Words.{greatest_scale, member_scale, node_tree};
+ghost use Rattle.jsonb_typed.specs.Words.{HoldsNoScalar, IsFirstHeld, IsHeldAt, IsHeldIn};
+ghost use Rattle.jsonb_typed.specs.Words.{IsValueOf, member_scale, node_tree, rows_scale};
 ghost use Rattle.jsonb_typed.specs.Words.{types_in_order};
 
 use crate::keeping::opened;
@@ -30,7 +30,7 @@ pub enum LeastType {
 /// for each type up to the first member that does not fit.
 pub fn least_type(rows: &[Document<'_>], path: &[Step<'_>], fit: Fit) -> LeastType
     ensures { IsFirstHeld fit path.now rows.now
-        (types_in_order (greatest_scale path.now rows.now)) result }
+        (types_in_order (rows_scale path.now rows.now)) result }
 {
     let candidates = [
         LeastType::Nothing,
@@ -83,7 +83,7 @@ pub fn holds_all(rows: &[Document<'_>], path: &[Step<'_>], fit: Fit, candidate: 
 
 // The most digits that a number among the members has after its point.
 fn greatest_scale(rows: &[Document<'_>], path: &[Step<'_>]) -> u8
-    ensures { result ≡ greatest_scale path.now rows.now }
+    ensures { result ≡ rows_scale path.now rows.now }
 {
     let mut greatest = 0;
     for row in rows {
@@ -107,7 +107,7 @@ fn member_scale(member: Option<Node<'_>>) -> u8
 
 // Whether a type holds a member, or there is none, or it is null.
 fn is_held(member: Option<Node<'_>>, fit: Fit, candidate: LeastType) -> bool
-    ensures { IsTrue result ↔ IsHeld fit candidate (option_map node_tree member.entry) }
+    ensures { IsTrue result ↔ IsHeldIn fit candidate (option_map node_tree member.entry) }
 {
     let Some(member) = member else {
         return true;

@@ -1,8 +1,8 @@
 //! The types of scalars, and which members are values of them.
 
 ghost use Rattle.std.specs.Prelude.{◌≡◌, ◌↔◌, ◌++◌, IsTrue, MatchOption, List, ℕ};
-ghost use Rattle.jsonb_typed.specs.Words.{HoldsNoScalar, IsBinary, IsScalar, IsText, ScalarType};
-ghost use Rattle.jsonb_typed.specs.Words.{node_tree, type_bytes};
+ghost use Rattle.jsonb_typed.specs.Words.{HoldsNoScalar, IsBinary, IsOfScalarType, IsText};
+ghost use Rattle.jsonb_typed.specs.Words.{ScalarType, node_tree, type_bytes};
 
 use crate::binaries::binary_of;
 use crate::column_type::ColumnType;
@@ -81,7 +81,7 @@ pub fn split_type(bytes: &[u8]) -> Option<(ScalarType, &[u8])>
 /// type as `fit` says.
 pub fn is_scalar(member: Node<'_>, of: ScalarType, fit: Fit) -> bool
     requires { HoldsNoScalar member }
-    ensures { IsTrue result ↔ IsScalar fit of (node_tree member.entry) }
+    ensures { IsTrue result ↔ IsOfScalarType fit of (node_tree member.entry) }
 {
     match of {
         ScalarType::Boolean => is_value(member, &Boolean),

@@ -3,9 +3,9 @@
 ghost use Rattle.std.specs.Prelude.{◌≡◌, ◌↔◌, ◌+◌, ◌^◌, ◌-◌, ℕ, List, IsTrue, Some, max, map, min};
 ghost use Rattle.std.specs.Prelude.{decimal, length, option_map, unsigned_abs};
 ghost use Rattle.jsonb_typed.specs.Words.{Cell, HoldsNoScalar, IsCellOfRow, IsContainer};
-ghost use Rattle.jsonb_typed.specs.Words.{IsDocument, Tree, cell_at, document_tree, extension_of};
-ghost use Rattle.jsonb_typed.specs.Words.{is_tree, member_cell, no_rows, node_tree, one_more};
-ghost use Rattle.jsonb_typed.specs.Words.{rest_cell, survey_of, widened, with_cell};
+ghost use Rattle.jsonb_typed.specs.Words.{IsDocument, Tree, cell_found, document_tree};
+ghost use Rattle.jsonb_typed.specs.Words.{extension_of, is_tree, member_cell, no_rows, node_tree};
+ghost use Rattle.jsonb_typed.specs.Words.{one_more, rest_cell, survey_of, widened, with_cell};
 ghost use Rattle.jsonb_typed.specs.Words.{with_extension, with_number, with_number_kind, with_row};
 ghost use Rattle.jsonb_typed.specs.Words.{with_text, with_tree};
 
@@ -87,7 +87,7 @@ impl Survey {
 
     /// The survey of the members of all rows at the end of a path.
     pub fn of(rows: &[Document<'_>], path: &[Step<'_>]) -> Survey
-        ensures { result ≡ survey_of (map (cell_at path.now) rows.now) }
+        ensures { result ≡ survey_of (map (cell_found path.now) rows.now) }
     {
         let mut survey = Survey::new();
         for row in rows {

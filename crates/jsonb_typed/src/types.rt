@@ -1,11 +1,10 @@
 //! The types of columns.
 
 ghost use Rattle.std.specs.Prelude.{◌≡◌, ◌↔◌, ℤ, Some, FitsSigned, false, option_map, pos};
-ghost use Rattle.jsonb_typed.specs.Words.{w128, node_tree, HoldsNoScalar, IsNumber, IsInt64};
-ghost use Rattle.jsonb_typed.specs.Words.{IsUInt64, IsDecimal, boolean, extension, date};
-ghost use Rattle.jsonb_typed.specs.Words.{timestamp, timestamp_tz, interval, extension_of};
-ghost use Rattle.jsonb_typed.specs.Words.{extension_tree, scalar_boolean, scalar_extension};
-ghost use Rattle.jsonb_typed.specs.Words.{scalar_number};
+ghost use Rattle.jsonb_typed.specs.Words.{HoldsNoScalar, IsAtScale, IsDecimalAt, IsInt64, IsUInt64};
+ghost use Rattle.jsonb_typed.specs.Words.{boolean, date, extension, extension_of, extension_tree};
+ghost use Rattle.jsonb_typed.specs.Words.{interval, node_tree, scalar_boolean, scalar_extension};
+ghost use Rattle.jsonb_typed.specs.Words.{scalar_number, timestamp, timestamp_tz, w128};
 
 use crate::column_type::ColumnType;
 use crate::numbers::{Fit, value_at_scale};
@@ -71,7 +70,7 @@ pub struct Decimal {
 impl ColumnType for Decimal {
     type Value = i128;
 
-    ghost stands = { λ s v t. IsDecimal s.fit s.scale v t };
+    ghost stands = { λ s v t. IsDecimalAt s.fit s.scale v t };
 
     ghost scalars = { λ s v t is stands. scalar_number s.fit s.scale v t is stands.1 };
 
@@ -244,7 +243,7 @@ impl ColumnType for Nothing {
 fn number_at(member: Node<'_>, scale: u8, fit: Fit) -> Option<i128>
     requires { HoldsNoScalar member }
     ensures { (v : ℤ) → FitsSigned w128 v
-        → (result ≡ Some v) ↔ IsNumber fit scale v (node_tree member.entry) }
+        → (result ≡ Some v) ↔ IsAtScale fit scale v (node_tree member.entry) }
 {
     match member {
         Node::Number(item) => value_at_scale(item.as_number(), scale, fit),

@@ -11,7 +11,7 @@ use Rattle.jsonb_typed_file.specs.declared.error.FileError.TheVariants.{OutOfFor
 use Rattle.jsonb_typed_file.specs.declared.error.FileError.TheVariants.{TrailingData}
 use Rattle.jsonb_typed_file.specs.declared.buffers.Buffers.{Buffers}
 use Rattle.jsonb_typed_file.specs.File.{HaveRows, HaveTexts}
-use Rattle.jsonb_typed_file.specs.Values.{AreTexts}
+use Rattle.jsonb_typed_file.specs.Values.{AreColumnTexts}
 use Rattle.jsonb_typed_file.specs.Views.{buffers_view}
 use Rattle.jsonb_typed_file.proofs.LayoutLaws.{no_true}
 
@@ -62,7 +62,7 @@ rows_later rows (b ∷ bs) all =
 
 pub texts_later : (rows : ℕ) (left : List Buffers) (A : Type 0) (d : Buffers)
     → 1 ≤ length left → A ↔ HaveTexts rows (map buffers_view left)
-    → AreTexts rows (buffers_view (slice_index_or left 0 d))
+    → AreColumnTexts rows (buffers_view (slice_index_or left 0 d))
     → A ↔ HaveTexts rows (map buffers_view (take (length left - 1) (drop 1 left)))
 texts_later rows [] A d some so_far one = absurd (omega (arith, some))
 texts_later rows (b ∷ bs) A d some so_far one = (

@@ -18,16 +18,16 @@ use Rattle.jsonb_codec.specs.Doc.{IsDocument}
 use Rattle.jsonb.specs.Document.{tree_in}
 use Rattle.jsonb_typed.specs.declared.scalar.ScalarType.{ScalarType}
 use Rattle.jsonb_typed.specs.declared.scalar.ScalarType.TheVariants as types
-use Rattle.jsonb_typed_file.specs.File.{AscendNames, HaveRows, HaveTexts, IsFile, IsRest}
+use Rattle.jsonb_typed_file.specs.File.{AscendNames, HaveRows, HaveTexts, IsFile, IsRestAt}
 use Rattle.jsonb_typed_file.specs.File.{LengthsFit, NestWithin, row_count}
 use Rattle.jsonb_typed_file.specs.Layout.{Contents, Parts}
-use Rattle.jsonb_typed_file.specs.OneRow.{IsRowInForm, IsRowOf, IsRowWithin, column_of_row, cut}
-use Rattle.jsonb_typed_file.specs.OneRow.{file_of_row}
-use Rattle.jsonb_typed_file.specs.Rows.{column_members, with_cell, with_members}
-use Rattle.jsonb_typed_file.specs.Values.{HasRows, IsText, IsWithin, cell_at}
-use Rattle.jsonb_typed_file.specs.Values.{is_set, number_at, number_size, string_at, value_tree}
+use Rattle.jsonb_typed_file.specs.OneRow.{IsRowInForm, IsRowOf, IsRowWithin, column_of_row}
+use Rattle.jsonb_typed_file.specs.OneRow.{file_of_row, span_of}
+use Rattle.jsonb_typed_file.specs.Rows.{column_members, with_fields, with_stored}
+use Rattle.jsonb_typed_file.specs.Values.{HasRows, IsSpanAt, IsTextOfRow, column_cell, is_set}
+use Rattle.jsonb_typed_file.specs.Values.{number_at, number_size, string_at, value_tree}
 
--- The bytes that are cut out are among those of a column.
+-- The bytes that are span_of out are among those of a column.
 pub numbers_within : (t : ScalarType) (rows index : ℕ) → index < rows
     → ((number_size t 0 ≤ number_size t index)
     × (number_size t index - number_size t 0 ≤ number_size t (index + 1)))
@@ -62,26 +62,26 @@ same_big i (suc n) xs ys alike =
     rw (alike i (omega arith), same_big (suc i) n xs ys (λ j low. alike j (omega (arith, low))))
     refl
 
--- A byte of bytes that are cut out.
+-- A byte of bytes that are span_of out.
 cut_byte : (start end k j : ℕ) (bytes : List ℕ) → k + j < end - start
-    → get_or (drop k (cut start end bytes)) j 0 ≡ get_or (drop (start + k) bytes) j 0
+    → get_or (drop k (span_of start end bytes)) j 0 ≡ get_or (drop (start + k) bytes) j 0
 cut_byte start end k j bytes within =
     let sums : start + (k + j) ≡ start + k + j = omega arith in
-    get_or-drop k (cut start end bytes) j 0
+    get_or-drop k (span_of start end bytes) j 0
     ∙ get_or-take (end - start) (drop start bytes) (k + j) 0 within
     ∙ get_or-drop start bytes (k + j) 0
     ∙ ap (λ n. get_or bytes n 0) sums
     ∙ sym (get_or-drop (start + k) bytes j 0)
 
--- A number of bytes that are cut out.
+-- A number of bytes that are span_of out.
 cut_number : (size start end k : ℕ) (bytes : List ℕ) → k + size ≤ end - start
-    → big_number size (drop k (cut start end bytes)) ≡ big_number size (drop (start + k) bytes)
+    → big_number size (drop k (span_of start end bytes)) ≡ big_number size (drop (start + k) bytes)
 cut_number size start end k bytes within =
-    same_big 0 size (drop k (cut start end bytes)) (drop (start + k) bytes)
+    same_big 0 size (drop k (span_of start end bytes)) (drop (start + k) bytes)
     (λ j low. cut_byte start end k j bytes (omega (arith, within, low)))
 
 number_alone : (size start end place : ℕ) (bytes : List ℕ) → start ≡ place → start + size ≤ end
-    → big_number size (drop 0 (cut start end bytes)) ≡ big_number size (drop place bytes)
+    → big_number size (drop 0 (span_of start end bytes)) ≡ big_number size (drop place bytes)
 number_alone size start end place bytes begins room =
     let is : start + 0 ≡ place = omega (arith, begins) in
     cut_number size start end 0 bytes (omega (arith, room))
@@ -90,24 +90,24 @@ number_alone size start end place bytes begins room =
 -- The same of a number behind so many bytes.
 later_alone : (size skip start end place : ℕ) (bytes : List ℕ) → start ≡ place
     → start + (skip + size) ≤ end
-    → big_number size (drop skip (drop 0 (cut start end bytes)))
+    → big_number size (drop skip (drop 0 (span_of start end bytes)))
     ≡ big_number size (drop skip (drop place bytes))
 later_alone size skip start end place bytes begins room =
     let is : start + 0 ≡ place = omega (arith, begins) in
-    same_big 0 size (drop skip (drop 0 (cut start end bytes))) (drop skip (drop place bytes))
-    (λ j low. get_or-drop skip (drop 0 (cut start end bytes)) j 0
+    same_big 0 size (drop skip (drop 0 (span_of start end bytes))) (drop skip (drop place bytes))
+    (λ j low. get_or-drop skip (drop 0 (span_of start end bytes)) j 0
     ∙ cut_byte start end 0 (skip + j) bytes (omega (arith, room, low))
     ∙ ap (λ n. get_or (drop n bytes) (skip + j) 0) is
     ∙ sym (get_or-drop skip (drop place bytes) j 0))
 
--- The two offsets of a string that are cut out.
+-- The two offsets of a string that are span_of out.
 start_alone : (start end index : ℕ) (offsets : List ℕ) → start ≡ 8 * index → end ≡ 8 * index + 16
-    → number_at 8 0 (cut start end offsets) ≡ number_at 8 index offsets
+    → number_at 8 0 (span_of start end offsets) ≡ number_at 8 index offsets
 start_alone start end index offsets begins ends =
     number_alone 8 start end (8 * index) offsets begins (omega (arith, begins, ends))
 
 end_alone : (start end index : ℕ) (offsets : List ℕ) → start ≡ 8 * index → end ≡ 8 * index + 16
-    → number_at 8 1 (cut start end offsets) ≡ number_at 8 (index + 1) offsets
+    → number_at 8 1 (span_of start end offsets) ≡ number_at 8 (index + 1) offsets
 end_alone start end index offsets begins ends =
     let is : start + 8 ≡ 8 * (index + 1) = omega (arith, begins) in
     cut_number 8 start end 8 offsets (omega (arith, begins, ends))
@@ -115,7 +115,7 @@ end_alone start end index offsets begins ends =
 
 string_alone : (start end index : ℕ) (offsets bytes : List ℕ) → start ≡ 8 * index
     → end ≡ 8 * index + 16
-    → string_at (cut start end offsets) bytes 0 ≡ string_at offsets bytes index
+    → string_at (span_of start end offsets) bytes 0 ≡ string_at offsets bytes index
 string_alone start end index offsets bytes begins ends =
     ap₂ (λ (a b : ℕ). take (b - a) (drop a bytes))
     (start_alone start end index offsets begins ends)
@@ -123,7 +123,7 @@ string_alone start end index offsets bytes begins ends =
 
 within_alone : (start end index : ℕ) (offsets bytes : List ℕ) → start ≡ 8 * index
     → end ≡ 8 * index + 16
-    → IsWithin (cut start end offsets) bytes 0 ≡ IsWithin offsets bytes index
+    → IsSpanAt (span_of start end offsets) bytes 0 ≡ IsSpanAt offsets bytes index
 within_alone start end index offsets bytes begins ends =
     ap₂ (λ (a b : ℕ). (a ≤ b) × (b ≤ length bytes))
     (start_alone start end index offsets begins ends)
@@ -153,11 +153,11 @@ interval_of months days micros = Some (extension (interval (record {
 -- The value of the row.
 value_alone : (t : ScalarType) (numbers texts : List ℕ) (index : ℕ)
     → value_tree t
-    (cut (number_size t index - number_size t 0) (number_size t (index + 1)) numbers) texts 0
+    (span_of (number_size t index - number_size t 0) (number_size t (index + 1)) numbers) texts 0
     ≡ value_tree t numbers texts index
 value_alone types.Boolean numbers texts index =
     let start = 1 * index - 1 * 0 in let end = 1 * (index + 1) in
-    let byte : get_or (drop 0 (cut start end numbers)) 0 0
+    let byte : get_or (drop 0 (span_of start end numbers)) 0 0
     ≡ get_or (drop (1 * index) numbers) 0 0 =
     cut_byte start end 0 0 numbers (omega arith)
     ∙ ap (λ n. get_or (drop n numbers) 0 0) (omega arith) in
@@ -194,7 +194,7 @@ value_alone types.ZonedTimestamp numbers texts index =
     (number_alone 8 start end (12 * index) numbers (omega arith) (omega arith))
 value_alone types.Interval numbers texts index =
     let start = 16 * index - 16 * 0 in let end = 16 * (index + 1) in
-    let row = drop 0 (cut start end numbers) in
+    let row = drop 0 (span_of start end numbers) in
     let place = drop (16 * index) numbers in
     ap₂ (λ (m d : ℕ). interval_of m d (big_number 8 (drop 8 row)))
     (number_alone 4 start end (16 * index) numbers (omega arith) (omega arith))
@@ -217,7 +217,7 @@ flag_length true = refl
 flag_length false = refl
 
 -- What the row has in a column.
-cell_alone : (p : Parts) (index : ℕ) → cell_at (column_of_row p index) 0 ≡ cell_at p index
+cell_alone : (p : Parts) (index : ℕ) → column_cell (column_of_row p index) 0 ≡ column_cell p index
 cell_alone p index =
     ap₂ (λ (b : Bool) (o : Option Tree). if b then o else None)
     (set_flag (is_set p.flags index)) (value_alone p.type p.numbers p.texts index)
@@ -227,18 +227,18 @@ members_alone : (ps : List Parts) (index : ℕ)
     → column_members (map (λ p. column_of_row p index) ps) 0 ≡ column_members ps index
 members_alone [] index = refl
 members_alone (p ∷ ps) index =
-    ap₂ (with_cell p.name) (cell_alone p index) (members_alone ps index)
+    ap₂ (with_stored p.name) (cell_alone p index) (members_alone ps index)
 
 -- How long the buffers are.
 cut_length : (start end : ℕ) (bytes : List ℕ) → end ≤ length bytes
-    → length (cut start end bytes) ≡ end - start
+    → length (span_of start end bytes) ≡ end - start
 cut_length start end bytes within =
     length-take-le (end - start) (drop start bytes)
     (omega (arith, within, length-drop start bytes))
 
 numbers_alone : (t : ScalarType) (rows index : ℕ) (numbers : List ℕ) → index < rows
     → length numbers ≡ number_size t rows
-    → length (cut (number_size t index - number_size t 0) (number_size t (index + 1)) numbers)
+    → length (span_of (number_size t index - number_size t 0) (number_size t (index + 1)) numbers)
     ≡ number_size t 1
 numbers_alone t rows index numbers low size =
     cut_length (number_size t index - number_size t 0) (number_size t (index + 1)) numbers
@@ -274,7 +274,7 @@ have_row (p ∷ ps) rows index low have =
 
 -- The offsets of the row.
 offsets_alone : (f : Contents) (index : ℕ) → LengthsFit f → index < row_count f
-    → length (cut (8 * index) (8 * index + 16) f.offsets) ≡ 16
+    → length (span_of (8 * index) (8 * index + 16) f.offsets) ≡ 16
 offsets_alone f index fit low =
     cut_length (8 * index) (8 * index + 16) f.offsets
     (omega (arith, fit.some, fit.whole, low))
@@ -301,7 +301,7 @@ row_of f index fit low =
     record {
       count = count_alone f index fit low;
       rest = rest;
-      tree = ap₂ (λ (s : List ℕ) qs. with_members (tree_in s) qs) rest
+      tree = ap₂ (λ (s : List ℕ) qs. with_fields (tree_in s) qs) rest
           (members_alone f.columns index);
     }
 
@@ -317,9 +317,10 @@ names_alone before [] index names = tt
 names_alone before (p ∷ ps) index names = (names.0, names_alone (Some p.name) ps index names.1)
 
 -- The texts of the columns.
-text_alone : (t : ScalarType) (numbers texts : List ℕ) (index : ℕ) → IsText t numbers texts index
-    → IsText t (cut (number_size t index - number_size t 0) (number_size t (index + 1)) numbers)
-    texts 0
+text_alone : (t : ScalarType) (numbers texts : List ℕ) (index : ℕ)
+    → IsTextOfRow t numbers texts index
+    → IsTextOfRow t
+    (span_of (number_size t index - number_size t 0) (number_size t (index + 1)) numbers) texts 0
 text_alone types.Boolean numbers texts index is = tt
 text_alone types.Int64 numbers texts index is = tt
 text_alone types.UInt64 numbers texts index is = tt
@@ -347,14 +348,14 @@ texts_alone : (ps : List Parts) (rows index : ℕ) → index < rows → HaveText
     → HaveTexts 1 (map (λ p. column_of_row p index) ps)
 texts_alone [] rows index low have = tt
 texts_alone (p ∷ ps) rows index low have = (
-  first_alone (IsText p.type (column_of_row p index).numbers p.texts) 1 refl
+  first_alone (IsTextOfRow p.type (column_of_row p index).numbers p.texts) 1 refl
       (text_alone p.type p.numbers p.texts index (have.0 index low)),
   texts_alone ps rows index low have.1,
 )
 
 -- The rest of the row.
-rest_alone : (f : Contents) (index : ℕ) → IsRest f.offsets f.documents index
-    → IsRest (cut (8 * index) (8 * index + 16) f.offsets) f.documents 0
+rest_alone : (f : Contents) (index : ℕ) → IsRestAt f.offsets f.documents index
+    → IsRestAt (span_of (8 * index) (8 * index + 16) f.offsets) f.documents 0
 rest_alone f index is = (
   subst (λ A. A) (sym (within_alone (8 * index) (8 * index + 16) index f.offsets f.documents refl
       refl)) is.0,
@@ -374,7 +375,7 @@ form_of_row f bytes index file low =
       texts = subst (λ n. HaveTexts n (map (λ p. column_of_row p index) f.columns)) (sym one)
           (texts_alone f.columns (row_count f) index low form.texts);
       rests = first_alone
-          (IsRest (cut (8 * index) (8 * index + 16) f.offsets) f.documents)
+          (IsRestAt (span_of (8 * index) (8 * index + 16) f.offsets) f.documents)
           (row_count (file_of_row f index)) one (rest_alone f index (form.rests index low));
     }
 
@@ -384,7 +385,7 @@ pub row_within : (depth : ℕ) (f : Contents) (index : ℕ) → LengthsFit f →
 row_within depth f index fit low within =
     first_alone
     (λ i. IsDocumentWithin depth
-    (string_at (cut (8 * index) (8 * index + 16) f.offsets) f.documents i))
+    (string_at (span_of (8 * index) (8 * index + 16) f.offsets) f.documents i))
     (row_count (file_of_row f index)) (count_alone f index fit low)
     (subst (IsDocumentWithin depth)
     (sym (string_alone (8 * index) (8 * index + 16) index f.offsets f.documents refl refl))

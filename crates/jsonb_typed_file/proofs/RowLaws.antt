@@ -37,17 +37,17 @@ use Rattle.jsonb_functions.proofs.KeyOrder.{Below, ascend_later, key_equal, not_
 use Rattle.jsonb_typed_file.specs.declared.buffers.Buffers.{Buffers}
 use Rattle.jsonb_typed_file.specs.declared.column.StoredValue.{StoredValue}
 use Rattle.jsonb_typed_file.specs.declared.column.StoredValue.TheVariants as values
-use Rattle.jsonb_typed_file.specs.ValueViews.{members_view, value_code, value_view}
+use Rattle.jsonb_typed_file.specs.ValueViews.{members_view, stored_view, value_code}
 use Rattle.jsonb_typed_file.specs.Views.{buffers_view}
 use Rattle.jsonb_typed_file.specs.Layout.{Parts}
 use Rattle.jsonb_typed_file.specs.File.{AscendNames, HaveRows, HaveTexts}
-use Rattle.jsonb_typed_file.specs.Rows.{IsMade, column_members, with_cell, with_members}
-use Rattle.jsonb_typed_file.specs.Values.{AreTexts, HasRows, cell_at}
+use Rattle.jsonb_typed_file.specs.Rows.{IsMadeRow, column_members, with_fields, with_stored}
+use Rattle.jsonb_typed_file.specs.Values.{AreColumnTexts, HasRows, column_cell}
 
 -- The members ascend, since the names do.
 cell_ascends : (before : Option (List ℕ)) (name : List ℕ) (o : Option Tree) (ps : Pairs)
     → IfSome before (λ b. Below b name) → Ascends (Some name) ps
-    → Ascends before (with_cell name o ps)
+    → Ascends before (with_stored name o ps)
 cell_ascends before name (Some t) ps below later = (below, later)
 cell_ascends None name None ps below later = ascend_later name ps later
 cell_ascends (Some b) name None ps below later = ascends_from b name ps below later
@@ -56,7 +56,7 @@ pub members_ascend : (before : Option (List ℕ)) (ps : List Parts) (index : ℕ
     → AscendNames before ps → Ascends before (column_members ps index)
 members_ascend before [] index names = tt
 members_ascend before (p ∷ ps) index names =
-    cell_ascends before p.name (cell_at p index) (column_members ps index) names.0
+    cell_ascends before p.name (column_cell p index) (column_members ps index) names.0
     (members_ascend (Some p.name) ps index names.1)
 
 -- No column is left.
@@ -73,7 +73,8 @@ rows_at rows (b ∷ bs) zero d low all = all.0
 rows_at rows (b ∷ bs) (suc n) d low all = rows_at rows bs n d (omega (arith, low)) all.1
 
 pub texts_at : (rows : ℕ) (bs : List Buffers) (n : ℕ) (d : Buffers) → n < length bs
-    → HaveTexts rows (map buffers_view bs) → AreTexts rows (buffers_view (slice_index_or bs n d))
+    → HaveTexts rows (map buffers_view bs)
+    → AreColumnTexts rows (buffers_view (slice_index_or bs n d))
 texts_at rows [] n d low all = absurd (omega (arith, low))
 texts_at rows (b ∷ bs) zero d low all = all.0
 texts_at rows (b ∷ bs) (suc n) d low all = texts_at rows bs n d (omega (arith, low)) all.1
@@ -81,7 +82,7 @@ texts_at rows (b ∷ bs) (suc n) d low all = texts_at rows bs n d (omega (arith,
 -- A member below all others comes before them.
 pub put_first : (es after : List (Bor (List ℕ) × StoredValue)) (k : Bor (List ℕ)) (v : StoredValue)
     → Ascends (Some k.now) (members_view es) → after ≡ insert_entry key_cmp es k v
-    → members_view after ≡ pair k.now (value_view v) (members_view es)
+    → members_view after ≡ pair k.now (stored_view v) (members_view es)
 put_first [] after k v ascend put = ap members_view put
 put_first (e ∷ es) after k v ascend put =
     ap members_view (put ∙ ap (λ o. match_ordering o ((k, v) ∷ e ∷ es) ((e.0, v) ∷ es)
@@ -99,7 +100,7 @@ members_above before (b ∷ bs) (suc n) d index low names =
     members_above (Some b.name.now) bs n d index (omega (arith, low)) names.1
 
 -- The shape of a value is its entry.
-value_shape : (v : StoredValue) → leaf (value_code v).0 (value_code v).1 ≡ shape_of (value_view v)
+value_shape : (v : StoredValue) → leaf (value_code v).0 (value_code v).1 ≡ shape_of (stored_view v)
 value_shape (values.Boolean b) = refl
 value_shape (values.Number x) = refl
 value_shape (values.Text s) = refl
@@ -121,14 +122,14 @@ are_stored es = record { all = all_stored es; shapes = member_shapes es }
 
 -- The object of members that are as their types guarantee means itself.
 are_pairs : (es : List (Bor (List ℕ) × StoredValue))
-    → AllByRecursion (λ e. IsUtf8 e.0.now × IsTree (value_view e.1)) es
+    → AllByRecursion (λ e. IsUtf8 e.0.now × IsTree (stored_view e.1)) es
     → ArePairs (members_view es)
 are_pairs [] held = tt
 are_pairs (e ∷ es) held = (held.0.0, (held.0.1, are_pairs es held.1))
 
 pub members_mean : (es : List (Bor (List ℕ) × StoredValue)) (bytes : List ℕ)
     → Ascend (members_view es)
-    → AllByRecursion (λ e. IsUtf8 e.0.now × IsTree (value_view e.1)) es
+    → AllByRecursion (λ e. IsUtf8 e.0.now × IsTree (stored_view e.1)) es
     → Fits (object (members_view es)) → bytes ≡ canon (object (members_view es))
     → Doc bytes (norm (object (members_view es)))
 members_mean es bytes ascend held fit written =
@@ -168,7 +169,7 @@ merged_shapes ps (pair k u qs) =
     (merged_shapes ps qs)
 
 pub joined_shape : (ps qs : Pairs)
-    → shape_of (joined (object ps) (norm (object qs))) ≡ shape_of (with_members (object ps) qs)
+    → shape_of (joined (object ps) (norm (object qs))) ≡ shape_of (with_fields (object ps) qs)
 joined_shape ps qs = ap shapes.object (merged_shapes ps qs)
 
 -- The first pairs stand among the second, in order.
@@ -223,7 +224,7 @@ fits_among (pair k u qs) (pair j t ms) (inr stand) fit =
     let (each, few) = fits_among (pair k u qs) ms stand fit.1 in (each, omega (arith, few))
 
 -- If a row fits, the object of its members does.
-pub members_fit : (ps qs : Pairs) → Ascend qs → Fits (with_members (object ps) qs)
+pub members_fit : (ps qs : Pairs) → Ascend qs → Fits (with_fields (object ps) qs)
     → Fits (object qs)
 members_fit ps qs ascend (few, fit) =
     let (each, less) = fits_among qs (merged ps qs) (merged_stand ps qs ascend) fit in
@@ -259,18 +260,18 @@ pub made_alone : (t : Tree) (n : ℕ) (ms : Pairs) (ps : List Parts) (index : �
     → ms ≡ column_members ps index → AscendNames None ps
     → IfOk result (λ owned. owned_bytes owned ≡ canon (object ms))
     → MadeIfFit (Fits (object ms)) result
-    → IsMade (with_members t (column_members ps index)) result
+    → IsMadeRow (with_fields t (column_members ps index)) result
 made_alone t n ms ps index result kind none is names document limits =
     let qs = column_members ps index in
     let (others, row) = object_kind t n kind in
     let empty : others ≡ no_pairs =
     empty_kind others n (sym (ap kind_of_tree row) ∙ kind) none in
-    let same : object ms ≡ with_members t qs =
+    let same : object ms ≡ with_fields t qs =
     ap object (is ∙ sym (merged_alone qs (members_ascend None ps index names)))
-    ∙ sym (ap (λ x. with_members x qs) (row ∙ ap object empty)) in
+    ∙ sym (ap (λ x. with_fields x qs) (row ∙ ap object empty)) in
     record {
       document = subst (λ x. IfOk result (λ owned. owned_bytes owned ≡ canon x)) same document;
-      limits = with_memory (Fits (with_members t qs)) result
+      limits = with_memory (Fits (with_fields t qs)) result
           (subst (λ x. MadeIfFit (Fits x) result) same limits);
     }
 
@@ -278,7 +279,7 @@ made_alone t n ms ps index result kind none is names document limits =
 refused : (t m : Tree) (ps qs : Pairs) (e : Error) {A : Type 0}
     (result : Result OwnedJsonb Error) → t ≡ object ps → m ≡ object qs → Ascend qs
     → MadeIfFit {A = A} (Fits m) (Err e) → IsErrAnd result (λ x. x ≡ e)
-    → IsMade (with_members t qs) result
+    → IsMadeRow (with_fields t qs) result
 refused t m ps qs e (Ok owned) row is ascend limits failed = absurd failed
 refused t m ps qs e (Err f) row is ascend limits failed = record {
   document = tt;
@@ -286,7 +287,7 @@ refused t m ps qs e (Err f) row is ascend limits failed = record {
     fits = tt;
     past = λ named fit. limits.past.0 (ap Err (sym failed ∙ error_in f InvalidJsonb named))
         (subst Fits (sym is)
-        (members_fit ps qs ascend (subst (λ x. Fits (with_members x qs)) row fit)));
+        (members_fit ps qs ascend (subst (λ x. Fits (with_fields x qs)) row fit)));
     only = subst (λ x. (x ≡ InvalidJsonb) ⊎ (x ≡ OutOfMemory)) (sym failed) limits.only;
   };
 }
@@ -295,7 +296,7 @@ pub refused_row : (t m : Tree) (n : ℕ) (ps : List Parts) (index : ℕ) (e : Er
     (result : Result OwnedJsonb Error) → kind_of_tree t ≡ kinds.Object n
     → m ≡ object (column_members ps index) → AscendNames None ps
     → MadeIfFit {A = A} (Fits m) (Err e) → IsErrAnd result (λ x. x ≡ e)
-    → IsMade (with_members t (column_members ps index)) result
+    → IsMadeRow (with_fields t (column_members ps index)) result
 refused_row t m n ps index e {A = A} result kind is names limits failed =
     let (pairs, row) = object_kind t n kind in
     refused t m pairs (column_members ps index) e {A = A} result row is
@@ -304,14 +305,14 @@ refused_row t m n ps index e {A = A} result kind is names limits failed =
 -- The joined value is the row.
 made : (t u m : Tree) (ps qs : Pairs) (result : Result OwnedJsonb Error) → t ≡ object ps
     → m ≡ object qs → u ≡ norm m → IfOk result (λ owned. owned_bytes owned ≡ canon (joined t u))
-    → MadeIfFit (Fits (joined t u)) result → IsMade (with_members t qs) result
+    → MadeIfFit (Fits (joined t u)) result → IsMadeRow (with_fields t qs) result
 made t u m ps qs result row is members document limits =
-    let same : shape_of (joined t u) ≡ shape_of (with_members t qs) =
+    let same : shape_of (joined t u) ≡ shape_of (with_fields t qs) =
     rw (members, is, row) (joined_shape ps qs) in
     record {
       document = subst (λ s. IfOk result (λ owned. owned_bytes owned ≡ shapes.document s)) same
           document;
-      limits = with_memory (Fits (with_members t qs)) result
+      limits = with_memory (Fits (with_fields t qs)) result
           (subst (λ s. MadeIfFit (shapes.ShapeFits s) result) same limits);
     }
 
@@ -319,7 +320,7 @@ pub made_row : (t m : Tree) (n : ℕ) (qs : Pairs) (bytes held : List ℕ)
     (result : Result OwnedJsonb Error) → kind_of_tree t ≡ kinds.Object n → m ≡ object qs
     → Doc held (norm m) → bytes ≡ held
     → IfOk result (λ owned. owned_bytes owned ≡ canon (joined t (tree_in bytes)))
-    → MadeIfFit (Fits (joined t (tree_in bytes))) result → IsMade (with_members t qs) result
+    → MadeIfFit (Fits (joined t (tree_in bytes))) result → IsMadeRow (with_fields t qs) result
 made_row t m n qs bytes held result kind is doc same document limits =
     let (ps, row) = object_kind t n kind in
     made t (tree_in bytes) m ps qs result row is

@@ -11,7 +11,7 @@ use Rattle.jsonb_typed_file.specs.declared.error.FileError.{FileError}
 use Rattle.jsonb_typed_file.specs.declared.error.FileError.TheVariants as errors
 use Rattle.jsonb_typed_file.specs.Layout.{Contents, HasNoMagic, HasOtherVersion, HasTrailingData}
 use Rattle.jsonb_typed_file.specs.Layout.{IsCutOff, IsLayout, Parts}
-use Rattle.jsonb_typed_file.specs.Values.{AreTexts, HasRows, IsWithin, string_at}
+use Rattle.jsonb_typed_file.specs.Values.{AreColumnTexts, HasRows, IsSpanAt, string_at}
 
 -- The number of rows, one fewer than there are offsets of eight bytes.
 abbrev pub row_count : Contents → ℕ
@@ -25,7 +25,7 @@ HaveRows rows (p ∷ ps) = HasRows rows p × HaveRows rows ps
 -- Their texts are UTF-8, and their binary values within their bytes.
 abbrev pub HaveTexts : ℕ → List Parts → Type 0
 HaveTexts rows [] = ⊤
-HaveTexts rows (p ∷ ps) = AreTexts rows p × HaveTexts rows ps
+HaveTexts rows (p ∷ ps) = AreColumnTexts rows p × HaveTexts rows ps
 
 -- The length of each buffer fits the number of rows.
 pub record LengthsFit (f : Contents) : Type 0 where
@@ -56,16 +56,16 @@ AscendNames before (p ∷ ps) =
     IfSome before (λ b. slice_cmp nat_cmp b p.name ≡ Less) × AscendNames (Some p.name) ps
 
 -- The rest of a row is a document.
-abbrev pub IsRest : List ℕ → List ℕ → ℕ → Type 0
-IsRest offsets documents index =
-    IsWithin offsets documents index × IsDocument (string_at offsets documents index)
+abbrev pub IsRestAt : List ℕ → List ℕ → ℕ → Type 0
+IsRestAt offsets documents index =
+    IsSpanAt offsets documents index × IsDocument (string_at offsets documents index)
 
 -- The names ascend, the texts are UTF-8, the binary values are within their bytes, and the rest of
 -- each row is a document.
 pub record IsInForm (f : Contents) : Type 0 where
   pub names : AscendNames None f.columns
   pub texts : HaveTexts (row_count f) f.columns
-  pub rests : (index : ℕ) → index < row_count f → IsRest f.offsets f.documents index
+  pub rests : (index : ℕ) → index < row_count f → IsRestAt f.offsets f.documents index
 
 -- The bytes are this file.
 pub record IsFile (f : Contents) (bytes : List ℕ) : Type 0 where

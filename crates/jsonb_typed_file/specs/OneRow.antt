@@ -12,8 +12,8 @@ abbrev pub flags_of_row : List ℕ → ℕ → List ℕ
 flags_of_row flags index = if is_set flags index then 1 ∷ [] else 0 ∷ []
 
 -- The bytes from one place to another.
-abbrev pub cut : ℕ → ℕ → List ℕ → List ℕ
-cut start end bytes = take (end - start) (drop start bytes)
+abbrev pub span_of : ℕ → ℕ → List ℕ → List ℕ
+span_of start end bytes = take (end - start) (drop start bytes)
 
 -- The column of the row; its texts stay as they are, and its offsets keep the place of its own.
 abbrev pub column_of_row : Parts → ℕ → Parts
@@ -21,15 +21,15 @@ column_of_row p index = record {
   name = p.name;
   type = p.type;
   flags = flags_of_row p.flags index;
-  numbers = cut (number_size p.type index - number_size p.type 0) (number_size p.type (index + 1))
-      p.numbers;
+  numbers = span_of (number_size p.type index - number_size p.type 0)
+      (number_size p.type (index + 1)) p.numbers;
   texts = p.texts;
 }
 
 -- The file of the row.
 abbrev pub file_of_row : Contents → ℕ → Contents
 file_of_row f index = record {
-  offsets = cut (8 * index) (8 * index + 16) f.offsets;
+  offsets = span_of (8 * index) (8 * index + 16) f.offsets;
   documents = f.documents;
   columns = map (λ p. column_of_row p index) f.columns;
 }

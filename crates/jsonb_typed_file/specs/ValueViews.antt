@@ -10,17 +10,17 @@ use Rattle.jsonb_typed_file.specs.declared.column.StoredValue.{StoredValue}
 use Rattle.jsonb_typed_file.specs.declared.column.StoredValue.TheVariants as values
 
 -- The tree of a value.
-abbrev pub value_view : StoredValue → Tree
-value_view (values.Boolean b) = boolean b
-value_view (values.Number x) = number x
-value_view (values.Text s) = text s.now
-value_view (values.Extension e) = extension (extension_of e)
+abbrev pub stored_view : StoredValue → Tree
+stored_view (values.Boolean b) = boolean b
+stored_view (values.Number x) = number x
+stored_view (values.Text s) = text s.now
+stored_view (values.Extension e) = extension (extension_of e)
 
 -- The type and the payload of its entry in a document.
 abbrev pub value_code : StoredValue → ℕ × List ℕ
-value_code v = (type_of (value_view v), payload_of (value_view v))
+value_code v = (type_of (stored_view v), payload_of (stored_view v))
 
 -- The pairs of keys and values.
 abbrev pub members_view : List (Bor (List ℕ) × StoredValue) → Pairs
 members_view [] = no_pairs
-members_view (m ∷ ms) = pair m.0.now (value_view m.1) (members_view ms)
+members_view (m ∷ ms) = pair m.0.now (stored_view m.1) (members_view ms)

@@ -27,8 +27,8 @@ string_at offsets bytes index =
     (drop (number_at 8 index offsets) bytes)
 
 -- The offset is not above the next, and this one is within the bytes.
-abbrev pub IsWithin : List ℕ → List ℕ → ℕ → Type 0
-IsWithin offsets bytes index =
+abbrev pub IsSpanAt : List ℕ → List ℕ → ℕ → Type 0
+IsSpanAt offsets bytes index =
     (number_at 8 index offsets ≤ number_at 8 (index + 1) offsets)
     × (number_at 8 (index + 1) offsets ≤ length bytes)
 
@@ -99,13 +99,13 @@ abbrev pub is_set : List ℕ → ℕ → Bool
 is_set flags index = bit_at (get_or flags (index / 8) 0) (index % 8) == 1
 
 -- The value of a row in a column, if its flag is set.
-abbrev pub cell_at : Parts → ℕ → Option Tree
-cell_at p index =
+abbrev pub column_cell : Parts → ℕ → Option Tree
+column_cell p index =
     if is_set p.flags index then value_tree p.type p.numbers p.texts index else None
 
 -- The same of an index that may not be below the number of rows.
 abbrev pub cell_within : ℕ → Parts → ℕ → Option Tree
-cell_within rows p index = if nat_lt index rows then cell_at p index else None
+cell_within rows p index = if nat_lt index rows then column_cell p index else None
 
 -- How many bytes the numbers of so many rows take: of texts and binary values one offset more.
 abbrev pub number_size : ScalarType → ℕ → ℕ
@@ -126,21 +126,21 @@ pub record HasRows (rows : ℕ) (p : Parts) : Type 0 where
   pub texts : HasTexts p.type p.texts
 
 -- The text of a row is UTF-8 within the bytes, or its binary value is within them.
-abbrev pub IsText : ScalarType → List ℕ → List ℕ → ℕ → Type 0
-IsText types.Text numbers texts index =
-    IsWithin numbers texts index × IsUtf8 (string_at numbers texts index)
-IsText types.Binary numbers texts index = IsWithin numbers texts index
-IsText type numbers texts index = ⊤
+abbrev pub IsTextOfRow : ScalarType → List ℕ → List ℕ → ℕ → Type 0
+IsTextOfRow types.Text numbers texts index =
+    IsSpanAt numbers texts index × IsUtf8 (string_at numbers texts index)
+IsTextOfRow types.Binary numbers texts index = IsSpanAt numbers texts index
+IsTextOfRow type numbers texts index = ⊤
 
 -- The text of each row is UTF-8 within the bytes, or its binary value is within them.
-abbrev pub AreTexts : ℕ → Parts → Type 0
-AreTexts rows p = (index : ℕ) → index < rows → IsText p.type p.numbers p.texts index
+abbrev pub AreColumnTexts : ℕ → Parts → Type 0
+AreColumnTexts rows p = (index : ℕ) → index < rows → IsTextOfRow p.type p.numbers p.texts index
 
 -- The lengths of the buffers fit so many rows, and the texts are UTF-8 or the binary values within
 -- their bytes.
 pub record IsChecked (rows : ℕ) (p : Parts) : Type 0 where
   pub size : HasRows rows p
-  pub texts : AreTexts rows p
+  pub texts : AreColumnTexts rows p
 
 -- A column of so many rows.
 pub record Column : Type 0 where

@@ -9,19 +9,17 @@ pub use Rattle.jsonb_typed_file.specs.Layout.{column_bytes, columns_bytes, heade
 pub use Rattle.jsonb_typed_file.specs.Layout.{magic, EndsEarly, HasNoMagic}
 pub use Rattle.jsonb_typed_file.specs.Layout.{HasTrailingData, IsCutOff}
 pub use Rattle.jsonb_typed_file.specs.Views.{buffers_view, layout_view}
-pub use Rattle.jsonb_typed_file.specs.Values.{AreTexts, Column, HasRows, HasTexts, IsChecked}
-pub use Rattle.jsonb_typed_file.specs.Values.{IsText, IsWithin}
-pub use Rattle.jsonb_typed_file.specs.Values.{cell_at, cell_within, is_set}
+pub use Rattle.jsonb_typed_file.specs.Values.{AreColumnTexts, Column, HasRows, HasTexts, IsChecked}
+pub use Rattle.jsonb_typed_file.specs.Values.{IsSpanAt, IsTextOfRow, cell_within, column_cell}
 pub use Rattle.jsonb_typed_file.specs.Values.{date_in, extension_in, fixed_value, interval_in}
-pub use Rattle.jsonb_typed_file.specs.Values.{number_at, number_size, string_at, timestamp_in}
-pub use Rattle.jsonb_typed_file.specs.Values.{value_size, value_tree, zoned_timestamp_in}
-pub use Rattle.jsonb_typed_file.specs.ValueViews.{members_view, value_code, value_view}
-pub use Rattle.jsonb_typed_file.specs.File.{AscendNames, IsFile, IsInForm, IsRest, LengthsFit}
-pub use Rattle.jsonb_typed_file.specs.File.{HaveRows, HaveTexts, IsFileWithin, IsLayoutTold}
-pub use Rattle.jsonb_typed_file.specs.File.{NestWithin}
-pub use Rattle.jsonb_typed_file.specs.File.{column_named, rest_at, row_count}
-pub use Rattle.jsonb_typed_file.specs.Rows.{IsMade, column_members, row_tree}
-pub use Rattle.jsonb_typed_file.specs.Rows.{with_members}
+pub use Rattle.jsonb_typed_file.specs.Values.{is_set, number_at, number_size, string_at}
+pub use Rattle.jsonb_typed_file.specs.Values.{timestamp_in, value_size, value_tree}
+pub use Rattle.jsonb_typed_file.specs.Values.{zoned_timestamp_in}
+pub use Rattle.jsonb_typed_file.specs.ValueViews.{members_view, stored_view, value_code}
+pub use Rattle.jsonb_typed_file.specs.File.{AscendNames, HaveRows, HaveTexts, IsFile, IsFileWithin}
+pub use Rattle.jsonb_typed_file.specs.File.{IsInForm, IsLayoutTold, IsRestAt, LengthsFit}
+pub use Rattle.jsonb_typed_file.specs.File.{NestWithin, column_named, rest_at, row_count}
+pub use Rattle.jsonb_typed_file.specs.Rows.{IsMadeRow, column_members, row_tree, with_fields}
 pub use Rattle.jsonb_value.specs.ExtCode.{extension_of}
 pub use Rattle.jsonb_value.specs.Norm.{norm}
 pub use Rattle.jsonb_value.specs.Tree.{Ascend, Ascends, object, pair}

@@ -2,9 +2,9 @@
 
 ghost use Rattle.std.specs.Prelude.{◌≡◌, ◌<◌, ◌≤◌, ◌+◌, ◌-◌, ◌*◌, ◌/◌, ◌^◌, ◌↔◌, IsTrue};
 ghost use Rattle.std.specs.Prelude.{MatchOption, length, option_map, ℕ};
-ghost use Rattle.jsonb_typed_file.specs.Words.{AreTexts, HasRows, HasTexts, IsText, IsWithin};
-ghost use Rattle.jsonb_typed_file.specs.Words.{buffers_view, cell_at, is_set, number_size};
-ghost use Rattle.jsonb_typed_file.specs.Words.{string_at, value_tree, value_view};
+ghost use Rattle.jsonb_typed_file.specs.Words.{AreColumnTexts, HasRows, HasTexts, IsSpanAt};
+ghost use Rattle.jsonb_typed_file.specs.Words.{IsTextOfRow, buffers_view, column_cell, is_set};
+ghost use Rattle.jsonb_typed_file.specs.Words.{number_size, stored_view, string_at, value_tree};
 ghost use Rattle.jsonb_typed_file.specs.OneRow.{column_of_row, flags_of_row};
 
 use crate::column::StoredValue;
@@ -27,9 +27,9 @@ impl<'a> Buffers<'a> {
     // The value of a row, of so many rows. `None` if its flag is not set.
     pub fn cell(&self, rows: usize, index: usize) -> Option<StoredValue<'a>>
         requires size { HasRows rows (buffers_view self.now) }
-        requires texts { AreTexts rows (buffers_view self.now) }
+        requires texts { AreColumnTexts rows (buffers_view self.now) }
         requires within { index < rows }
-        ensures { option_map value_view result ≡ cell_at (buffers_view self.now) index }
+        ensures { option_map stored_view result ≡ column_cell (buffers_view self.now) index }
     {
         if is_set(self.flags, index) {
             self.stored(rows, index)
@@ -42,9 +42,9 @@ impl<'a> Buffers<'a> {
     #[tactic(auto, using(crate::proofs::FixedLaws::value_within))]
     fn stored(&self, rows: usize, index: usize) -> Option<StoredValue<'a>>
         requires size { HasRows rows (buffers_view self.now) }
-        requires texts { AreTexts rows (buffers_view self.now) }
+        requires texts { AreColumnTexts rows (buffers_view self.now) }
         requires within { index < rows }
-        ensures { option_map value_view result
+        ensures { option_map stored_view result
             ≡ value_tree self.now.column_type self.now.numbers.now self.now.texts.now index }
     {
         match self.column_type {
@@ -67,8 +67,8 @@ impl<'a> Buffers<'a> {
     fn text(&self, index: usize) -> Option<&'a str>
         requires { 8 * (index + 2) ≤ length self.now.numbers.now }
         ensures { MatchOption result
-            (IsText ScalarType.Text self.now.numbers.now self.now.texts.now index → ⊥)
-            (λ text. IsText ScalarType.Text self.now.numbers.now self.now.texts.now index
+            (IsTextOfRow ScalarType.Text self.now.numbers.now self.now.texts.now index → ⊥)
+            (λ text. IsTextOfRow ScalarType.Text self.now.numbers.now self.now.texts.now index
             × (text.now ≡ string_at self.now.numbers.now self.now.texts.now index)) }
     {
         str::from_utf8(self.bytes(index)?).ok()
@@ -78,8 +78,8 @@ impl<'a> Buffers<'a> {
     fn bytes(&self, index: usize) -> Option<&'a [u8]>
         requires { 8 * (index + 2) ≤ length self.now.numbers.now }
         ensures { MatchOption result
-            (IsWithin self.now.numbers.now self.now.texts.now index → ⊥)
-            (λ bytes. IsWithin self.now.numbers.now self.now.texts.now index
+            (IsSpanAt self.now.numbers.now self.now.texts.now index → ⊥)
+            (λ bytes. IsSpanAt self.now.numbers.now self.now.texts.now index
             × (bytes.now ≡ string_at self.now.numbers.now self.now.texts.now index)) }
     {
         let strings = Strings {
@@ -94,7 +94,7 @@ impl<'a> Buffers<'a> {
     fn is_text(&self, index: usize) -> bool
         requires { 8 * (index + 2) ≤ length self.now.numbers.now }
         ensures { IsTrue result
-            ↔ IsText self.now.column_type self.now.numbers.now self.now.texts.now index }
+            ↔ IsTextOfRow self.now.column_type self.now.numbers.now self.now.texts.now index }
     {
         match self.column_type {
             ScalarType::Text => self.text(index).is_some(),
@@ -116,7 +116,7 @@ impl<'a> Buffers<'a> {
     // Whether the texts of so many rows are UTF-8, or the binary values within the bytes.
     pub fn are_texts(&self, rows: usize) -> bool
         requires { HasRows rows (buffers_view self.now) }
-        ensures { IsTrue result ↔ AreTexts rows (buffers_view self.now) }
+        ensures { IsTrue result ↔ AreColumnTexts rows (buffers_view self.now) }
     {
         match self.column_type {
             ScalarType::Text | ScalarType::Binary => self.all_texts(rows),
@@ -146,7 +146,7 @@ impl<'a> Buffers<'a> {
     fn all_texts(&self, rows: usize) -> bool
         requires { length self.now.numbers.now ≡ 8 * (rows + 1) }
         ensures { IsTrue result ↔ ((index : ℕ) → index < rows
-            → IsText self.now.column_type self.now.numbers.now self.now.texts.now index) }
+            → IsTextOfRow self.now.column_type self.now.numbers.now self.now.texts.now index) }
     {
         for index in 0..rows {
             if !self.is_text(index) {

@@ -4,7 +4,7 @@ ghost use Rattle.std.specs.Prelude.{◌≡◌, ◌⊎◌, ◌<◌, Err, IfErr, I
 ghost use Rattle.jsonb_typed_file.specs.Words.{Fits, HaveRows, HaveTexts};
 ghost use Rattle.jsonb_typed_file.specs.Words.{buffers_view, document_tree};
 ghost use Rattle.jsonb_typed_file.specs.Written.{AllFit, ArePlanned, AreRows, HaveCells, IsFileOf};
-ghost use Rattle.jsonb_typed_file.specs.Written.{IsRow};
+ghost use Rattle.jsonb_typed_file.specs.Written.{IsWrittenRow};
 
 use crate::buffers::Buffers;
 use crate::error::{FileError, WriteError};
@@ -90,7 +90,7 @@ fn is_row(
     row: Document<'_>,
     index: usize,
 ) -> Result<bool, WriteError>
-    ensures row { IfOk result (λ b. IsTrue b → IsRow file.now index row.entry) }
+    ensures row { IfOk result (λ b. IsTrue b → IsWrittenRow file.now index row.entry) }
     ensures large { result ≡ Err WriteError.RowTooLarge → Fits (document_tree row.entry) → ⊥ }
     ensures only { IfErr result (λ e. (e ≡ WriteError.RowTooLarge)
         ⊎ (e ≡ WriteError.OutOfMemory)) }

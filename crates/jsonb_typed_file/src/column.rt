@@ -2,7 +2,7 @@
 
 ghost use Rattle.std.specs.Prelude.{◌≡◌, option_map};
 ghost use Rattle.jsonb_typed_file.specs.Words.{Column, IsChecked, buffers_view, cell_within};
-ghost use Rattle.jsonb_typed_file.specs.Words.{value_view};
+ghost use Rattle.jsonb_typed_file.specs.Words.{stored_view};
 
 use crate::buffers::Buffers;
 use jsonb::{ExtensionValue, Number};
@@ -72,7 +72,7 @@ impl<'a> StoredColumn<'a> {
     /// The value of the row at this index, counted from 0. `None` if the column has no value of
     /// that row, or the index is not below the number of rows.
     pub fn value(&self, index: usize) -> Option<StoredValue<'a>>
-        ensures { option_map value_view result
+        ensures { option_map stored_view result
             ≡ cell_within self.now.rows self.now.parts index }
     {
         if index < self.rows {

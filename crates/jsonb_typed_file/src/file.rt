@@ -4,11 +4,11 @@ ghost use Rattle.std.specs.Prelude.{◌≡◌, ◌≢◌, ◌⊎◌, Err, IfErr,
 ghost use Rattle.std.specs.Prelude.{◌<◌, ◌≤◌, IfSome, MatchOption, None, Some, length, map};
 ghost use Rattle.std.specs.Prelude.{option_map};
 ghost use Rattle.std.specs.Result.{result_err};
-ghost use Rattle.jsonb_typed_file.specs.Words.{Contents, IsFile, IsFileWithin, IsInForm};
-ghost use Rattle.jsonb_typed_file.specs.Words.{IsLayout, IsLayoutTold, layout_view};
-ghost use Rattle.jsonb_typed_file.specs.Words.{LengthsFit, buffers_view, column_named};
-ghost use Rattle.jsonb_typed_file.specs.Words.{IsMade, document_bytes, rest_at, row_count};
-ghost use Rattle.jsonb_typed_file.specs.Words.{HaveRows, HaveTexts, NestWithin, row_tree};
+ghost use Rattle.jsonb_typed_file.specs.Words.{Contents, HaveRows, HaveTexts, IsFile, IsFileWithin};
+ghost use Rattle.jsonb_typed_file.specs.Words.{IsInForm, IsLayout, IsLayoutTold, IsMadeRow};
+ghost use Rattle.jsonb_typed_file.specs.Words.{LengthsFit, NestWithin, buffers_view, column_named};
+ghost use Rattle.jsonb_typed_file.specs.Words.{document_bytes, layout_view, rest_at, row_count};
+ghost use Rattle.jsonb_typed_file.specs.Words.{row_tree};
 ghost use Rattle.jsonb_typed_file.specs.OneRow.{IsRowInForm, IsRowOf, IsRowWithin};
 
 use crate::buffers::Buffers;
@@ -233,7 +233,7 @@ impl<'a> TypedFile<'a> {
     /// limit of the format, `OutOfMemory` if an allocation fails.
     pub fn row(&self, alloc: Global, index: usize) -> Option<Result<OwnedJsonb, Error>>
         ensures { MatchOption result (row_count self.now ≤ index)
-            (λ made. (index < row_count self.now) × IsMade (row_tree self.now index) made) }
+            (λ made. (index < row_count self.now) × IsMadeRow (row_tree self.now index) made) }
     {
         match self.rest(index) {
             Some(rest) => Some(whole_row(alloc, rest, &self.columns, self.len(), index)),

@@ -4,8 +4,8 @@ ghost use Rattle.std.specs.Prelude.{◌≡◌, ◌≤◌, ◌+◌, drop, length,
 ghost use Rattle.std.specs.Int.{w32, w64, w128, cast_signed};
 ghost use Rattle.byteorder.specs.Endian.{big_number};
 ghost use Rattle.jsonb_typed_file.specs.Words.{date_in, extension_in, extension_of, fixed_value};
-ghost use Rattle.jsonb_typed_file.specs.Words.{interval_in, number, number_of, timestamp_in};
-ghost use Rattle.jsonb_typed_file.specs.Words.{value_size, value_view, zoned_timestamp_in};
+ghost use Rattle.jsonb_typed_file.specs.Words.{interval_in, number, number_of, stored_view};
+ghost use Rattle.jsonb_typed_file.specs.Words.{timestamp_in, value_size, zoned_timestamp_in};
 
 use crate::column::StoredValue;
 use byteorder::{BigEndian, ByteOrder};
@@ -31,7 +31,7 @@ pub(crate) fn value_size(column_type: ScalarType) -> usize
 // The value in the first bytes, of a type whose values all take as many.
 pub(crate) fn fixed_value<'a>(column_type: ScalarType, bytes: &[u8]) -> Option<StoredValue<'a>>
     requires { value_size column_type ≤ length bytes.now }
-    ensures { option_map value_view result ≡ fixed_value column_type bytes.now }
+    ensures { option_map stored_view result ≡ fixed_value column_type bytes.now }
 {
     match column_type {
         ScalarType::Boolean => Some(StoredValue::Boolean(bytes[0] != 0)),
@@ -44,7 +44,7 @@ pub(crate) fn fixed_value<'a>(column_type: ScalarType, bytes: &[u8]) -> Option<S
 
 // A number with so many digits after its point.
 fn number<'a>(scale: u8, value: i128) -> Option<StoredValue<'a>>
-    ensures { option_map value_view result ≡ option_map number (number_of scale value) }
+    ensures { option_map stored_view result ≡ option_map number (number_of scale value) }
 {
     Some(StoredValue::Number(Number::from_scaled(usize::from(scale), value)?))
 }

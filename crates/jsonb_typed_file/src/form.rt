@@ -4,8 +4,8 @@ ghost use Rattle.std.specs.Prelude.{◌≡◌, ◌<◌, ◌≤◌, ◌+◌, ◌-
 ghost use Rattle.std.specs.Bool.{OnFalse, OnTrue};
 ghost use Rattle.std.specs.Prelude.{IfSome, length, map, option_map};
 ghost use Rattle.jsonb_value.specs.Words.{nat_cmp, slice_cmp, Less};
-ghost use Rattle.jsonb_typed_file.specs.Words.{AscendNames, HaveRows, HaveTexts, IsInForm, IsRest};
-ghost use Rattle.jsonb_typed_file.specs.Words.{IsDocumentWithin, LengthsFit, NestWithin};
+ghost use Rattle.jsonb_typed_file.specs.Words.{AscendNames, HaveRows, HaveTexts, IsDocumentWithin};
+ghost use Rattle.jsonb_typed_file.specs.Words.{IsInForm, IsRestAt, LengthsFit, NestWithin};
 ghost use Rattle.jsonb_typed_file.specs.Words.{buffers_view, layout_view, string_at};
 
 use crate::buffers::Buffers;
@@ -104,7 +104,7 @@ fn have_texts(columns: &[Buffers<'_>], rows: usize) -> bool
 fn are_documents(rests: Strings<'_>, rows: usize) -> bool
     requires { length rests.offsets.now ≡ 8 * (rows + 1) }
     ensures { IsTrue result ↔ ((index : ℕ) → index < rows
-        → IsRest rests.entry.offsets.now rests.entry.bytes.now index) }
+        → IsRestAt rests.entry.offsets.now rests.entry.bytes.now index) }
 {
     for index in 0..rows {
         if !is_rest(rests, index) {
@@ -134,7 +134,7 @@ fn rests_nest_deeper(rests: Strings<'_>, rows: usize, depth: usize) -> bool
     ensures deeper { OnTrue result (((index : ℕ) → index < rows → IsDocumentWithin depth
         (string_at rests.entry.offsets.now rests.entry.bytes.now index)) → ⊥) }
     ensures within { OnFalse result ((index : ℕ) → index < rows
-        → IsRest rests.entry.offsets.now rests.entry.bytes.now index → IsDocumentWithin depth
+        → IsRestAt rests.entry.offsets.now rests.entry.bytes.now index → IsDocumentWithin depth
         (string_at rests.entry.offsets.now rests.entry.bytes.now index)) }
 {
     for index in 0..rows {
@@ -150,7 +150,7 @@ fn nests_deeper_at(rests: Strings<'_>, index: usize, depth: usize) -> bool
     requires { 8 * (index + 2) ≤ length rests.offsets.now }
     ensures deeper { OnTrue result (IsDocumentWithin depth
         (string_at rests.entry.offsets.now rests.entry.bytes.now index) → ⊥) }
-    ensures within { OnFalse result (IsRest rests.entry.offsets.now rests.entry.bytes.now index
+    ensures within { OnFalse result (IsRestAt rests.entry.offsets.now rests.entry.bytes.now index
         → IsDocumentWithin depth
         (string_at rests.entry.offsets.now rests.entry.bytes.now index)) }
 {
@@ -164,7 +164,7 @@ fn nests_deeper_at(rests: Strings<'_>, index: usize, depth: usize) -> bool
 fn is_rest(rests: Strings<'_>, index: usize) -> bool
     requires { 8 * (index + 2) ≤ length rests.offsets.now }
     ensures { IsTrue result
-        ↔ IsRest rests.entry.offsets.now rests.entry.bytes.now index }
+        ↔ IsRestAt rests.entry.offsets.now rests.entry.bytes.now index }
 {
     match rests.at(index) {
         Some(rest) => is_document(rest),

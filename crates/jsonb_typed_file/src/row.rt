@@ -2,11 +2,11 @@
 
 ghost use Rattle.std.specs.Prelude.{◌≡◌, ◌<◌, ⊤, IfOk, None, OnOk, Some, map};
 ghost use Rattle.jsonb_typed_file.specs.Words.{Ascend, AscendNames, Ascends, Doc, Fits, HaveRows};
-ghost use Rattle.jsonb_typed_file.specs.Words.{HaveTexts, IsExtension, IsMade, IsNumber, IsTree};
+ghost use Rattle.jsonb_typed_file.specs.Words.{HaveTexts, IsExtension, IsMadeRow, IsNumber, IsTree};
 ghost use Rattle.jsonb_typed_file.specs.Words.{MadeIfFit, buffers_view, canon, code_of};
 ghost use Rattle.jsonb_typed_file.specs.Words.{column_members, document_tree, extension_of};
 ghost use Rattle.jsonb_typed_file.specs.Words.{members_view, norm, object, owned_bytes, pair};
-ghost use Rattle.jsonb_typed_file.specs.Words.{value_code, value_view, with_members};
+ghost use Rattle.jsonb_typed_file.specs.Words.{stored_view, value_code, with_fields};
 
 use crate::buffers::Buffers;
 use crate::column::StoredValue;
@@ -33,7 +33,7 @@ pub(crate) fn whole_row(
     requires texts { HaveTexts rows (map buffers_view columns.now) }
     requires names { AscendNames None (map buffers_view columns.now) }
     requires within { index < rows }
-    ensures { IsMade (with_members (document_tree rest.entry)
+    ensures { IsMadeRow (with_fields (document_tree rest.entry)
         (column_members (map buffers_view columns.now) index)) result }
 {
     let JsonbItemType::Object(count) = rest.kind() else {
@@ -81,7 +81,7 @@ fn insert_first<'a>(
 ) -> Result<(), AllocError>
     requires { Ascends (Some key.now) (members_view members.now.entries) }
     ensures { OnOk result (members_view members.new.entries
-        ≡ pair key.entry.now (value_view value.entry) (members_view members.old.entries)) }
+        ≡ pair key.entry.now (stored_view value.entry) (members_view members.old.entries)) }
 {
     members.insert(key, value)?;
     Ok(())
@@ -107,7 +107,7 @@ impl<'a> Stored for StoredValue<'a> {
 
     ghost code = { value_code };
 
-    ghost held = { λ value. IsTree (value_view value) };
+    ghost held = { λ value. IsTree (stored_view value) };
 
     #[inline(always)]
     fn is_stored(&self) -> bool {

@@ -2,8 +2,8 @@
 
 ghost use Rattle.std.specs.Prelude.{◌≡◌, IsTrue, Some, option_map};
 ghost use Rattle.jsonb_typed_file.specs.Words.{HoldsNoScalar, document_tree, node_tree};
-ghost use Rattle.jsonb_typed_file.specs.Words.{value_of_key, value_view};
-ghost use Rattle.jsonb_typed_file.specs.Written.{IsCell, scalar_tree};
+ghost use Rattle.jsonb_typed_file.specs.Words.{stored_view, value_of_key};
+ghost use Rattle.jsonb_typed_file.specs.Written.{IsCell, stored_scalar};
 
 use crate::column::StoredValue;
 use jsonb::{Document, Node};
@@ -16,7 +16,7 @@ pub(crate) fn cell_of<'a>(
     column_type: ScalarType,
 ) -> Option<StoredValue<'a>>
     ensures { IsCell column_type (value_of_key name.now (document_tree row.entry))
-        (option_map value_view result) }
+        (option_map stored_view result) }
 {
     match row.get(name) {
         Some(member) => value_in(opened(member), column_type),
@@ -27,7 +27,7 @@ pub(crate) fn cell_of<'a>(
 // A member, if it is a value of the type.
 fn value_in(member: Node<'_>, column_type: ScalarType) -> Option<StoredValue<'_>>
     requires { HoldsNoScalar member }
-    ensures { IsCell column_type (Some (node_tree member.entry)) (option_map value_view result) }
+    ensures { IsCell column_type (Some (node_tree member.entry)) (option_map stored_view result) }
 {
     if is_scalar(member, column_type, Fit::Exact) {
         scalar_of(member)
@@ -39,7 +39,7 @@ fn value_in(member: Node<'_>, column_type: ScalarType) -> Option<StoredValue<'_>
 // A truth value, a number, a text or an extension value.
 fn scalar_of(member: Node<'_>) -> Option<StoredValue<'_>>
     requires { HoldsNoScalar member }
-    ensures { option_map value_view result ≡ scalar_tree (node_tree member.entry) }
+    ensures { option_map stored_view result ≡ stored_scalar (node_tree member.entry) }
 {
     match member {
         Node::Boolean(truth) => Some(StoredValue::Boolean(truth)),
@@ -53,7 +53,7 @@ fn scalar_of(member: Node<'_>) -> Option<StoredValue<'_>>
 // Whether two cells have the same value, numbers with their kinds and digits.
 pub(crate) fn is_same_cell(left: Option<StoredValue<'_>>, right: Option<StoredValue<'_>>) -> bool
     ensures { IsTrue result
-        → option_map value_view left.entry ≡ option_map value_view right.entry }
+        → option_map stored_view left.entry ≡ option_map stored_view right.entry }
 {
     match (left, right) {
         (Some(left), Some(right)) => is_same(left, right),
@@ -64,7 +64,7 @@ pub(crate) fn is_same_cell(left: Option<StoredValue<'_>>, right: Option<StoredVa
 
 // Whether two values are the same.
 fn is_same(left: StoredValue<'_>, right: StoredValue<'_>) -> bool
-    ensures { IsTrue result → value_view left.entry ≡ value_view right.entry }
+    ensures { IsTrue result → stored_view left.entry ≡ stored_view right.entry }
 {
     match (left, right) {
         (StoredValue::Boolean(left), StoredValue::Boolean(right)) => left == right,

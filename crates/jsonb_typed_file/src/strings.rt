@@ -1,7 +1,7 @@
 //! Byte strings that follow one another, found by their offsets.
 
 ghost use Rattle.std.specs.Prelude.{◌≡◌, ◌<◌, ◌≤◌, ◌+◌, ◌*◌, length, MatchOption};
-ghost use Rattle.jsonb_typed_file.specs.Words.{IsWithin, number_at, string_at};
+ghost use Rattle.jsonb_typed_file.specs.Words.{IsSpanAt, number_at, string_at};
 
 use byteorder::{BigEndian, ByteOrder};
 
@@ -18,8 +18,8 @@ impl<'a> Strings<'a> {
     pub fn at(self, index: usize) -> Option<&'a [u8]>
         requires { 8 * (index + 2) ≤ length self.offsets.now }
         ensures { MatchOption result
-            (IsWithin self.entry.offsets.now self.entry.bytes.now index → ⊥)
-            (λ string. IsWithin self.entry.offsets.now self.entry.bytes.now index
+            (IsSpanAt self.entry.offsets.now self.entry.bytes.now index → ⊥)
+            (λ string. IsSpanAt self.entry.offsets.now self.entry.bytes.now index
             × (string.now ≡ string_at self.entry.offsets.now self.entry.bytes.now index)) }
     {
         let start = offset_at(self.offsets, index);

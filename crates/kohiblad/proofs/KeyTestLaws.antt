@@ -10,7 +10,7 @@ use Rattle.jsonb_value.specs.Tree.{Tree}
 use Rattle.jsonb_functions.specs.Contains.{has_top_key}
 use Rattle.kohiblad.specs.KeyTests.{AreKeysAnswered, has_all_keys, has_some_key, keys_answer}
 use Rattle.kohiblad.specs.Names.{names_in}
-use Rattle.kohiblad.specs.Scalars.{no_truth, truth_of}
+use Rattle.kohiblad.specs.Scalars.{no_truth, truth_answer}
 use Rattle.kohiblad.specs.Status.{code}
 use Rattle.kohiblad.specs.declared.scalar.KohibladTruth.{KohibladTruth}
 
@@ -21,10 +21,10 @@ texts = map (λ name. name.now)
 pub tested_by : (has : List (List ℕ) → Tree → Bool) (t u : Tree) (keys : List (List ℕ)) (b : Bool)
     (r : Result Bool Error) (answer : KohibladTruth) → Some keys ≡ names_in u → b ≡ has keys t
     → IfOk r (λ found. found ≡ b) → IfErr r (λ e. e ≡ OutOfMemory)
-    → IfOk r (λ found. answer ≡ truth_of found) → IfErr r (λ e. answer ≡ no_truth (code e))
+    → IfOk r (λ found. answer ≡ truth_answer found) → IfErr r (λ e. answer ≡ no_truth (code e))
     → AreKeysAnswered has (document t) (document u) answer
 tested_by has t u keys b (Ok found) answer e same ok memory answered refused =
-    inl (answered ∙ ap truth_of (ok ∙ same)
+    inl (answered ∙ ap truth_answer (ok ∙ same)
     ∙ ap (λ (it : Option (List (List ℕ))). keys_answer has t it) e)
 tested_by has t u keys b (Err error) answer e same ok memory answered refused =
     inr (refused ∙ ap (λ (x : Error). no_truth (code x)) memory)

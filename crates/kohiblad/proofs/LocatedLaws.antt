@@ -13,7 +13,7 @@ use Rattle.typed_vector.specs.Cells.{Cell, absent, value, other}
 use Rattle.jsonb_typed.specs.Surveys.{member_cell}
 use Rattle.jsonb_typed.specs.Types.{HoldsScalars}
 use Rattle.kohiblad.specs.declared.places.KohibladPlace.{KohibladPlace}
-use Rattle.kohiblad.specs.Located.{HoldsNone, IsCellRead, IsNowhere, IsPayloadRead, IsPlaceOf}
+use Rattle.kohiblad.specs.Located.{HoldsNone, IsCellPlace, IsCellRead, IsNowhere, IsPayloadRead}
 use Rattle.kohiblad.specs.Located.{IsTakenAt, IsThere, each_after, each_of, entry_state}
 use Rattle.kohiblad.specs.Located.{place_state}
 use Rattle.kohiblad.specs.Status.{none}
@@ -76,7 +76,7 @@ module _ {V : Type 0} (Stands : V → Tree → Type 0) (blank : V) where
 
   none_held : (bytes : List ℕ) (place : KohibladPlace) (member : Option Node) (taken : V × ℕ)
       → IsTakenCell Stands blank (member_cell (option_map node_tree member)) taken
-      → IfSome member (λ node. IsPlaceOf bytes (value (node_tree node)) place)
+      → IfSome member (λ node. IsCellPlace bytes (value (node_tree node)) place)
       → IfNone member (place_state bytes place ≡ 0)
       → HoldsNone bytes place → taken ≡ (blank, place_state bytes place)
   none_held bytes place (Some node) taken is held none holds =
@@ -86,9 +86,9 @@ module _ {V : Type 0} (Stands : V → Tree → Type 0) (blank : V) where
 
   pub taken_member : (bytes : List ℕ) (place : KohibladPlace) (member : Option Node)
       (taken : V × ℕ)
-      → ((cell : Cell Tree) → IsPlaceOf bytes cell place → IsCellRead cell (Ok member))
+      → ((cell : Cell Tree) → IsCellPlace bytes cell place → IsCellRead cell (Ok member))
       → IsTakenCell Stands blank (member_cell (option_map node_tree member)) taken
-      → IfSome member (λ node. IsPlaceOf bytes (value (node_tree node)) place)
+      → IfSome member (λ node. IsCellPlace bytes (value (node_tree node)) place)
       → IfNone member (place_state bytes place ≡ 0)
       → IsTakenAt Stands blank bytes place taken
   taken_member bytes place member taken read is held none = (
@@ -111,7 +111,7 @@ module _ {V : Type 0} (Stands : V → Tree → Type 0) (blank : V) where
 
   pub taken_payload : (bytes : List ℕ) (place : KohibladPlace) (payload : Bor (List ℕ))
       (taken : V × ℕ)
-      → ((cell : Cell Tree) → IsPlaceOf bytes cell place
+      → ((cell : Cell Tree) → IsCellPlace bytes cell place
       → IsPayloadRead place.type_code cell (Ok (Some payload)))
       → ((t : Tree) → IsPayloadOf place.type_code payload.now t
       → IsTakenCell Stands blank (member_cell (Some t)) taken)
@@ -142,7 +142,7 @@ module _ {V : Type 0} (Stands : V → Tree → Type 0) (blank : V) where
   none_cell (other b) type read = absurd cc
 
   pub taken_none : (bytes : List ℕ) (place : KohibladPlace)
-      → ((cell : Cell Tree) → IsPlaceOf bytes cell place
+      → ((cell : Cell Tree) → IsCellPlace bytes cell place
       → IsPayloadRead place.type_code cell (Ok None))
       → place.status ≡ none
       → IsTakenAt Stands blank bytes place (blank, 0)
@@ -161,7 +161,7 @@ module _ {V : Type 0} (Stands : V → Tree → Type 0) (blank : V) where
   fault_cell (other b) type state is read = ap (λ (n : ℕ). (blank, n)) is
 
   pub taken_fault : (bytes : List ℕ) (place : KohibladPlace) (state : ℕ) → state ≡ 4
-      → ((cell : Cell Tree) → IsPlaceOf bytes cell place
+      → ((cell : Cell Tree) → IsCellPlace bytes cell place
       → IsPayloadRead place.type_code cell (Err state))
       → IsNowhere bytes place
       → IsTakenAt Stands blank bytes place (blank, state)
@@ -183,7 +183,7 @@ module _ {V : Type 0} (Stands : V → Tree → Type 0) (blank : V) where
       state_is same = cc
 
   pub taken_state : (bytes : List ℕ) (place : KohibladPlace) (state : ℕ) → HoldsScalars Stands
-      → ((cell : Cell Tree) → IsPlaceOf bytes cell place → IsCellRead cell (Err state))
+      → ((cell : Cell Tree) → IsCellPlace bytes cell place → IsCellRead cell (Err state))
       → (state ≡ 3) ⊎ (state ≡ 4) → state ≡ place_state bytes place
       → IsTakenAt Stands blank bytes place (blank, state)
   taken_state bytes place state scalars read known is = (

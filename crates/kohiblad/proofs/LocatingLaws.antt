@@ -42,7 +42,7 @@ use Rattle.kohiblad.specs.declared.places.KohibladPlace.{KohibladPlace}
 use Rattle.kohiblad.specs.declared.row_walk.RowWalk.{RowWalk}
 use Rattle.kohiblad.specs.declared.taking.Reading.{Reading}
 use Rattle.kohiblad.specs.declared.taking.Reading.TheVariants.{Checked, Unchecked}
-use Rattle.kohiblad.specs.Located.{IsPlaceOf}
+use Rattle.kohiblad.specs.Located.{IsCellPlace}
 use Rattle.kohiblad.specs.Locating.{AreNamesLocated, ArePutBehind, IsInRow, IsKnownRow}
 use Rattle.kohiblad.specs.Locating.{IsLocated, IsLocatedIn, IsMemberPlace, IsSomePlace}
 use Rattle.kohiblad.specs.Locating.{IsValueOfName}
@@ -52,7 +52,7 @@ use Rattle.kohiblad.specs.Names.{names_in}
 use Rattle.kohiblad.specs.PlacedMembers.{name_place, name_under, names_ascend}
 use Rattle.kohiblad.specs.Places.{place_answer}
 use Rattle.kohiblad.specs.RowCells.{meaning_cell}
-use Rattle.kohiblad.specs.RowWalks.{IsFoundIn}
+use Rattle.kohiblad.specs.RowWalks.{IsSoughtIn}
 use Rattle.kohiblad.specs.Rows.{are_offsets}
 use Rattle.kohiblad.specs.Status.{code, other_kind}
 use Rattle.kohiblad.proofs.TakingLaws.{one_more_in}
@@ -127,7 +127,7 @@ module _ (bytes row : List ℕ) (start end : ℕ) (is : row ≡ take (end - star
       ap length is ∙ omega (arith, n, m)
 
   held_place : (o : Option Tree) (found : Option Entry) → HoldsFound row found o
-      → IfSome found (IsEntryIn row) → IsPlaceOf bytes (member_cell o) (placed_answer start found)
+      → IfSome found (IsEntryIn row) → IsCellPlace bytes (member_cell o) (placed_answer start found)
   held_place None None holds within = refl
   held_place None (Some entry) holds within = absurd holds
   held_place (Some t) None holds within = absurd holds
@@ -158,7 +158,7 @@ module _ (bytes row : List ℕ) (start end : ℕ) (is : row ≡ take (end - star
       → IsMemberPlace start row name place → IsLocated Unchecked bytes row name place
   member_located name place (found, (same, (within, named))) = (
     λ t document.
-        subst (IsPlaceOf bytes (member_cell (found_at (Key name ∷ []) t))) (sym same)
+        subst (IsCellPlace bytes (member_cell (found_at (Key name ∷ []) t))) (sym same)
         (held_place (found_at (Key name ∷ []) t) found
         (subst (λ (o : Option Entry). HoldsFound row o (found_at (Key name ∷ []) t))
         (sym (named t document)) (name_holds row t name document)) within),
@@ -174,7 +174,7 @@ module _ (bytes row : List ℕ) (start end : ℕ) (is : row ≡ take (end - star
   known_located Unchecked known name place is_member = member_located name place is_member
   known_located (Checked depth) (t, (document_is, means)) name place is_member =
       subst
-      (λ (m : Meaning). IsPlaceOf bytes (meaning_cell (Key name ∷ []) m) place) (sym means)
+      (λ (m : Meaning). IsCellPlace bytes (meaning_cell (Key name ∷ []) m) place) (sym means)
       ((member_located name place is_member).0 t document_is)
 
   in_row : (name : Bor (List ℕ)) (place : KohibladPlace) → IsMemberPlace start row name place
@@ -248,10 +248,10 @@ same_located reading bytes span same (name ∷ names) (place ∷ places) each va
 -- The places of the names that are left are still to be found in the walk.
 abbrev pub AreFound : RowWalk → List (Bor (List ℕ)) → Type 0
 AreFound walk [] = ⊤
-AreFound walk (name ∷ names) = IsFoundIn name.now walk × AreFound walk names
+AreFound walk (name ∷ names) = IsSoughtIn name.now walk × AreFound walk names
 
 pub all_found : (walk : RowWalk) (names : List (Bor (List ℕ)))
-    → ((name : List ℕ) → IsFoundIn name walk) → AreFound walk names
+    → ((name : List ℕ) → IsSoughtIn name walk) → AreFound walk names
 all_found walk [] each = tt
 all_found walk (name ∷ names) each = (each name.now, all_found walk names each)
 
@@ -264,7 +264,7 @@ is_less Equal others is = absurd cc
 is_less Greater others is = absurd cc
 
 later_found : (walk after : RowWalk) (name : List ℕ) (names : List (Bor (List ℕ)))
-    → ((k : List ℕ) → slice_cmp nat_cmp name k ≡ Less → IsFoundIn k walk → IsFoundIn k after)
+    → ((k : List ℕ) → slice_cmp nat_cmp name k ≡ Less → IsSoughtIn k walk → IsSoughtIn k after)
     → names_ascend (Some name) (texts names) ≡ true → AreFound walk names → AreFound after names
 later_found walk after name [] later order found = tt
 later_found walk after name (next ∷ names) later order found =
@@ -393,7 +393,7 @@ pub record NamesSoFar (start : ℕ) (row : List ℕ) (names left : List (Bor (Li
 
 pub later_names : (walk after : RowWalk) (left later : List (Bor (List ℕ)))
     (name : Bor (List ℕ)) → left ≡ name ∷ later
-    → ((k : List ℕ) → slice_cmp nat_cmp name.now k ≡ Less → IsFoundIn k walk → IsFoundIn k after)
+    → ((k : List ℕ) → slice_cmp nat_cmp name.now k ≡ Less → IsSoughtIn k walk → IsSoughtIn k after)
     → names_ascend None (texts left) ≡ true → AreFound walk left
     → AreFound after later × (names_ascend None (texts later) ≡ true)
 later_names walk after left later name cut keeps order found =
@@ -405,7 +405,7 @@ later_names walk after left later name cut keeps order found =
     )
 
 pub first_found : (walk : RowWalk) (left later : List (Bor (List ℕ))) (name : Bor (List ℕ))
-    → left ≡ name ∷ later → AreFound walk left → IsFoundIn name.now walk
+    → left ≡ name ∷ later → AreFound walk left → IsSoughtIn name.now walk
 first_found walk left later name cut found = (subst (AreFound walk) cut found).0
 
 -- The offsets that are left, and the room for their rows.

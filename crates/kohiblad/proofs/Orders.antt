@@ -15,7 +15,7 @@ use Rattle.jsonb.specs.declared.sort_key.SortKey.{SortKey}
 use Rattle.jsonb.specs.KeyOrder.{key_cmp}
 use Rattle.jsonb.specs.SortKey.{key_meaning}
 use Rattle.jsonb.proofs.KeyOrderLaws.{key_cmp-is}
-use Rattle.kohiblad.specs.Rows.{rows_from}
+use Rattle.typed_vector.specs.Cells.{rows_from}
 use Rattle.kohiblad.specs.SortOrder.{row_cmp, IsOrderOf}
 
 abbrev pub numbers_of : List (SortKey × ℕ) → List ℕ

@@ -4,7 +4,7 @@ use Rattle.jsonb_value.specs.Meaning.{Meaning, document, other_bytes}
 use Rattle.jsonb_functions.specs.declared.path.Step.{Step}
 use Rattle.jsonb_functions.specs.StoredPath.{StepView, path_in}
 use Rattle.kohiblad.specs.OverRows.{OverRows, WithPath, WithSteps}
-use Rattle.kohiblad.specs.Rows.{rows}
+use Rattle.typed_vector.specs.Cells.{rows}
 
 pub not_refused : {A : Type 0} (x : A) (status : ℕ) → Ok x ≡ Err status → ⊥
 not_refused x status both = absurd cc

@@ -14,7 +14,7 @@ use Rattle.jsonb_value.specs.Meaning.{Meaning}
 use Rattle.jsonb_functions.specs.declared.path.Step.{Step}
 use Rattle.kohiblad.specs.Located.{IsTakenAt}
 use Rattle.kohiblad.specs.OverRows.{OverRows}
-use Rattle.kohiblad.specs.Taking.{IsTakenBy, values_of}
+use Rattle.kohiblad.specs.Taking.{IsTakenBy, values_put}
 use Rattle.kohiblad.specs.declared.taking.Reading.TheVariants.{Unchecked}
 use Rattle.kohiblad.specs.TakenTexts.{AreRowTextsTaken, AreTextsMade, AreTextsRefused}
 use Rattle.kohiblad.specs.TakenTexts.{AreTextsTaken, HandingOver, IsBytes, IsBytesAt}
@@ -70,20 +70,20 @@ pub one_more_text : (taken : List (List ℕ × ℕ)) (kept after : TakenTexts) (
     → after.states.items ≡ kept.states.items ++ one.1 ∷ []
     → IsTextsOf (taken ++ one ∷ []) after
 one_more_text taken kept after one are more_texts more_offsets more_states =
-    let values : values_of (taken ++ one ∷ []) ≡ values_of taken ++ one.0 ∷ [] =
+    let values : values_put (taken ++ one ∷ []) ≡ values_put taken ++ one.0 ∷ [] =
     map-append (λ (p : List ℕ × ℕ). p.0) taken (one ∷ []) in
-    let joined : concat (values_of taken ++ one.0 ∷ []) ≡ concat (values_of taken) ++ one.0 =
-    concat-append (values_of taken) (one.0 ∷ [])
-    ∙ ap (λ (xs : List ℕ). concat (values_of taken) ++ xs) (append-nil one.0) in
-    let texts_are : after.texts.items ≡ concat (values_of taken ++ one.0 ∷ []) =
+    let joined : concat (values_put taken ++ one.0 ∷ []) ≡ concat (values_put taken) ++ one.0 =
+    concat-append (values_put taken) (one.0 ∷ [])
+    ∙ ap (λ (xs : List ℕ). concat (values_put taken) ++ xs) (append-nil one.0) in
+    let texts_are : after.texts.items ≡ concat (values_put taken ++ one.0 ∷ []) =
     more_texts ∙ ap (λ (xs : List ℕ). xs ++ one.0) are.texts ∙ sym joined in
-    let total = length (concat (values_of taken ++ one.0 ∷ [])) in
+    let total = length (concat (values_put taken ++ one.0 ∷ [])) in
     let from_0 : total ≡ 0 + total = omega arith in
-    let offsets_are : after.offsets.items ≡ text_offsets (values_of taken ++ one.0 ∷ []) =
+    let offsets_are : after.offsets.items ≡ text_offsets (values_put taken ++ one.0 ∷ []) =
     more_offsets
     ∙ ap₂ (λ (xs : List ℕ) (k : ℕ). xs ++ k ∷ []) are.offsets (ap length texts_are)
-    ∙ ap (λ (k : ℕ). text_offsets (values_of taken) ++ k ∷ []) from_0
-    ∙ ap (λ (xs : List ℕ). 0 ∷ xs) (sym (one_more_end 0 (values_of taken) one.0)) in
+    ∙ ap (λ (k : ℕ). text_offsets (values_put taken) ++ k ∷ []) from_0
+    ∙ ap (λ (xs : List ℕ). 0 ∷ xs) (sym (one_more_end 0 (values_put taken) one.0)) in
     record {
       texts = texts_are ∙ ap concat (sym values);
       offsets = offsets_are ∙ ap text_offsets (sym values);

@@ -6,7 +6,7 @@ use Rattle.std.specs.List.{AllZip}
 use Rattle.std.proofs.lemmas.List.{drop_more, length-map, map-append}
 use Rattle.std.proofs.lemmas.Slice.Zip.{all_zipped_more}
 use Rattle.std.proofs.Math.Seq.{set-append_seam}
-use Rattle.kohiblad.specs.Taking.{states_of, values_of}
+use Rattle.kohiblad.specs.Taking.{states_of, values_put}
 
 -- One more value is written behind those at the front.
 pub one_more_in : {V : Type 0} (front : List V) (old now : List V) (n : ℕ) (v : V)
@@ -27,7 +27,7 @@ pub record TakenSoFar {R V : Type 0} (IsTaken : R → V × ℕ → Type 0) (rows
   pub each : AllZip IsTaken done taken
   pub many : length taken ≡ number
   pub counted : number + length left ≡ length rows
-  pub values_are : values_now ≡ values_of taken ++ drop number values
+  pub values_are : values_now ≡ values_put taken ++ drop number values
   pub states_are : states_now ≡ states_of taken ++ drop number states
 
 pub none_taken : {R V : Type 0} (IsTaken : R → V × ℕ → Type 0) (rows : List R)
@@ -70,7 +70,7 @@ one_more_taken {R} {V} IsTaken rows left later row number values values_now stat
       many = omega arith;
       counted = omega arith;
       values_are =
-          one_more_in (values_of so_far.taken) values values_now number one.0
+          one_more_in (values_put so_far.taken) values values_now number one.0
           (length-map so_far.taken (λ (p : V × ℕ). p.0) ∙ many) (omega arith) so_far.values_are
           ∙ ap (λ (xs : List V). xs ++ drop (number + 1) values)
           (sym (map-append (λ (p : V × ℕ). p.0) so_far.taken (one ∷ [])));

@@ -17,7 +17,7 @@ use Rattle.jsonb_typed_file.specs.Layout.{Contents, Parts}
 use Rattle.jsonb_typed.specs.Scalars.{type_bytes}
 use Rattle.jsonb_typed_file.specs.OneRow.{IsRowOf, IsRowWithin}
 use Rattle.jsonb_typed_file.specs.Places.{IsColumnAt}
-use Rattle.jsonb_typed_file.specs.Rows.{IsMade, row_tree}
+use Rattle.jsonb_typed_file.specs.Rows.{IsMadeRow, row_tree}
 use Rattle.kohiblad.specs.Status.{IsAnswered, IsRefused, code, too_deep}
 use Rattle.kohiblad.specs.TypedFiles.{IsColumnPlaced, IsFileRow, column_struct, file_code}
 use Rattle.kohiblad.specs.WithMemory.{WritesWithMemory}
@@ -45,7 +45,7 @@ structs_placed bytes rows (p ∷ ps) (c ∷ cs) all =
     (struct_placed bytes rows p c all.0, structs_placed bytes rows ps cs all.1)
 
 -- A row that is made is written.
-made_writes : (t : Tree) (r : Result OwnedJsonb Error) → IsMade t r
+made_writes : (t : Tree) (r : Result OwnedJsonb Error) → IsMadeRow t r
     → WritesWithMemory t (result_bytes r)
 made_writes t (Ok owned) made = (made.limits.fits, made.document)
 made_writes t (Err e) made = refused made.limits.only
@@ -61,7 +61,7 @@ made_writes t (Err e) made = refused made.limits.only
 -- The row of a file.
 pub row_handed : (f g : Contents) (index : ℕ) (r : Result OwnedJsonb Error)
     (before after : List ℕ) (size status : ℕ) → index < row_count f → IsRowOf f index g
-    → IsMade (row_tree g 0) r → IsAnswered (result_bytes r) before after size status
+    → IsMadeRow (row_tree g 0) r → IsAnswered (result_bytes r) before after size status
     → IsFileRow f index before after size status
 row_handed f g index r before after size status low one made handed =
     inr (
@@ -69,7 +69,7 @@ row_handed f g index r before after size status low one made handed =
       (
         result_bytes r,
         (
-          made_writes (row_tree f index) r (subst (λ t. IsMade t r) one.tree made),
+          made_writes (row_tree f index) r (subst (λ t. IsMadeRow t r) one.tree made),
           handed,
         ),
       ),

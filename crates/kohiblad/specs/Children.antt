@@ -125,8 +125,8 @@ CanMove found cursor = IfOk found (λ o. IfSome o (λ child.
     × ((key_end child.key 0 < 2 ^ 64) × (end_of child.value < 2 ^ 64))))
 
 -- The entries of a child that was found satisfy `IsEntryIn`.
-abbrev pub IsChildIn : List ℕ → Result (Option Child) Error → Type 0
-IsChildIn bytes found = IfOk found (λ o. IfSome o (λ child.
+abbrev pub IsChildWithin : List ℕ → Result (Option Child) Error → Type 0
+IsChildWithin bytes found = IfOk found (λ o. IfSome o (λ child.
     IfSome child.key (IsEntryIn bytes) × IsEntryIn bytes child.value))
 
 -- The position of a child's key as C receives it: `NONE` for an array's item.

@@ -11,7 +11,7 @@ use Rattle.jsonb_functions.specs.Contains.{contains_whole, has_top_key}
 use Rattle.jsonb_functions.specs.ContainSteps.{contains_work}
 use Rattle.jsonb_functions.specs.Edited.{Operation, create, edited_whole, insert, put, remove}
 use Rattle.jsonb_functions.specs.EditSource.{edit_operation}
-use Rattle.kohiblad.specs.Scalars.{no_truth, truth_of}
+use Rattle.kohiblad.specs.Scalars.{no_truth, truth_answer}
 use Rattle.jsonb_functions.specs.StoredPath.{StepView, path_in, step_view}
 use Rattle.jsonb_functions.specs.Weight.{weight}
 use Rattle.jsonb_functions.specs.declared.edit.Edit.{Edit}
@@ -26,14 +26,14 @@ use Rattle.kohiblad.specs.declared.scalar.KohibladTruth.{KohibladTruth}
 abbrev pub IsContainedAnswer : ℕ → Meaning → Meaning → KohibladTruth → Type 0
 IsContainedAnswer steps (document t) (document u) answer =
     ((contains_work t u).steps ≤ weight t * weight u)
-    × (((answer ≡ truth_of (contains_whole t u)) × ((contains_work t u).steps ≤ steps))
+    × (((answer ≡ truth_answer (contains_whole t u)) × ((contains_work t u).steps ≤ steps))
     ⊎ (((answer ≡ no_truth too_many_steps) × (steps < (contains_work t u).steps))
     ⊎ ((answer ≡ no_truth (code OutOfMemory)) × ((contains_work t u).sorts ≡ true))))
 IsContainedAnswer steps m n answer = answer ≡ no_truth (code InvalidJsonb)
 
 -- Whether the document has the key; bytes that are not a document are refused.
 abbrev pub exists_answer : Meaning → List ℕ → KohibladTruth
-exists_answer (document t) key = truth_of (has_top_key key t)
+exists_answer (document t) key = truth_answer (has_top_key key t)
 exists_answer (other_bytes b) key = no_truth (code InvalidJsonb)
 
 -- The result of writing a tree: its canonical document, or why there is none. Memory is asked for

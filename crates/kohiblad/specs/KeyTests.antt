@@ -6,7 +6,7 @@ use Rattle.jsonb_value.specs.Meaning.{Meaning, document}
 use Rattle.jsonb_value.specs.Tree.{Tree}
 use Rattle.jsonb_functions.specs.Contains.{has_top_key}
 use Rattle.kohiblad.specs.Names.{names_in}
-use Rattle.kohiblad.specs.Scalars.{no_truth, truth_of}
+use Rattle.kohiblad.specs.Scalars.{no_truth, truth_answer}
 use Rattle.kohiblad.specs.Status.{code, other_kind}
 use Rattle.kohiblad.specs.declared.scalar.KohibladTruth.{KohibladTruth}
 
@@ -22,7 +22,7 @@ has_all_keys keys t = list_all (λ k. has_top_key k t) keys
 abbrev pub keys_answer : (List (List ℕ) → Tree → Bool) → Tree → Option (List (List ℕ))
     → KohibladTruth
 keys_answer has t None = no_truth other_kind
-keys_answer has t (Some keys) = truth_of (has keys t)
+keys_answer has t (Some keys) = truth_answer (has keys t)
 
 -- A document is tested for the keys that another gives, or there is not enough memory; bytes that
 -- are not a document are refused.

@@ -17,12 +17,12 @@ use Rattle.kohiblad.specs.UncheckedRows.{IsReadAs}
 
 -- The place of what a row has: none of no member, that of the payload of a member, and that the row
 -- is no document.
-abbrev pub IsPlaceOf : List ℕ → Cell Tree → KohibladPlace → Type 0
-IsPlaceOf bytes absent place = place ≡ place_answer (Ok None)
-IsPlaceOf bytes (value t) place = (place.status ≡ 0)
+abbrev pub IsCellPlace : List ℕ → Cell Tree → KohibladPlace → Type 0
+IsCellPlace bytes absent place = place ≡ place_answer (Ok None)
+IsCellPlace bytes (value t) place = (place.status ≡ 0)
     × ((place.offset + place.length ≤ length bytes)
     × IsPayloadOf place.type_code (take place.length (drop place.offset bytes)) t)
-IsPlaceOf bytes (other b) place = place ≡ place_answer (Err InvalidJsonb)
+IsCellPlace bytes (other b) place = place ≡ place_answer (Err InvalidJsonb)
 
 -- The place is inside the bytes, and this is what is there.
 abbrev pub IsThere : List ℕ → KohibladPlace → List ℕ → Type 0
@@ -51,7 +51,7 @@ IsCellRead (other b) result = result ≡ Err 4
 -- The bytes at the place mean no tree: the place has another status, is not inside the bytes, or
 -- what is there is no payload of its type.
 abbrev pub HoldsNone : List ℕ → KohibladPlace → Type 0
-HoldsNone bytes place = (t : Tree) → IsPlaceOf bytes (value t) place → ⊥
+HoldsNone bytes place = (t : Tree) → IsCellPlace bytes (value t) place → ⊥
 
 -- The state of an entry whose payload means no tree: 3 of an array or object, which is not read,
 -- and otherwise 4.
@@ -72,7 +72,7 @@ place_state bytes place =
 abbrev pub IsTakenAt : {V : Type 0} → (V → Tree → Type 0) → V → List ℕ → KohibladPlace → V × ℕ
     → Type 0
 IsTakenAt Stands blank bytes place taken =
-    ((cell : Cell Tree) → IsPlaceOf bytes cell place → IsTakenCell Stands blank cell taken)
+    ((cell : Cell Tree) → IsCellPlace bytes cell place → IsTakenCell Stands blank cell taken)
     × ((HoldsNone bytes place → taken ≡ (blank, place_state bytes place))
     × IsSomeTaken blank taken)
 

@@ -18,7 +18,7 @@ use Rattle.jsonb_typed.specs.Surveys.{member_cell}
 use Rattle.kohiblad.specs.declared.places.KohibladPlace.{KohibladPlace}
 use Rattle.kohiblad.specs.declared.taking.Reading.{Reading}
 use Rattle.kohiblad.specs.declared.taking.Reading.TheVariants.{Checked, Unchecked}
-use Rattle.kohiblad.specs.Located.{IsPlaceOf}
+use Rattle.kohiblad.specs.Located.{IsCellPlace}
 use Rattle.kohiblad.specs.Names.{names_in}
 use Rattle.kohiblad.specs.PlacedMembers.{name_place, names_ascend}
 use Rattle.kohiblad.specs.Places.{place_answer}
@@ -36,9 +36,9 @@ IsSomePlace bytes place = (place ≡ place_answer (Ok None))
 -- bytes any.
 abbrev pub IsLocated : Reading → List ℕ → List ℕ → Bor (List ℕ) → KohibladPlace → Type 0
 IsLocated (Checked depth) bytes row name place =
-    IsPlaceOf bytes (row_cell depth (Key name ∷ []) row) place
+    IsCellPlace bytes (row_cell depth (Key name ∷ []) row) place
 IsLocated Unchecked bytes row name place =
-    ((t : Tree) → Doc row t → IsPlaceOf bytes (member_cell (found_at (Key name ∷ []) t)) place)
+    ((t : Tree) → Doc row t → IsCellPlace bytes (member_cell (found_at (Key name ∷ []) t)) place)
     × ((row ≡ [] → place ≡ place_answer (Ok None)) × IsSomePlace bytes place)
 
 -- The place in all bytes of an entry that was found in a row, which begins at `start`.

@@ -5,7 +5,8 @@ use Rattle.jsonb_value.specs.declared.error.Error.TheVariants.{OutOfMemory}
 use Rattle.jsonb_value.specs.Meaning.{Meaning, document, other_bytes}
 use Rattle.jsonb_functions.specs.declared.path.Step.{Step}
 use Rattle.jsonb_functions.specs.StoredPath.{StepView, path_in, step_view}
-use Rattle.kohiblad.specs.Rows.{are_offsets, rows}
+use Rattle.kohiblad.specs.Rows.{are_offsets}
+use Rattle.typed_vector.specs.Cells.{rows}
 use Rattle.kohiblad.specs.Status.{code, other_kind}
 
 -- The call is done with these steps, or refused with a status: there are none.

@@ -28,11 +28,11 @@ IsTreePicked which t (Some texts) before after size status =
 
 -- The object is copied with the members that are picked by the names that a document gives, or
 -- there is not enough memory; bytes that are not a document are refused.
-abbrev pub IsPicked : Kept → Meaning → Meaning → List ℕ → List ℕ → ℕ → ℕ → Type 0
-IsPicked which (document t) (document u) before after size status =
+abbrev pub IsPickedDocument : Kept → Meaning → Meaning → List ℕ → List ℕ → ℕ → ℕ → Type 0
+IsPickedDocument which (document t) (document u) before after size status =
     IsTreePicked which t (names_in u) before after size status
     ⊎ IsRefused (code OutOfMemory) before after size status
-IsPicked which m n before after size status =
+IsPickedDocument which m n before after size status =
     IsRefused (code InvalidJsonb) before after size status
 
 -- The document of an array of keys is copied, if there is one.

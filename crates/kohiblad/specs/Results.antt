@@ -14,7 +14,8 @@ use Rattle.jsonb.specs.Building.{AreTexts}
 use Rattle.jsonb.specs.Results.{AreWithinLimits, IsArrayOfDocuments, IsObjectOfDocuments}
 use Rattle.jsonb.specs.Results.{PairsExceedLimits}
 use Rattle.kohiblad.specs.Status.{code, IsOneAnswered, IsRefused}
-use Rattle.kohiblad.specs.Rows.{are_offsets, rows}
+use Rattle.kohiblad.specs.Rows.{are_offsets}
+use Rattle.typed_vector.specs.Cells.{rows}
 
 -- Each of these is a document of at most this depth.
 abbrev pub AreWithin : ℕ → List (List ℕ) → Type 0

@@ -22,5 +22,5 @@ place_alike name passed walk =
     if walk.is_alike then place_after name walk.row.now passed walk.members else None
 
 -- The place of the name is still to be found in the walk.
-abbrev pub IsFoundIn : List ℕ → RowWalk → Type 0
-IsFoundIn name walk = IsFoundAs walk.row.now name (place_among name walk.row.now walk.members)
+abbrev pub IsSoughtIn : List ℕ → RowWalk → Type 0
+IsSoughtIn name walk = IsFoundAs walk.row.now name (place_among name walk.row.now walk.members)

@@ -76,17 +76,17 @@ abbrev pub no_place : ℕ → KohibladPlace
 no_place status = record { status = status; type_code = 0; offset = 0; length = 0 }
 
 -- A truth value as C receives it: 0 or 1.
-abbrev pub truth_of : Bool → KohibladTruth
-truth_of true = record { status = 0; value = 1 }
-truth_of false = record { status = 0; value = 0 }
+abbrev pub truth_answer : Bool → KohibladTruth
+truth_answer true = record { status = 0; value = 1 }
+truth_answer false = record { status = 0; value = 0 }
 
 -- A truth value with this status and the value 0.
 abbrev pub no_truth : ℕ → KohibladTruth
 no_truth status = record { status = status; value = 0 }
 
 -- The truth value of a number: false for 0, true for all others.
-abbrev pub is_true : ℕ → Bool
-is_true value = not (value == 0)
+abbrev pub is_nonzero : ℕ → Bool
+is_nonzero value = not (value == 0)
 
 -- A whole number with the kind that its digits have when they are parsed.
 abbrev pub int64_number : ℤ → Number
@@ -126,8 +126,8 @@ extension_answer (interval i) =
 extension_answer (opaque tag bytes) = data_answer tag (length bytes)
 
 -- The bytes are few enough for a payload.
-abbrev pub IsShort : List ℕ → Type 0
-IsShort bytes = length bytes < 2 ^ 28
+abbrev pub IsShortPayload : List ℕ → Type 0
+IsShortPayload bytes = length bytes < 2 ^ 28
 
 -- The data of an extension value: none unless its tag has some.
 abbrev pub data_of : Extension → List ℕ

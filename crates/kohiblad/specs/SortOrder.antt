@@ -8,7 +8,8 @@ use Rattle.std.specs.declared.cmp.Ordering.{Ordering}
 use Rattle.jsonb_value.specs.declared.error.Error.TheVariants as errors
 use Rattle.jsonb_value.specs.Meaning.{Meaning, meaning_cmp}
 use Rattle.kohiblad.specs.Status.{code, no_room}
-use Rattle.kohiblad.specs.Rows.{are_offsets, rows}
+use Rattle.kohiblad.specs.Rows.{are_offsets}
+use Rattle.typed_vector.specs.Cells.{rows}
 
 -- Compares two rows by their meaning, and equal ones by their numbers.
 abbrev pub row_cmp : (List ℕ → Meaning) → List (List ℕ) → ℕ → ℕ → Ordering

@@ -18,7 +18,7 @@ use Rattle.kohiblad.specs.declared.taking_texts.TakenTexts.{TakenTexts}
 use Rattle.kohiblad.specs.Located.{IsTakenAt}
 use Rattle.kohiblad.specs.OverRows.{OverRows}
 use Rattle.kohiblad.specs.Status.{code, no_room, IsCopied}
-use Rattle.kohiblad.specs.Taking.{IsTakenBy, not_taken, states_of, taken_answer, values_of}
+use Rattle.kohiblad.specs.Taking.{IsTakenBy, not_taken, states_of, taken_answer, values_put}
 
 -- The bytes stand for the member, a text or a binary value.
 abbrev pub IsBytes : BytesType → List ℕ → Tree → Type 0
@@ -87,22 +87,22 @@ AreTextsKept b = (b.texts_after ≡ b.texts)
 
 -- A buffer is too short for these rows.
 abbrev pub IsShortFor : List (List ℕ × ℕ) → TextBuffers → Type 0
-IsShortFor taken b = (length b.texts < length (concat (values_of taken)))
-    ⊎ ((length b.offsets < length (text_offsets (values_of taken)))
+IsShortFor taken b = (length b.texts < length (concat (values_put taken)))
+    ⊎ ((length b.offsets < length (text_offsets (values_put taken)))
     ⊎ (length b.states < length (states_of taken)))
 
 -- The texts, their offsets and the states of these rows are at the start of the buffers, and the
 -- rest is unchanged.
 abbrev pub AreTextsPut : List (List ℕ × ℕ) → TextBuffers → Type 0
-AreTextsPut taken b = IsCopied (concat (values_of taken)) b.texts b.texts_after
-    × (IsCopied (text_offsets (values_of taken)) b.offsets b.offsets_after
+AreTextsPut taken b = IsCopied (concat (values_put taken)) b.texts b.texts_after
+    × (IsCopied (text_offsets (values_put taken)) b.offsets b.offsets_after
     × IsCopied (states_of taken) b.states b.states_after)
 
 -- These rows are handed over, or a buffer is too short; in any case the length of the texts is
 -- stored.
 abbrev pub AreTextsHandedOver : List (List ℕ × ℕ) → TextBuffers → KohibladTaken → Type 0
 AreTextsHandedOver taken b answer =
-    (b.size ≡ length (concat (values_of taken)))
+    (b.size ≡ length (concat (values_put taken)))
     × ((AreTextsPut taken b × (answer ≡ taken_answer (states_of taken)))
     ⊎ (IsShortFor taken b × ((answer ≡ not_taken no_room) × AreTextsKept b)))
 
@@ -110,9 +110,9 @@ AreTextsHandedOver taken b answer =
 -- were too short.
 abbrev pub AreTextsWithin : ℕ → List (List ℕ × ℕ) → TextBuffers → KohibladTaken → Type 0
 AreTextsWithin most taken b answer =
-    ((length (concat (values_of taken)) ≤ most) × AreTextsHandedOver taken b answer)
-    ⊎ ((most < length (concat (values_of taken)))
-    × ((b.size ≡ length (concat (values_of taken)))
+    ((length (concat (values_put taken)) ≤ most) × AreTextsHandedOver taken b answer)
+    ⊎ ((most < length (concat (values_put taken)))
+    × ((b.size ≡ length (concat (values_put taken)))
     × ((answer ≡ not_taken no_room) × AreTextsKept b)))
 
 -- Only this status is returned: the buffers are unchanged, and the length is 0.
@@ -121,8 +121,8 @@ AreTextsRefused status b answer = (answer ≡ not_taken status) × ((b.size ≡ 
 
 -- What is kept of these rows: their texts, one after another, the offsets of these, and the states.
 pub record IsTextsOf (taken : List (List ℕ × ℕ)) (kept : TakenTexts) : Type 0 where
-  pub texts : kept.texts.items ≡ concat (values_of taken)
-  pub offsets : kept.offsets.items ≡ text_offsets (values_of taken)
+  pub texts : kept.texts.items ≡ concat (values_put taken)
+  pub offsets : kept.offsets.items ≡ text_offsets (values_put taken)
   pub states : kept.states.items ≡ states_of taken
 
 -- The texts of the rows are made, each as the relation says; or there is not enough memory.

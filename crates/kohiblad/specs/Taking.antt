@@ -11,7 +11,7 @@ use Rattle.jsonb_functions.specs.Found.{found_at}
 use Rattle.jsonb_functions.specs.declared.path.Step.{Step}
 use Rattle.typed_vector.specs.Cells.{Cell, absent, value, other}
 use Rattle.jsonb_typed.specs.Surveys.{member_cell}
-use Rattle.jsonb_typed.specs.Types.{IsDecimal}
+use Rattle.jsonb_typed.specs.Types.{IsDecimalAt}
 use Rattle.jsonb_typed.specs.declared.numbers.Fit.{Fit}
 use Rattle.jsonb_typed.specs.declared.numbers.Fit.TheVariants.{ByValue, Exact}
 use Rattle.kohiblad.specs.declared.taking.KohibladTaken.{KohibladTaken}
@@ -59,8 +59,8 @@ IsTakenBy Stands blank Unchecked path row taken =
     × ((row ≡ [] → taken ≡ (blank, 0)) × IsSomeTaken blank taken)
 
 -- The values that are written for rows, and their states.
-abbrev pub values_of : {V : Type 0} → List (V × ℕ) → List V
-values_of taken = map (λ row. row.0) taken
+abbrev pub values_put : {V : Type 0} → List (V × ℕ) → List V
+values_put taken = map (λ row. row.0) taken
 
 abbrev pub states_of : {V : Type 0} → List (V × ℕ) → List ℕ
 states_of taken = map (λ row. row.1) taken
@@ -110,7 +110,7 @@ AreKept b = (b.values_after ≡ b.values) × (b.states_after ≡ b.states)
 
 -- The values and states of these rows are at the start of the buffers, and the rest is unchanged.
 abbrev pub ArePut : {V : Type 0} → List (V × ℕ) → Buffers V → Type 0
-ArePut taken b = (b.values_after ≡ values_of taken ++ drop (length taken) b.values)
+ArePut taken b = (b.values_after ≡ values_put taken ++ drop (length taken) b.values)
     × (b.states_after ≡ states_of taken ++ drop (length taken) b.states)
 
 -- Each row is taken, as the relation says, and put into the buffers.
@@ -147,7 +147,7 @@ int128_whole v = from_halves v.high v.low
 
 -- The two halves are those of a value that stands for the member.
 abbrev pub IsInt128 : Fit → ℕ → KohibladInt128 → Tree → Type 0
-IsInt128 fit scale v t = IsDecimal fit scale (int128_whole v) t
+IsInt128 fit scale v t = IsDecimalAt fit scale (int128_whole v) t
 
 -- A truth value as a byte.
 abbrev pub truth_byte : Bool → ℕ
@@ -172,8 +172,8 @@ IsZonedTimestamp v t =
     t ≡ trees.extension (trees.timestamp_tz (record { offset = v.seconds; value = v.value }))
 
 -- The three numbers stand for the member, an interval.
-abbrev pub IsInterval : KohibladInterval → Tree → Type 0
-IsInterval v t =
+abbrev pub IsIntervalIn : KohibladInterval → Tree → Type 0
+IsIntervalIn v t =
     t
     ≡ trees.extension
     (trees.interval (record { months = v.months; days = v.days; micros = v.micros }))

@@ -15,7 +15,8 @@ use Rattle.jsonb_typed.specs.Scalars.{type_bytes}
 use Rattle.jsonb_typed_file.specs.Written.{AllFit, AscendPlans, IsFileOf}
 use Rattle.kohiblad.specs.Names.{names_in}
 use Rattle.kohiblad.specs.Results.{AreWithin}
-use Rattle.kohiblad.specs.Rows.{are_offsets, rows}
+use Rattle.kohiblad.specs.Rows.{are_offsets}
+use Rattle.typed_vector.specs.Cells.{rows}
 use Rattle.kohiblad.specs.Status.{code, not_read_back, other_kind}
 use Rattle.kohiblad.specs.TypedFiles.{IsStatusAnswered}
 

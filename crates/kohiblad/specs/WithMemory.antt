@@ -6,7 +6,7 @@ use Rattle.jsonb_value.specs.Meaning.{Meaning, document}
 use Rattle.jsonb_value.specs.Tree.{Tree}
 use Rattle.jsonb_codec.specs.Canon.{canon, Fits}
 use Rattle.jsonb_functions.specs.ArraySets.{overlaps}
-use Rattle.kohiblad.specs.Scalars.{no_truth, truth_of}
+use Rattle.kohiblad.specs.Scalars.{no_truth, truth_answer}
 use Rattle.kohiblad.specs.Status.{code}
 use Rattle.kohiblad.specs.declared.scalar.KohibladTruth.{KohibladTruth}
 
@@ -22,5 +22,5 @@ WritesWithMemory t (Err e) = ⊥
 -- a document are refused.
 abbrev pub IsOverlapAnswer : Meaning → Meaning → KohibladTruth → Type 0
 IsOverlapAnswer (document t) (document u) answer =
-    (answer ≡ truth_of (overlaps t u)) ⊎ (answer ≡ no_truth (code OutOfMemory))
+    (answer ≡ truth_answer (overlaps t u)) ⊎ (answer ≡ no_truth (code OutOfMemory))
 IsOverlapAnswer m n answer = answer ≡ no_truth (code InvalidJsonb)

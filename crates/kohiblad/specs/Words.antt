@@ -38,9 +38,9 @@ pub use Rattle.jsonb_functions.specs.Joined.{joined}
 pub use Rattle.jsonb_functions.specs.Patched.{patched}
 pub use Rattle.jsonb_functions.specs.Stripped.{stripped}
 pub use Rattle.jsonb_functions.specs.TopKeys.{top_hashes}
-pub use Rattle.kohiblad.specs.Children.{CanMove, IsBegun, IsChildIn, child_at_cursor}
-pub use Rattle.kohiblad.specs.Children.{cursor_after, cursor_at, first_value, key_answer}
-pub use Rattle.kohiblad.specs.Children.{layout_in, numbered_child, value_answer}
+pub use Rattle.kohiblad.specs.Children.{CanMove, IsBegun, IsChildWithin, child_at_cursor}
+pub use Rattle.kohiblad.specs.Children.{cursor_after, cursor_at, first_value, key_answer, layout_in}
+pub use Rattle.kohiblad.specs.Children.{numbered_child, value_answer}
 pub use Rattle.kohiblad.specs.EntryTexts.{IsPayloadWithin, IsPrintedPart, entry_fault}
 pub use Rattle.kohiblad.specs.Functions.{AreKeysWritten, IsConcatLength, IsContainedAnswer}
 pub use Rattle.kohiblad.specs.Functions.{IsEditLength, IsEdited}
@@ -57,12 +57,13 @@ pub use Rattle.kohiblad.specs.Places.{member_places, part_in, place_answer, plac
 pub use Rattle.kohiblad.specs.Prefix.{IsIndexSought, IsKeySought, prefix_answer}
 pub use Rattle.kohiblad.specs.Results.{AreWithin, BuildsArray, BuildsObject, IsMember}
 pub use Rattle.kohiblad.specs.Results.{IsOneOfRows, are_pairs, are_rows}
-pub use Rattle.kohiblad.specs.Rows.{are_offsets, row_pairs, rows, rows_from}
-pub use Rattle.kohiblad.specs.Scalars.{IsDecimalOf, IsGivenBy, IsShort, IsShortExtension}
+pub use Rattle.kohiblad.specs.Rows.{are_offsets, row_pairs}
+pub use Rattle.typed_vector.specs.Cells.{rows, rows_from}
+pub use Rattle.kohiblad.specs.Scalars.{IsDecimalOf, IsGivenBy, IsShortExtension, IsShortPayload}
 pub use Rattle.kohiblad.specs.Scalars.{coefficient, data_answer, data_of, extension_answer}
-pub use Rattle.kohiblad.specs.Scalars.{from_halves, int64_answer, int64_number, is_true, no_decimal}
-pub use Rattle.kohiblad.specs.Scalars.{no_extension, no_integer, no_place, no_truth, scale}
-pub use Rattle.kohiblad.specs.Scalars.{text_place, truth_of, why_none}
+pub use Rattle.kohiblad.specs.Scalars.{from_halves, int64_answer, int64_number, is_nonzero}
+pub use Rattle.kohiblad.specs.Scalars.{no_decimal, no_extension, no_integer, no_place, no_truth}
+pub use Rattle.kohiblad.specs.Scalars.{scale, text_place, truth_answer, why_none}
 pub use Rattle.kohiblad.specs.SortOrder.{AreRowsOrdered, IsOrderOf}
 pub use Rattle.kohiblad.specs.Status.{IsAnswered, IsHandedOver, IsRefused, code, sign, status_name}
 pub use Rattle.kohiblad.specs.Status.{IsLongHandedOver, IsOneAnswered, too_deep}

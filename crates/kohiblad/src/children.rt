@@ -1,8 +1,8 @@
 //! The children of an array or object, one after another in one pass.
 
 ghost use Rattle.std.specs.Prelude.{◌≡◌, ◌<◌, ◌≤◌, ◌^◌, ℕ, suc, length, IfOk, IfSome, Ok, Some};
-ghost use Rattle.kohiblad.specs.Words.{CanMove, IsBegun, IsChildIn, child_at_cursor, cursor_after};
-ghost use Rattle.kohiblad.specs.Words.{cursor_at, first_value, key_answer, layout_in};
+ghost use Rattle.kohiblad.specs.Words.{CanMove, IsBegun, IsChildWithin, child_at_cursor};
+ghost use Rattle.kohiblad.specs.Words.{cursor_after, cursor_at, first_value, key_answer, layout_in};
 ghost use Rattle.kohiblad.specs.Words.{numbered_child, value_answer};
 
 use crate::answer::{NONE, OK, code};
@@ -134,7 +134,7 @@ fn first_cursor(bytes: &[u8]) -> Result<Option<KohibladCursor>, Error>
 fn child_at_cursor(bytes: &[u8], cursor: KohibladCursor) -> Result<Option<Child>, Error>
     ensures value { result ≡ child_at_cursor bytes.now cursor }
     ensures moves { CanMove result cursor }
-    ensures inside { IsChildIn bytes.now result }
+    ensures inside { IsChildWithin bytes.now result }
 {
     let Some(layout) = layout_in(bytes)? else {
         return Ok(None);

@@ -2,8 +2,8 @@
 
 ghost use Rattle.std.specs.Prelude.{◌≡◌, IfErr, IfOk};
 ghost use Rattle.kohiblad.specs.KeyTests.{AreKeysAnswered, has_all_keys, has_some_key};
-ghost use Rattle.kohiblad.specs.Words.{Meaning, code, document_tree, meaning_within};
-ghost use Rattle.kohiblad.specs.Words.{no_truth, truth_of};
+ghost use Rattle.kohiblad.specs.Words.{Meaning, code, document_tree, meaning_within, no_truth};
+ghost use Rattle.kohiblad.specs.Words.{truth_answer};
 
 use crate::answer::{OTHER_KIND, code};
 use crate::checked::checked;
@@ -81,7 +81,7 @@ fn all_keys(alloc: Global, document: Document<'_>, names: Document<'_>) -> Kohib
 
 // The truth value of a test, or the status of its error.
 fn tested(test: Result<bool, Error>) -> KohibladTruth
-    ensures ok { IfOk test (λ b. result ≡ truth_of b) }
+    ensures ok { IfOk test (λ b. result ≡ truth_answer b) }
     ensures err { IfErr test (λ e. result ≡ no_truth (code e)) }
 {
     match test {

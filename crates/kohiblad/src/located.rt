@@ -4,7 +4,7 @@ ghost use Rattle.std.specs.Prelude.{◌+◌, ◌∷◌, ◌≡◌, ◌≤◌, �
 ghost use Rattle.std.specs.Prelude.{MatchOption, drop, length, map, nat_le, take, ℕ};
 ghost use Rattle.typed_vector.specs.Cells.{Cell};
 ghost use Rattle.jsonb_typed.specs.Words.{HoldsNoScalar, HoldsScalars, node_tree};
-ghost use Rattle.kohiblad.specs.Located.{IsCellRead, IsNowhere, IsPayloadRead, IsPlaceOf};
+ghost use Rattle.kohiblad.specs.Located.{IsCellPlace, IsCellRead, IsNowhere, IsPayloadRead};
 ghost use Rattle.kohiblad.specs.Located.{IsTakenAt, IsThere, each_of, place_state};
 ghost use Rattle.kohiblad.specs.Status.{none};
 ghost use Rattle.kohiblad.specs.Taking.{AreRowsPut, AreRowsTaken, outputs, taken_answer};
@@ -95,11 +95,11 @@ fn places_after(places: &[KohibladPlace], passed: usize) -> &[KohibladPlace]
 /// The member of a row at its place, if it is a scalar; or the state of the row. At any other place
 /// it is the scalar that is there, none, or the state of the place.
 pub fn member_at<'a>(bytes: &'a [u8], place: KohibladPlace) -> Result<Option<Node<'a>>, u8>
-    ensures cell { (cell : Cell Tree) → IsPlaceOf bytes.entry.now cell place
+    ensures cell { (cell : Cell Tree) → IsCellPlace bytes.entry.now cell place
         → IsCellRead cell result }
     ensures scalar { IfOk result (λ member. IfSome member HoldsNoScalar) }
     ensures held { IfOk result (λ member. IfSome member (λ node.
-        IsPlaceOf bytes.entry.now (Cell.value (node_tree node)) place)) }
+        IsCellPlace bytes.entry.now (Cell.value (node_tree node)) place)) }
     ensures none { IfOk result (λ member. IfNone member
         (place_state bytes.entry.now place ≡ 0)) }
     ensures other { IfErr result (λ state. state ≡ place_state bytes.entry.now place) }
@@ -116,7 +116,7 @@ pub fn member_at<'a>(bytes: &'a [u8], place: KohibladPlace) -> Result<Option<Nod
 /// what is there, or the state of the place.
 #[inline(always)]
 pub fn payload_at<'a>(bytes: &'a [u8], place: KohibladPlace) -> Result<Option<&'a [u8]>, u8>
-    ensures cell { (cell : Cell Tree) → IsPlaceOf bytes.entry.now cell place
+    ensures cell { (cell : Cell Tree) → IsCellPlace bytes.entry.now cell place
         → IsPayloadRead place.type_code cell result }
     ensures there { IfOk result (λ found. IfSome found (λ payload.
         IsThere bytes.entry.now place payload.now)) }

@@ -5,13 +5,13 @@ ghost use Rattle.std.specs.Prelude.{IfOk, IfSome, None, false, length, map, nat_
 ghost use Rattle.std.specs.Borrow.{Bor};
 ghost use Rattle.std.specs.List.{AllZip};
 ghost use Rattle.typed_vector.specs.Cells.{rest_cell};
-ghost use Rattle.kohiblad.specs.Located.{IsPlaceOf};
+ghost use Rattle.kohiblad.specs.Located.{IsCellPlace};
 ghost use Rattle.kohiblad.specs.Locating.{AreLocated, AreNamesLocated, ArePlacesWritten};
 ghost use Rattle.kohiblad.specs.Locating.{ArePutBehind, AreRowsLocated, IsKnownRow, IsLocated};
 ghost use Rattle.kohiblad.specs.Locating.{IsMemberPlace, IsValueOfName, placed_answer, spans};
 ghost use Rattle.kohiblad.specs.Locating.{spans_from};
 ghost use Rattle.kohiblad.specs.PlacedMembers.{names_ascend};
-ghost use Rattle.kohiblad.specs.RowWalks.{IsFoundIn, IsWalk};
+ghost use Rattle.kohiblad.specs.RowWalks.{IsSoughtIn, IsWalk};
 ghost use Rattle.kohiblad.specs.Status.{code, other_kind};
 ghost use Rattle.kohiblad.specs.Words.{are_offsets, meaning_within};
 ghost use Rattle.kohiblad.specs.declared.places.KohibladPlace.{KohibladPlace};
@@ -272,7 +272,7 @@ fn walk_of<'a>(row: &'a [u8], reading: Reading) -> Result<RowWalk<'a>, KohibladP
     ensures some { IfOk result (λ walk. row.entry.now ≡ [] → ⊥) }
     ensures walk { IfOk result IsWalk }
     ensures row { IfOk result (λ walk. walk.row.now ≡ row.entry.now) }
-    ensures found { IfOk result (λ walk. (name : List ℕ) → IsFoundIn name walk) }
+    ensures found { IfOk result (λ walk. (name : List ℕ) → IsSoughtIn name walk) }
     ensures known { IfOk result (λ walk. IsKnownRow reading row.entry.now) }
     ensures same { IfErr result (λ place. (bytes : List ℕ) (name : Bor (List ℕ))
         → IsLocated reading bytes row.entry.now name place) }
@@ -297,7 +297,7 @@ fn walk_of<'a>(row: &'a [u8], reading: Reading) -> Result<RowWalk<'a>, KohibladP
 
 // The place of all names in a row that is not a document.
 fn place_of_bytes(row: &[u8]) -> KohibladPlace
-    ensures place { (bytes : List ℕ) → IsPlaceOf bytes (rest_cell row.now) result }
+    ensures place { (bytes : List ℕ) → IsCellPlace bytes (rest_cell row.now) result }
     ensures none { result.status ≢ 0 }
 {
     if row.is_empty() {
@@ -324,7 +324,7 @@ fn put_members(
     requires room { at + length names.now ≤ length places.old }
     requires walk { IsWalk walk }
     requires row { walk.row.now ≡ row.now }
-    requires found { (name : List ℕ) → IsFoundIn name walk }
+    requires found { (name : List ℕ) → IsSoughtIn name walk }
     ensures { (found : List KohibladPlace)
         × (AllZip (IsMemberPlace start row.now) names.now found
         × ArePutBehind at found places.old places.new) }

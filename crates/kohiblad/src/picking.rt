@@ -1,7 +1,7 @@
 //! Copies of objects with some of their members, and the keys of objects.
 
 ghost use Rattle.std.specs.Prelude.{◌≡◌};
-ghost use Rattle.kohiblad.specs.Picked.{AreKeysCopied, IsPicked, kept_by};
+ghost use Rattle.kohiblad.specs.Picked.{AreKeysCopied, IsPickedDocument, kept_by};
 ghost use Rattle.kohiblad.specs.Words.{meaning_within};
 
 use crate::answer::{NONE, OTHER_KIND, code, hand_over_made, refuse};
@@ -27,7 +27,7 @@ pub extern "C" fn kohiblad_pick(
     out: &mut [u8],
     length: &mut usize,
 ) -> u32
-    ensures { IsPicked (kept_by others) (meaning_within depth bytes.now)
+    ensures { IsPickedDocument (kept_by others) (meaning_within depth bytes.now)
         (meaning_within depth names.now) out.old out.new length.new result }
 {
     let (Ok(document), Ok(names)) = (checked(bytes, depth), checked(names, depth)) else {

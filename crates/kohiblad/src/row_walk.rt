@@ -4,7 +4,7 @@ ghost use Rattle.std.specs.Prelude.{◌≡◌, ℕ, List, IfSome, MatchOption};
 ghost use Rattle.std.specs.Ordering.{nat_cmp};
 ghost use Rattle.std.specs.Cmp.Lexicographic.{slice_cmp};
 ghost use Rattle.jsonb.specs.Entry.{IsEntryIn};
-ghost use Rattle.kohiblad.specs.RowWalks.{IsFoundAs, IsFoundIn, IsWalk, place_alike};
+ghost use Rattle.kohiblad.specs.RowWalks.{IsFoundAs, IsSoughtIn, IsWalk, place_alike};
 ghost use Rattle.kohiblad.specs.Words.{Doc, Tree};
 
 use crate::placed_members::PlacedMembers;
@@ -26,7 +26,7 @@ impl<'a> RowWalk<'a> {
     pub fn new(row: &'a [u8]) -> Self
         ensures walk { IsWalk result }
         ensures row { result.row ≡ row.entry }
-        ensures found { (name : List ℕ) → IsFoundIn name result }
+        ensures found { (name : List ℕ) → IsSoughtIn name result }
     {
         let members = PlacedMembers::new(row);
         let left = members.len_after_taken();
@@ -46,9 +46,9 @@ impl<'a> RowWalk<'a> {
         ensures walk { IsWalk self.new }
         ensures row { self.new.row ≡ self.old.row }
         ensures inside { IfSome result (IsEntryIn self.old.row.now) }
-        ensures found { IsFoundIn name.now self.old → IsFoundAs self.old.row.now name.now result }
+        ensures found { IsSoughtIn name.now self.old → IsFoundAs self.old.row.now name.now result }
         ensures later { (k : List ℕ) → slice_cmp nat_cmp name.now k ≡ Ordering.Less
-            → IsFoundIn k self.old → IsFoundIn k self.new }
+            → IsSoughtIn k self.old → IsSoughtIn k self.new }
     {
         if let Some(found) = self.place_alike(name, *passed) {
             return Some(found);
@@ -70,12 +70,12 @@ impl<'a> RowWalk<'a> {
         ensures inside { IfSome result (IsEntryIn self.old.row.now) }
         ensures exact { (t : Tree) → Doc self.old.row.now t
             → result ≡ place_alike name.now passed self.old }
-        ensures found { IfSome result (λ entry. IsFoundIn name.now self.old
+        ensures found { IfSome result (λ entry. IsSoughtIn name.now self.old
             → IsFoundAs self.old.row.now name.now result) }
-        ensures later { MatchOption result ((k : List ℕ) → IsFoundIn k self.old
-            → IsFoundIn k self.new)
+        ensures later { MatchOption result ((k : List ℕ) → IsSoughtIn k self.old
+            → IsSoughtIn k self.new)
             (λ entry. (k : List ℕ) → slice_cmp nat_cmp name.now k ≡ Ordering.Less
-            → IsFoundIn k self.old → IsFoundIn k self.new) }
+            → IsSoughtIn k self.old → IsSoughtIn k self.new) }
     {
         if !self.is_alike {
             return None;

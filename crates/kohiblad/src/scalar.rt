@@ -1,11 +1,10 @@
 //! Scalars: documents made of them, and the values read from their documents.
 
 ghost use Rattle.std.specs.Prelude.{Bool, IfNone, IfSome, IsUtf8, List, length, ℕ, ◌≡◌};
-ghost use Rattle.kohiblad.specs.Words.{Doc, Error, IsHandedOver, IsRefused, IsShort, PartMeans};
-ghost use Rattle.kohiblad.specs.Words.{Tree};
-ghost use Rattle.kohiblad.specs.Words.{boolean, canon, code, depth, is_true, kind, kind_answer};
-ghost use Rattle.kohiblad.specs.Words.{no_place, no_truth, null, text, text_place, truth_of};
-ghost use Rattle.kohiblad.specs.Words.{why_none};
+ghost use Rattle.kohiblad.specs.Words.{Doc, Error, IsHandedOver, IsRefused, IsShortPayload};
+ghost use Rattle.kohiblad.specs.Words.{PartMeans, Tree, boolean, canon, code, depth, is_nonzero};
+ghost use Rattle.kohiblad.specs.Words.{kind, kind_answer, no_place, no_truth, null, text};
+ghost use Rattle.kohiblad.specs.Words.{text_place, truth_answer, why_none};
 
 mod extensions;
 mod numbers;
@@ -45,7 +44,7 @@ pub extern "C" fn kohiblad_of_null(out: &mut [u8], length: &mut usize) -> u32
 /// true for every other number.
 #[unsafe(no_mangle)]
 pub extern "C" fn kohiblad_of_boolean(value: u32, out: &mut [u8], length: &mut usize) -> u32
-    ensures { IsHandedOver (canon (boolean (is_true value))) out.old out.new length.new result }
+    ensures { IsHandedOver (canon (boolean (is_nonzero value))) out.old out.new length.new result }
 {
     if value == 0 {
         hand_over_scalar(FALSE_TAG, &[], out, length)
@@ -59,7 +58,7 @@ pub extern "C" fn kohiblad_of_boolean(value: u32, out: &mut [u8], length: &mut u
 /// value but are not a document; `OTHER_KIND` if they begin like a value of another kind.
 #[unsafe(no_mangle)]
 pub extern "C" fn kohiblad_as_boolean(bytes: &[u8]) -> KohibladTruth
-    ensures boolean { (b : Bool) → Doc bytes.now (boolean b) → result ≡ truth_of b }
+    ensures boolean { (b : Bool) → Doc bytes.now (boolean b) → result ≡ truth_answer b }
     ensures other { ((b : Bool) → Doc bytes.now (boolean b) → ⊥)
         → result ≡ no_truth (why_none 1 (kind_answer (kind bytes.now))) }
 {
@@ -91,7 +90,7 @@ fn boolean_in(bytes: &[u8]) -> Option<bool>
 
 /// A truth value as C receives it: 0 or 1.
 pub fn truth_of(value: bool) -> KohibladTruth
-    ensures { result ≡ truth_of value }
+    ensures { result ≡ truth_answer value }
 {
     if value {
         KohibladTruth {
@@ -119,9 +118,9 @@ pub fn no_truth(status: u32) -> KohibladTruth
 pub extern "C" fn kohiblad_of_string(bytes: &[u8], out: &mut [u8], length: &mut usize) -> u32
     ensures utf8 { (IsUtf8 bytes.now → ⊥)
         → IsRefused (code Error.InvalidUtf8) out.old out.new length.new result }
-    ensures text { IsUtf8 bytes.now → IsShort bytes.now
+    ensures text { IsUtf8 bytes.now → IsShortPayload bytes.now
         → IsHandedOver (canon (text bytes.now)) out.old out.new length.new result }
-    ensures past { IsUtf8 bytes.now → (IsShort bytes.now → ⊥)
+    ensures past { IsUtf8 bytes.now → (IsShortPayload bytes.now → ⊥)
         → IsRefused (code Error.InvalidJsonb) out.old out.new length.new result }
 {
     if basic::from_utf8(bytes).is_err() {

@@ -5,7 +5,7 @@ ghost use Rattle.std.specs.Prelude.{◌<◌, ◌≡◌, ◌≤◌, pos};
 ghost use Rattle.jsonb_typed.specs.Words.{IsInt64, IsUInt64};
 ghost use Rattle.kohiblad.specs.Located.{IsTakenAt, each_of};
 ghost use Rattle.kohiblad.specs.Taking.{AreKept, AreRowsTaken, AreTaken, IsDate, IsInt128};
-ghost use Rattle.kohiblad.specs.Taking.{IsInterval, IsTakenBy, IsTimestamp, IsTruth};
+ghost use Rattle.kohiblad.specs.Taking.{IsIntervalIn, IsTakenBy, IsTimestamp, IsTruth};
 ghost use Rattle.kohiblad.specs.Taking.{IsZonedTimestamp, fit_of, not_taken, outputs};
 ghost use Rattle.kohiblad.specs.Words.{Error, code, meaning_within};
 ghost use Rattle.kohiblad.specs.declared.taking.Reading.TheVariants.{Checked, Unchecked};
@@ -206,7 +206,7 @@ pub extern "C" fn kohiblad_take_interval(
     values: &mut [KohibladInterval],
     states: &mut [u8],
 ) -> KohibladTaken
-    ensures { AreTaken (IsTakenBy IsInterval
+    ensures { AreTaken (IsTakenBy IsIntervalIn
         (record { months = pos 0; days = pos 0; micros = pos 0 }) (Checked depth)) bytes.now
         offsets.now (meaning_within depth path.now)
         (outputs values.old values.new states.old states.new) result }
@@ -385,7 +385,7 @@ pub extern "C" fn kohiblad_take_interval_unchecked(
     states: &mut [u8],
 ) -> KohibladTaken
     ensures { AreTaken
-        (IsTakenBy IsInterval (record { months = pos 0; days = pos 0; micros = pos 0 }) Unchecked)
+        (IsTakenBy IsIntervalIn (record { months = pos 0; days = pos 0; micros = pos 0 }) Unchecked)
         bytes.now offsets.now (meaning_within depth path.now)
         (outputs values.old values.new states.old states.new) result }
 {
@@ -546,7 +546,7 @@ pub extern "C" fn kohiblad_take_interval_at(
     states: &mut [u8],
 ) -> KohibladTaken
     ensures { AreRowsTaken
-        (IsTakenAt IsInterval (record { months = pos 0; days = pos 0; micros = pos 0 }) bytes.now)
+        (IsTakenAt IsIntervalIn (record { months = pos 0; days = pos 0; micros = pos 0 }) bytes.now)
         (each_of step places.now) (outputs values.old values.new states.old states.new) result }
 {
     let intervals = Places::new(places, step);

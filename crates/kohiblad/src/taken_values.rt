@@ -6,7 +6,7 @@ ghost use Rattle.std.specs.Cmp.{partial_equiv_from_equiv, signed_po};
 ghost use Rattle.std.specs.Ordering.{int_cmp, int_eq, on};
 ghost use Rattle.jsonb_typed.specs.Words.{date, interval, scalar_boolean, scalar_extension};
 ghost use Rattle.jsonb_typed.specs.Words.{scalar_number, timestamp, timestamp_tz};
-ghost use Rattle.kohiblad.specs.Taking.{IsDate, IsInt128, IsInterval, IsTimestamp, IsTruth};
+ghost use Rattle.kohiblad.specs.Taking.{IsDate, IsInt128, IsIntervalIn, IsTimestamp, IsTruth};
 ghost use Rattle.kohiblad.specs.Taking.{IsZonedTimestamp, int128_whole};
 ghost use Rattle.kohiblad.specs.Words.{from_halves};
 
@@ -242,7 +242,7 @@ pub struct IntervalNumbers;
 impl ColumnType for IntervalNumbers {
     type Value = KohibladInterval;
 
-    ghost stands = { λ s v t. IsInterval v t };
+    ghost stands = { λ s v t. IsIntervalIn v t };
 
     ghost scalars = { λ s v t. scalar_extension
         (interval (record { months = v.months; days = v.days; micros = v.micros })) t };

@@ -14,7 +14,7 @@ use Rattle.std.proofs.lemmas.Cmp.{tied_itself, upto}
 use Rattle.std.proofs.lemmas.List.Elements.{All-contains, All-push, All-weaker}
 use Rattle.std.proofs.lemmas.List.Elements.{Contains-append_left, Contains-push}
 use Rattle.std.proofs.lemmas.List.Sums.{AllPass-from_list_all, list_all-from_AllPass}
-use Rattle.typed_vector.specs.ZoneMap.{IsSpan, is_above, is_below, is_within}
+use Rattle.typed_vector.specs.ZoneMap.{IsSpan, is_above, is_below, lies_within}
 use Rattle.typed_vector.specs.declared.zone_map.Zone.{Zone}
 
 at_most_is : (r : Ordering) → is_gt r ≡ false → r ≢ Greater
@@ -206,7 +206,7 @@ module _ {A : Type 0} (cmp : A → A → Ordering) (o : IsTotalOrder cmp) where
   item_within : (least item greatest low high : A) → cmp least item ≢ Greater
       → cmp item greatest ≢ Greater
       → (not (is_lt (cmp least low)) && not (is_gt (cmp greatest high))) ≡ true
-      → is_within cmp low high item ≡ true
+      → lies_within cmp low high item ≡ true
   item_within least item greatest low high above below e =
       let (from, to) = and_parts (not (is_lt (cmp least low))) (not (is_gt (cmp greatest high))) e
       in
@@ -217,8 +217,8 @@ module _ {A : Type 0} (cmp : A → A → Ordering) (o : IsTotalOrder cmp) where
       (not_turned (is_gt (cmp item high)) (is_gt (cmp greatest high))
       (λ b. above_case item greatest high (is_gt (cmp greatest high)) below b refl) to)
 
-  ends_within : (least greatest low high : A) → is_within cmp low high least ≡ true
-      → is_within cmp low high greatest ≡ true
+  ends_within : (least greatest low high : A) → lies_within cmp low high least ≡ true
+      → lies_within cmp low high greatest ≡ true
       → (not (is_lt (cmp least low)) && not (is_gt (cmp greatest high))) ≡ true
   ends_within least greatest low high e f =
       both_true (not (is_lt (cmp least low))) (not (is_gt (cmp greatest high)))
@@ -227,16 +227,16 @@ module _ {A : Type 0} (cmp : A → A → Ordering) (o : IsTotalOrder cmp) where
 
   all_shown : (items : List A) (zone : Zone A) (low high : A) → IsSpan cmp items zone
       → (is_ge (cmp zone.least low) && is_le (cmp zone.greatest high))
-      ≡ list_all (is_within cmp low high) items
+      ≡ list_all (lies_within cmp low high) items
   all_shown items zone low high span =
-      let wanted : A → Type 0 = λ item. is_within cmp low high item ≡ true in
+      let wanted : A → Type 0 = λ item. lies_within cmp low high item ≡ true in
       ap₂ (λ x y. x && y) (at_least_test (cmp zone.least low)) (up_to_test (cmp zone.greatest high))
       ∙ both_ways (not (is_lt (cmp zone.least low)) && not (is_gt (cmp zone.greatest high)))
-      (list_all (is_within cmp low high) items)
-      (λ e. list_all-from_AllPass (is_within cmp low high) items
+      (list_all (lies_within cmp low high) items)
+      (λ e. list_all-from_AllPass (lies_within cmp low high) items
       (λ k d low_k. item_within zone.least (slice_index_or items k d) zone.greatest low high
       (span.above k d low_k) (span.below k d low_k) e))
-      (λ e. let all = AllPass-from_list_all (is_within cmp low high) items e in
+      (λ e. let all = AllPass-from_list_all (lies_within cmp low high) items e in
       ends_within zone.least zone.greatest low high
       (All-contains wanted items zone.least all span.least)
       (All-contains wanted items zone.greatest all span.greatest))
@@ -245,7 +245,7 @@ module _ {A : Type 0} (cmp : A → A → Ordering) (o : IsTotalOrder cmp) where
       → ((x y : A) → partial x y ≡ Some (cmp x y)) → (items : List A) (zone : Zone A) (low high : A)
       → IsSpan cmp items zone
       → (partial_ge partial zone.least low && partial_le partial zone.greatest high)
-      ≡ list_all (is_within cmp low high) items
+      ≡ list_all (lies_within cmp low high) items
   all_tested partial agrees items zone low high span =
       ap₂ (λ x y. x && y) (ap (is_some_and is_ge) (agrees zone.least low))
       (ap (is_some_and is_le) (agrees zone.greatest high))
@@ -262,19 +262,19 @@ outside_above false false e = absurd (cc)
 
 none_case : {A : Type 0} (cmp : A → A → Ordering) (items : List A) (low high : A) (x y : Bool)
     → list_all (is_below cmp low) items ≡ x → list_all (is_above cmp high) items ≡ y
-    → OnFalse (not (x || y)) (filter (is_within cmp low high) items ≡ [])
+    → OnFalse (not (x || y)) (filter (lies_within cmp low high) items ≡ [])
 none_case cmp items low high true y below above =
-    none_found (is_below cmp low) (is_within cmp low high)
+    none_found (is_below cmp low) (lies_within cmp low high)
     (λ item e. outside_below (is_below cmp low item) (is_above cmp high item) e) items below
 none_case cmp items low high false true below above =
-    none_found (is_above cmp high) (is_within cmp low high)
+    none_found (is_above cmp high) (lies_within cmp low high)
     (λ item e. outside_above (is_below cmp low item) (is_above cmp high item) e) items above
 none_case cmp items low high false false below above = tt
 
 -- If all values are below the range, or all above it, then none is in it.
 pub none_within : {A : Type 0} (cmp : A → A → Ordering) (items : List A) (low high : A)
     → OnFalse (not (list_all (is_below cmp low) items || list_all (is_above cmp high) items))
-    (filter (is_within cmp low high) items ≡ [])
+    (filter (lies_within cmp low high) items ≡ [])
 none_within cmp items low high =
     none_case cmp items low high (list_all (is_below cmp low) items)
     (list_all (is_above cmp high) items) refl refl

@@ -36,8 +36,8 @@ abbrev pub is_above : {A : Type 0} → (A → A → Ordering) → A → A → Bo
 is_above cmp high item = is_gt (cmp item high)
 
 -- The value is neither below the lower nor above the upper limit.
-abbrev pub is_within : {A : Type 0} → (A → A → Ordering) → A → A → A → Bool
-is_within cmp low high item = not (is_below cmp low item) && not (is_above cmp high item)
+abbrev pub lies_within : {A : Type 0} → (A → A → Ordering) → A → A → A → Bool
+lies_within cmp low high item = not (is_below cmp low item) && not (is_above cmp high item)
 
 -- The zone has the least and the greatest of the values.
 pub record IsSpan {A : Type 0} (cmp : A → A → Ordering) (items : List A) (zone : Zone A)

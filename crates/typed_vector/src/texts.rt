@@ -4,7 +4,7 @@ ghost use Rattle.std.specs.Prelude.{◌≡◌, ◌<◌, ◌∷◌, ◌++◌, [],
 ghost use Rattle.std.specs.Prelude.{All, IfOk, option_map, slice_get};
 ghost use Rattle.typed_vector.specs.Cells.{Cell, absent, value, other, cells, rows};
 ghost use Rattle.typed_vector.specs.Contents.{IsStoredRest, bytes_cell, rests};
-ghost use Rattle.typed_vector.specs.Texts.{AreTexts, HoldsText};
+ghost use Rattle.typed_vector.specs.Texts.{AreTextRows, HoldsText};
 
 use crate::binaries::Binaries;
 use crate::rest::RestParts;
@@ -82,7 +82,7 @@ impl Texts {
     pub fn parts(&self) -> TextParts<'_>
         ensures cells { cells (rows result.texts.now result.text_offsets.now) result.is_set.now
             (rests (length self.now) result.rest) ≡ self.now }
-        ensures alike { AreTexts result.texts.now result.text_offsets.now result.is_set.now
+        ensures alike { AreTextRows result.texts.now result.text_offsets.now result.is_set.now
             (rests (length self.now) result.rest) }
         ensures rest { IsStoredRest (length self.now) result.rest }
     {

@@ -7,7 +7,7 @@ ghost use Rattle.std.specs.Int.{div_ceil};
 ghost use Rattle.std.specs.List.{list_all};
 ghost use Rattle.typed_vector.specs.Cells.{cells};
 ghost use Rattle.typed_vector.specs.ZoneMap.{AreZones, IsSpan, IsZone, are_set, block_at};
-ghost use Rattle.typed_vector.specs.ZoneMap.{cell_values, is_above, is_below, is_within};
+ghost use Rattle.typed_vector.specs.ZoneMap.{cell_values, is_above, is_below, lies_within};
 ghost use Rattle.typed_vector.specs.ZoneMap.{set_values};
 
 use crate::vector::Typed;
@@ -37,7 +37,7 @@ impl<T: Copy + Ord> Zone<T> {
             → result ≡ not (list_all (is_below T.cmp low) items
             || list_all (is_above T.cmp high) items) }
         ensures none { (items : List T) → IsSpan T.cmp items self.now
-            → OnFalse result (filter (is_within T.cmp low high) items ≡ []) }
+            → OnFalse result (filter (lies_within T.cmp low high) items ≡ []) }
     {
         self.greatest >= low && self.least <= high
     }
@@ -45,7 +45,7 @@ impl<T: Copy + Ord> Zone<T> {
     /// Whether all values are from `low` to `high`.
     pub fn all_within(&self, low: T, high: T) -> bool
         ensures { (items : List T) → IsSpan T.cmp items self.now
-            → result ≡ list_all (is_within T.cmp low high) items }
+            → result ≡ list_all (lies_within T.cmp low high) items }
     {
         self.least >= low && self.greatest <= high
     }

@@ -1,7 +1,7 @@
 use Rattle.std.proofs.Common.{rules, refl, subst, arith}
 use Rattle.std.specs.Prelude.{IsTrue, Option}
 use Rattle.jsonb_value.specs.Tree.{Tree}
-use Rattle.jsonb_typed.specs.LeastTypes.{IsHeld, IsHeldAt}
+use Rattle.jsonb_typed.specs.LeastTypes.{IsHeldAt, IsHeldIn}
 use Rattle.jsonb_typed.proofs.LeastLaws.{all_held, row_held}
 use Rattle.jsonb_typed.proofs.lattice.holds_all.Goals as goal
 
@@ -11,7 +11,7 @@ loop-row-preserved c =
     let held : IsTrue c.is_held.result = search rules in
     row_held (IsHeldAt c.args.fit c.args.candidate c.args.path.now) c.args.rows.now
     c.loop-row.row-index c.row-item.result c.loop-row-test.true c.row-item.is c.loop-row.invariant
-    (subst (λ (m : Option Tree). IsHeld c.args.fit c.args.candidate m) c.member_of.ensures.value
+    (subst (λ (m : Option Tree). IsHeldIn c.args.fit c.args.candidate m) c.member_of.ensures.value
     (c.is_held.ensures.0 held))
 
 pub returns : goal.returns

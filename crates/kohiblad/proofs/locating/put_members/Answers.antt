@@ -4,7 +4,7 @@ use Rattle.std.specs.Ordering.{nat_cmp}
 use Rattle.std.specs.declared.cmp.Ordering.TheVariants.{Less}
 use Rattle.jsonb.specs.Entry.{IsEntryIn}
 use Rattle.kohiblad.specs.Locating.{IsMemberPlace}
-use Rattle.kohiblad.specs.RowWalks.{IsFoundAs, IsFoundIn}
+use Rattle.kohiblad.specs.RowWalks.{IsFoundAs, IsSoughtIn}
 use Rattle.kohiblad.proofs.LocatingLaws.{all_found, first_found, later_names, name_at, none_put}
 use Rattle.kohiblad.proofs.LocatingLaws.{one_more_put}
 use Rattle.kohiblad.proofs.locating.put_members.Goals as goal
@@ -35,12 +35,12 @@ loop-name-preserved c =
     let is = cut.1.0 in
     let same : c.as_bytes.result.now ≡ name.now = cut.1.1 in
     let keeps : (k : List ℕ) → slice_cmp nat_cmp name.now k ≡ Less
-    → IsFoundIn k loop.walk → IsFoundIn k c.place_of-found.new.self =
+    → IsSoughtIn k loop.walk → IsSoughtIn k c.place_of-found.new.self =
     λ k less. c.place_of-found.ensures.later k (ap (λ (t : List ℕ). slice_cmp nat_cmp t k) same ∙ less) in
     let next = later_names loop.walk c.place_of-found.new.self left others name is keeps so_far.order
     so_far.found in
-    let found : IsFoundIn c.as_bytes.result.now loop.walk =
-    subst (λ (text : List ℕ). IsFoundIn text loop.walk) (sym same)
+    let found : IsSoughtIn c.as_bytes.result.now loop.walk =
+    subst (λ (text : List ℕ). IsSoughtIn text loop.walk) (sym same)
     (first_found loop.walk left others name is so_far.found) in
     let here : IsFoundAs loop.walk.row.now c.as_bytes.result.now c.place_of-found.result =
     c.place_of-found.ensures.found found in

@@ -1,7 +1,8 @@
 use Rattle.std.proofs.Common.{◌≡◌, true, length, List, inr, subst, ◌∙◌, rules}
 use Rattle.jsonb.specs.Within.{meaning_within}
 use Rattle.jsonb_functions.specs.declared.path.Step.{Step}
-use Rattle.kohiblad.specs.Rows.{are_offsets, rows}
+use Rattle.kohiblad.specs.Rows.{are_offsets}
+use Rattle.typed_vector.specs.Cells.{rows}
 use Rattle.kohiblad.specs.Taking.{AreKept, AreRowsTaken, IsTakenBy, not_taken, outputs}
 use Rattle.kohiblad.proofs.OverRowsLaws.{not_refused, same_path}
 use Rattle.kohiblad.proofs.taking.take.Goals as goal

@@ -1,7 +1,7 @@
 use Rattle.std.proofs.Common.{◌≡◌, ◌&&◌, [], filter, sym, ap, subst, ◌∙◌}
 use Rattle.std.specs.Bool.{OnFalse}
 use Rattle.std.specs.Ordering.{partial_le}
-use Rattle.typed_vector.specs.ZoneMap.{is_within}
+use Rattle.typed_vector.specs.ZoneMap.{lies_within}
 use Rattle.typed_vector.proofs.ZoneLaws.{none_within, tested}
 use Rattle.typed_vector.proofs.zone_map.Zone.may_hold.Goals as goal
 
@@ -23,12 +23,12 @@ returns-else-ge-clause-exact g c = λ items span.
 
 pub returns-then-ge-clause-none : goal.returns-then-ge-clause-none
 returns-then-ge-clause-none g c = λ items span.
-    subst (λ b. OnFalse b (filter (is_within g.T.Ord.cmp c.args.low c.args.high) items ≡ []))
+    subst (λ b. OnFalse b (filter (lies_within g.T.Ord.cmp c.args.low c.args.high) items ≡ []))
     (sym (returns-then-ge-clause-exact g c items span))
     (none_within g.T.Ord.cmp items c.args.low c.args.high)
 
 pub returns-else-ge-clause-none : goal.returns-else-ge-clause-none
 returns-else-ge-clause-none g c = λ items span.
-    subst (λ b. OnFalse b (filter (is_within g.T.Ord.cmp c.args.low c.args.high) items ≡ []))
+    subst (λ b. OnFalse b (filter (lies_within g.T.Ord.cmp c.args.low c.args.high) items ≡ []))
     (sym (returns-else-ge-clause-exact g c items span))
     (none_within g.T.Ord.cmp items c.args.low c.args.high)
