@@ -3,7 +3,7 @@ use Rattle.std.proofs.Common.{◌≡◌, ℕ, zero, suc, ◌+◌, ◌<◌, ◌�
 use Rattle.std.proofs.Common.{List, [], ◌∷◌, ◌++◌, get_or, length, drop, add-one, refl, sym}
 use Rattle.std.proofs.Common.{ap}
 use Rattle.std.proofs.Common.{ap₂, subst, ◌∙◌, arith}
-use Rattle.std.specs.Prelude.{◌==◌, Err, Ok, Option, Result, Some, None, is_ok}
+use Rattle.std.specs.Prelude.{◌==◌, Err, Ok, OnOk, Option, Result, Some, None, is_ok}
 use Rattle.std.specs.Result.{result_err}
 use Rattle.std.proofs.lemmas.Bool.{cond_both, eq-eqb, eqb-false, eqb-true, lt-leb}
 use Rattle.std.proofs.lemmas.Bool.{ltb-false, ltb-true, ne_eqb}
@@ -18,7 +18,7 @@ use Rattle.typed_chunk.specs.declared.fault.ChunkFault.TheVariants.{NotLeastValu
 use Rattle.typed_chunk.specs.declared.fault.ChunkFault.TheVariants.{NotLeastWidth}
 use Rattle.typed_chunk.proofs.UnpackedLaws.{written}
 
-some_not_none : {fault : ChunkFault} → Some fault ≡ None → ⊥
+pub some_not_none : {fault : ChunkFault} → Some fault ≡ None → ⊥
 some_not_none e = cc
 
 -- No code is above the greatest.
@@ -141,6 +141,15 @@ packed_behind width head first codes bytes part long parts is behind =
     (subst (ArePacked (get_or bytes 0 0) codes)
     (ap (λ (k : ℕ). drop (k + 1) bytes) long ∙ sym behind) parts.packed)
 
+-- Codes that were read are those that the bytes tell.
+pub read_behind : (head count width : ℕ) (codes bytes part : List ℕ) → width ≡ get_or bytes 0 0
+    → part ≡ drop (head + 1) bytes → length codes ≡ count → ArePacked width codes part
+    → codes ≡ codes_behind head count bytes
+read_behind head count width codes bytes part is behind many are =
+    sym (written width codes part are).back
+    ∙ ap₂ (λ (w n : ℕ). digits (2 ^ w) n (number 256 part)) is many
+    ∙ ap (λ (bs : List ℕ). digits (2 ^ get_or bytes 0 0) count (number 256 bs)) behind
+
 -- The fault of bytes whose codes were read is that of the codes.
 pub fault_behind : (head count width : ℕ) (codes bytes part : List ℕ)
     (fault : Option ChunkFault) → head < length bytes → width ≡ get_or bytes 0 0
@@ -150,10 +159,7 @@ pub fault_behind : (head count width : ℕ) (codes bytes part : List ℕ)
 fault_behind head count width codes bytes part fault long is some behind many none are least =
     let first = get_or bytes 0 0 in
     let rest = drop (head + 1) bytes in
-    let read : codes ≡ codes_behind head count bytes =
-    sym (written width codes part are).back
-    ∙ ap₂ (λ (w n : ℕ). digits (2 ^ w) n (number 256 part)) is many
-    ∙ ap (λ (bs : List ℕ). digits (2 ^ first) count (number 256 bs)) behind in
+    let read = read_behind head count width codes bytes part is behind many are in
     let all : codes_fault first count rest ≡ None =
     sym (none ∙ ap₂ (λ (w : ℕ) (bs : List ℕ). codes_fault w count bs) is behind) in
     least
@@ -167,3 +173,8 @@ pub ok_from : {T : Type 0} (result : Result T ChunkFault) → result_err result 
     → is_ok result ≡ true
 ok_from (Ok x) none = refl
 ok_from (Err fault) none = absurd (some_not_none none)
+
+-- What is so, is so if there is no fault.
+pub on_ok : {T : Type 0} (result : Result T ChunkFault) (P : Type 0) → P → OnOk result P
+on_ok (Ok x) P so = so
+on_ok (Err fault) P so = tt

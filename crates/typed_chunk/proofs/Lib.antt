@@ -2,3 +2,10 @@ pub mod DigitLaws
 pub mod PackedLaws
 pub mod UnpackedLaws
 pub mod HeadedLaws
+pub mod HighFirstLaws
+pub mod FrameLaws
+pub mod NaturalLaws
+pub mod RisingLaws
+pub mod FlagLaws
+pub mod RisingReadLaws
+pub mod FlagReadLaws

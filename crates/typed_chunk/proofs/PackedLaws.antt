@@ -168,7 +168,7 @@ wide_step size i codes below low =
     ∙ digits-append 256 (size * i) size n (get_or codes i 0) (omega arith) fits
 
 -- The bytes of a number, as the library writes them.
-byte_is : (i n : ℕ) → byte_at i n ≡ n / 256 ^ i % 256
+pub byte_is : (i n : ℕ) → byte_at i n ≡ n / 256 ^ i % 256
 byte_is zero n = ap (λ (k : ℕ). k % 256) (sym (div-one n))
 byte_is (suc i) n = refl
 

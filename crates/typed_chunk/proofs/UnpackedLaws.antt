@@ -18,7 +18,7 @@ use Rattle.typed_chunk.proofs.DigitLaws.{Below, Below-digits, Below-drop, digits
 use Rattle.typed_chunk.proofs.DigitLaws.{get_or-digits}
 use Rattle.typed_chunk.proofs.DigitLaws.{length-digits, number-digits, number-drop, number-lt}
 use Rattle.typed_chunk.proofs.DigitLaws.{number-take}
-use Rattle.typed_chunk.proofs.PackedLaws.{Below-codes, bytes-bits, number-packed, pow-mul, room}
+use Rattle.typed_chunk.proofs.PackedLaws.{Below-codes, bytes-bits, number-packed, pow-mul}
 use Rattle.typed_chunk.proofs.PackedLaws.{unpacked-packed}
 
 -- A number is below another one exactly if the quotient is 0.

@@ -13,4 +13,10 @@ pub enum ChunkFault {
     NotLeastWidth,
     /// No value is the one that is said to be the least.
     NotLeastValue,
+    /// The least value and the greatest code make a number of too many bits.
+    ValueOutOfRange,
+    /// The first byte does not say which rows have a value.
+    NoSuchFlags,
+    /// Bits that are to say which rows have a value say that none or all have one.
+    NotSomeFlags,
 }

@@ -3,8 +3,8 @@
 ghost use Rattle.std.specs.Prelude.{◌≡◌, ◌≤◌, ◌<◌, ◌^◌, ◌+◌, ◌++◌, ℕ, IsOk, List, OnOk};
 ghost use Rattle.std.specs.Prelude.{drop, if◌then◌else◌, is_ok, length, take};
 ghost use Rattle.std.specs.Result.{result_err};
-ghost use Rattle.typed_chunk.specs.Headed.{IsHeaded, greatest, headed, headed_fault};
-ghost use Rattle.typed_chunk.specs.Headed.{least_fault, width_of};
+ghost use Rattle.typed_chunk.specs.Headed.{IsHeaded, codes_behind, greatest, headed};
+ghost use Rattle.typed_chunk.specs.Headed.{headed_fault, least_fault, width_of};
 ghost use Rattle.typed_chunk.specs.Packed.{AreCodes, bits};
 
 use crate::fault::ChunkFault;
@@ -15,7 +15,7 @@ use std::alloc::AllocError;
 
 /// Appends the least width of the codes, the head, and the codes. If memory is refused, nothing is
 /// appended.
-pub fn append_headed(out: &mut Vec<u8>, head: &[u8], codes: &[u64]) -> Result<(), AllocError>
+pub(crate) fn append_headed(out: &mut Vec<u8>, head: &[u8], codes: &[u64]) -> Result<(), AllocError>
     requires short { length head.now ≤ 16 }
     requires few { length codes.now < 2 ^ 57 }
     ensures { out.new.items ≡ (if is_ok result
@@ -37,12 +37,14 @@ pub fn append_headed(out: &mut Vec<u8>, head: &[u8], codes: &[u64]) -> Result<()
 /// - `BitsPastEnd`: a bit past the last code is set;
 /// - `NotLeastWidth`: all codes fit a lower width;
 /// - `NotLeastValue`: no code is 0.
-pub fn read_headed(bytes: &[u8], head: usize, codes: &mut [u64]) -> Result<(), ChunkFault>
+pub(crate) fn read_headed(bytes: &[u8], head: usize, codes: &mut [u64]) -> Result<(), ChunkFault>
     requires short { head ≤ 16 }
     requires few { length codes.old < 2 ^ 57 }
     ensures fault { result_err result ≡ headed_fault head (length codes.old) bytes.now }
     ensures long { OnOk result (head < length bytes.now) }
     ensures ok { OnOk result (IsHeaded (take head (drop 1 bytes.now)) codes.new bytes.now) }
+    ensures behind { OnOk result
+        (codes.new ≡ codes_behind head (length codes.old) bytes.now) }
     ensures back { (first items : List ℕ) → length first ≡ head
         → length items ≡ length codes.old → greatest items < 2 ^ 64
         → IsHeaded first items bytes.now → IsOk result × (codes.new ≡ items) }
@@ -81,7 +83,7 @@ fn width_of(codes: &[u64]) -> Width
 }
 
 // The greatest of the codes, or 0.
-fn greatest(codes: &[u64]) -> u64
+pub(crate) fn greatest(codes: &[u64]) -> u64
     ensures { result ≡ greatest codes.now }
 {
     let mut most = 0;

@@ -3,13 +3,19 @@
 
 mod examples;
 mod fault;
+mod flags;
+mod frame;
 mod headed;
+mod naturals;
 mod packed;
+mod rising;
 mod unpacked;
 mod width;
 
 pub use fault::ChunkFault;
-pub use headed::{append_headed, read_headed};
+pub use flags::{append_flags, read_flags};
+pub use frame::{append_frame, read_frame};
 pub use packed::{append_codes, packed_len};
+pub use rising::{append_rising, read_rising, rises};
 pub use unpacked::{code_at, read_codes};
 pub use width::Width;

@@ -1,0 +1,4 @@
+use Rattle.typed_chunk.proofs.flags.set_all.Goals as goal
+
+pub returns : goal.returns
+returns c = c.fill.ensures.after (λ y is. is)

@@ -1,0 +1,6 @@
+use Rattle.std.proofs.Common.{◌≡◌, ◌<◌, ℕ, cond, false, get_or}
+use Rattle.typed_chunk.proofs.flags.write_bits.Given as goal
+
+abbrev pub invariant-loop-index : goal.invariant-loop-index
+invariant-loop-index l = (k : ℕ) → k < l.index
+    → get_or l.codes k 0 ≡ cond (get_or l.has k false) 1 0
