@@ -1,4 +1,13 @@
+pub mod CharacterLaws
+pub mod DottedLaws
+pub mod EscapeLaws
 pub mod ExampleLaws
+pub mod LeftLaws
+pub mod NameLaws
 pub mod PartLaws
+pub mod PathTextLaws
+pub mod PathTreeLaws
 pub mod RaisedLaws
+pub mod TokenLaws
+pub mod TurnLaws
 pub mod WholeLaws

@@ -6,7 +6,7 @@ use Rattle.std.specs.Prelude.{◌&&◌}
 use Rattle.jsonb_path.specs.declared.path.Part.{Part}
 use Rattle.jsonb_path.specs.PathParts.{are_parts_after, is_part}
 
-front : {X : Type 0} (xs : List X) (i : ℕ) (x : X) → i < length xs → x ≡ get_or xs i x
+pub front : {X : Type 0} (xs : List X) (i : ℕ) (x : X) → i < length xs → x ≡ get_or xs i x
     → drop i xs ≡ x ∷ drop (i + 1) xs
 front xs i x h e =
     drop-cons xs i x h

@@ -1,7 +1,17 @@
 pub mod Arithmetic
+pub mod Character
 pub mod Comparison
 pub mod Decimal
+pub mod Dotted
+pub mod Escape
 pub mod Examples
+pub mod Fault
 pub mod Meaning
+pub mod Numeral
 pub mod PathParts
+pub mod PathText
+pub mod PathTree
 pub mod Syntax
+pub mod Token
+pub mod Turns
+pub mod Unread

@@ -63,7 +63,7 @@ is_accessor before (accessors.Items ss) = list_all (is_subscript before) ss.item
 is_accessor before (accessors.Filter i) = is_test before i
 is_accessor before a = true
 
-abbrev is_test_part : List Part → Test → Bool
+abbrev pub is_test_part : List Part → Test → Bool
 is_test_part before (tests.And i j) = is_test before i && is_test before j
 is_test_part before (tests.Or i j) = is_test before i && is_test before j
 is_test_part before (tests.Not i) = is_test before i
@@ -86,7 +86,7 @@ are_parts_after before [] = true
 are_parts_after before (p ∷ ps) =
     is_part before p && are_parts_after (before ++ (p ∷ [])) ps
 
-abbrev is_some_part : List Part → Bool
+abbrev pub is_some_part : List Part → Bool
 is_some_part [] = false
 is_some_part (p ∷ ps) = true
 

@@ -5,6 +5,9 @@ pub mod compare;
 mod examples;
 pub mod number;
 pub mod path;
+mod print;
+mod read;
+pub mod token;
 
 pub use compare::{Comparison, Scalar, Truth};
 pub use number::NumberError;

@@ -1,0 +1,4 @@
+//! Paths, read of their tokens.
+
+mod dotted;
+mod scan;

@@ -1,0 +1,111 @@
+//! What tokens begin with, and why they are refused.
+
+ghost use Rattle.std.specs.Prelude.{◌≡◌, length, option_map};
+ghost use Rattle.jsonb_path.specs.Dotted.{after_mark, after_word, is_word, lexemes};
+ghost use Rattle.jsonb_path.specs.Unread.{Parses};
+ghost use Rattle.jsonb_path.specs.declared.read.scan.Refusal.TheVariants as refusals;
+ghost use Rattle.jsonb_path.specs.declared.read.scan.Unread.TheVariants as ends;
+
+use crate::token::{PlacedToken, Token};
+use std::alloc::AllocError;
+
+/// What may be read at a place.
+#[derive(Clone, Copy, Debug, PartialEq, Eq)]
+pub enum Expected {
+    /// A key, `*`, `**` or a method after a point.
+    Key,
+    /// A level of `.**`: a number below 2^31 or `last`.
+    Level,
+    /// `.key` or `.value` after `.keyvalue()`.
+    KeyOrValue,
+    /// This mark.
+    Mark(char),
+}
+
+/// What is known, and not read here.
+#[derive(Clone, Copy, Debug, PartialEq, Eq)]
+pub enum LeftOut {
+    Double,
+    Datetime,
+}
+
+/// Why tokens are no path.
+#[derive(Clone, Copy, Debug, PartialEq, Eq)]
+pub enum Refusal {
+    Expected(Expected),
+    LeftOut(LeftOut),
+}
+
+/// Why tokens are not read: memory, or a refusal at so many tokens before the end.
+#[derive(Clone, Copy, Debug, PartialEq, Eq)]
+pub enum Unread {
+    OutOfMemory,
+    Refused(usize, Refusal),
+}
+
+impl From<AllocError> for Unread {
+    ghost from_gives = { λ _ e. e ≡ ends.OutOfMemory };
+
+    fn from(_error: AllocError) -> Unread {
+        Unread::OutOfMemory
+    }
+}
+
+/// The refusal of these tokens at the first of them, where something else is expected.
+pub fn unexpected(tokens: &[PlacedToken], what: Expected) -> Unread
+    ensures { result ≡ ends.Refused (length tokens.now) (refusals.Expected what) }
+{
+    Unread::Refused(tokens.len(), Refusal::Expected(what))
+}
+
+/// The refusal of what is left out.
+pub fn left_out(tokens: &[PlacedToken], what: LeftOut) -> Unread
+    ensures { result ≡ ends.Refused (length tokens.now) (refusals.LeftOut what) }
+{
+    Unread::Refused(tokens.len(), Refusal::LeftOut(what))
+}
+
+/// What is after a mark, if it is the first token.
+pub fn after_mark(mark: char, tokens: &[PlacedToken]) -> Option<&[PlacedToken]>
+    ensures { option_map (λ rest. lexemes rest.now) result ≡ after_mark mark (lexemes tokens.now) }
+{
+    match tokens {
+        [first, rest @ ..] => match &first.token {
+            Token::Mark(found) if *found == mark => Some(rest),
+            _ => None,
+        },
+        [] => None,
+    }
+}
+
+/// What is after a word in any case, if it is the first token.
+pub fn after_word<'a>(word: &str, tokens: &'a [PlacedToken]) -> Option<&'a [PlacedToken]>
+    ensures { option_map
+        (λ rest. lexemes rest.now) result ≡ after_word word.now (lexemes tokens.now) }
+{
+    match tokens {
+        [first, rest @ ..] => match &first.token {
+            Token::Word(found) if is_word(word, found.as_str()) => Some(rest),
+            _ => None,
+        },
+        [] => None,
+    }
+}
+
+/// Whether a name is a word of the language, in capital or small letters.
+#[tactic(auto, using(crate::proofs::DottedLaws::same_letters))]
+pub fn is_word(word: &str, name: &str) -> bool
+    ensures { result ≡ is_word word.now name.now }
+{
+    name.eq_ignore_ascii_case(word)
+}
+
+/// What is after a mark, which has to be the first token.
+pub fn expect_mark(mark: char, tokens: &[PlacedToken]) -> Result<&[PlacedToken], Unread>
+    ensures { Parses (λ rest. lexemes rest.now) result (after_mark mark (lexemes tokens.now)) }
+{
+    match after_mark(mark, tokens) {
+        Some(rest) => Ok(rest),
+        None => Err(unexpected(tokens, Expected::Mark(mark))),
+    }
+}
