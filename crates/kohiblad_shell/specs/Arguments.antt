@@ -1,7 +1,7 @@
 -- What commands read of their arguments.
 use Rattle.std.specs.Prelude.{◌≡◌, ◌&&◌, ◌||◌, ℕ, Bool, true, false, List, [], Option, None, Some}
 use Rattle.std.specs.Prelude.{◌++◌, ◌∷◌, ◌*◌, ◌+◌, ◌-◌, ◌<◌, ◌^◌, codes, length, option_map}
-use Rattle.std.specs.Prelude.{if◌then◌else◌}
+use Rattle.std.specs.Prelude.{if◌then◌else◌, ◌⊎◌}
 use Rattle.std.specs.Char.{is_ascii_digit}
 use Rattle.std.specs.Str.{bytes_eq}
 use Rattle.clap.specs.Matches.{first_value, found_of, matched_of, one_text, raw_values}
@@ -49,14 +49,19 @@ pub record IsScaled (digits : List ℕ) (factor size : ℕ) : Type 0 where
   pub spells : digits_value 0 digits ≡ Some number
   pub is : size ≡ number * factor
 
--- The text says a size: the number of its digits, times its unit.
-pub record IsSize (text : List ℕ) (size : ℕ) : Type 0 where
+-- The text says a number: that of its digits, times its unit.
+pub record IsCount (text : List ℕ) (size : ℕ) : Type 0 where
   pub digits : List ℕ
   pub unit : List ℕ
   pub factor : ℕ
   pub parts : text ≡ digits ++ unit
   pub means : IsUnit unit factor
   pub scaled : IsScaled digits factor size
+
+-- The text says a size: a number, and after it a `B` or nothing.
+abbrev pub IsSize : List ℕ → ℕ → Type 0
+IsSize text size = IsCount text size
+    ⊎ ((count : List ℕ) × ((text ≡ count ++ codes "B") × IsCount count size))
 
 -- The size of memory that a text says, or 1 GiB if there is none.
 abbrev pub IsMemory : Option (List ℕ) → ℕ → Type 0

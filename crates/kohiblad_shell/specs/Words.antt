@@ -24,8 +24,9 @@ pub use Rattle.jsonb.specs.Parsing.{ParsesUnderWithin}
 pub use Rattle.jsonb_functions.specs.MadeWithMemory.{MadeWithMemory}
 pub use Rattle.clap.specs.Matches.{first_value, found_of}
 pub use Rattle.kohiblad_shell.specs.Arguments.{IsFlag, are_documents, is_pretty, is_raw}
-pub use Rattle.kohiblad_shell.specs.Arguments.{IsMemory, IsScaled, IsSize, colors_of, digits_value}
-pub use Rattle.kohiblad_shell.specs.Arguments.{exponents_of, form_of, shows_of, stops_of, text_or}
+pub use Rattle.kohiblad_shell.specs.Arguments.{IsCount, IsMemory, IsScaled, IsSize, colors_of}
+pub use Rattle.kohiblad_shell.specs.Arguments.{digits_value, exponents_of, form_of, shows_of}
+pub use Rattle.kohiblad_shell.specs.Arguments.{stops_of, text_or}
 pub use Rattle.kohiblad_shell.specs.Arguments.{value_of, values_of}
 pub use Rattle.kohiblad_shell.specs.Escapes.{escape, escaped_text, escaped_unit, is_escaped}
 pub use Rattle.kohiblad_shell.specs.Escapes.{shown_char}

@@ -115,7 +115,7 @@ fn memory<'a>(alloc: Global) -> Arg<'a> {
     Arg::new(alloc, "memory")
         .long("memory")
         .value_name("SIZE")
-        .help("About how many bytes the rows may take in memory, as 500M or 2G; 1G if none")
+        .help("About how many bytes the rows may take in memory, as 500MB or 2G; 1G if none")
 }
 
 // Where rows go that do not fit.

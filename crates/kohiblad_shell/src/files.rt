@@ -6,7 +6,7 @@ use crate::extract::column_words;
 use crate::halt::Halt;
 use crate::input::Form;
 use crate::kind::{InputKind, input_kind};
-use crate::messages::{name_kind, tell};
+use crate::messages::{name_kind, tell_failed};
 use crate::operation::{Job, Operation};
 use crate::output::Output;
 use crate::progress::{Metered, Progress};
@@ -64,8 +64,8 @@ pub fn progress_of<'a>(
 pub fn open_file(rt: &HostRuntime, name: &str) -> Result<File, Halt> {
     match File::open(rt, name) {
         Ok(file) => Ok(file),
-        Err(_) => {
-            tell(rt, format!(in rt.alloc(); "cannot open {name}"));
+        Err(error) => {
+            tell_failed(rt, "cannot open", name, &error);
             Err(Halt::Read)
         }
     }

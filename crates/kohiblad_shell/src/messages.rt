@@ -11,7 +11,7 @@ use crate::run::Summary;
 use crate::status::{Aim, MISUSE, halt_status, run_status};
 use crate::watch::Watch;
 use std::alloc::AllocError;
-use std::io::Stderr;
+use std::io::{self, Stderr};
 
 /// Writes these words, with escapes, or that there is no memory for them.
 pub fn tell(rt: &HostRuntime, words: Result<String, AllocError>) {
@@ -23,6 +23,24 @@ pub fn tell(rt: &HostRuntime, words: Result<String, AllocError>) {
         Ok(shown) => eprintln!(rt; "kohiblad: {shown}"),
         Err(_) => eprintln!(rt; "kohiblad: {}", Halt::Memory.reason()),
     };
+}
+
+/// Says what could not be done with a file, and why by the system's words.
+pub fn tell_failed(rt: &HostRuntime, what: &str, name: &str, error: &io::Error) {
+    let alloc = rt.alloc();
+    let words = match format!(in alloc; "{error}") {
+        Ok(reason) => format!(in alloc; "{what} {name}: {}", without_code(reason.as_str())),
+        Err(error) => Err(error),
+    };
+    tell(rt, words);
+}
+
+// The words of an error without the system's number for it.
+fn without_code(reason: &str) -> &str {
+    match reason.rsplit_once(" (os error ") {
+        Some((words, _)) => words,
+        None => reason,
+    }
 }
 
 /// Reports wrong use.

@@ -1,9 +1,9 @@
 //! Where the rows of a command go: standard output, or a file that is there when it is whole.
 
-ghost use Rattle.std.specs.Prelude.{◌≤◌, IfOk, string_len};
+ghost use Rattle.std.specs.Prelude.{◌≡◌, ◌≤◌, IfOk, string_len};
 
 use crate::halt::{Halt, halt_of_write};
-use crate::messages::tell;
+use crate::messages::tell_failed;
 use crate::mode::mode_for;
 use crate::same_file::expect_other_file;
 use crate::status::FAILURE;
@@ -15,6 +15,9 @@ use std::io::{self, ErrorKind, Write};
 // How many links are followed before a file is given up, as Linux does.
 const MAX_LINKS: usize = 40;
 
+// What the system says of more links: its number of ELOOP.
+const TOO_MANY_LINKS: i32 = 40;
+
 // How long the name of a new file may be in any folder.
 const USUAL_LEN: usize = 64;
 
@@ -25,28 +28,48 @@ const PART_LEN: usize = 23;
 #[derive(Drop)]
 pub enum Output<'a> {
     /// Standard output.
-    Standard(&'a HostRuntime),
+    Standard(StandardOutput<'a>),
     /// A device or a pipe, which is written as it is.
     Device(File),
     /// A file beside the one whose place it takes.
     Part(Part<'a>),
 }
 
-/// A file that takes the place of another once it is whole.
+/// Standard output, and whether it was reported that it cannot be written.
+#[derive(Drop)]
+pub struct StandardOutput<'a> {
+    rt: &'a HostRuntime,
+    is_told: bool,
+}
+
+/// A file that takes the place of another once it is whole, and whether it was reported that it
+/// cannot be written.
 #[derive(Drop)]
 pub struct Part<'a> {
     rt: &'a HostRuntime,
     file: File,
     name: String,
     target: String,
+    is_told: bool,
 }
 
 impl Write for Output<'_> {
     fn write(&mut self, bytes: &[u8]) -> io::Result<usize> {
         match self {
-            Output::Standard(rt) => io::writer(*rt).write(bytes),
+            Output::Standard(standard) => {
+                let written = io::writer(standard.rt).write(bytes);
+                reported(
+                    standard.rt,
+                    "standard output",
+                    written,
+                    &mut standard.is_told,
+                )
+            }
             Output::Device(file) => file.write(bytes),
-            Output::Part(part) => part.file.write(bytes),
+            Output::Part(part) => {
+                let written = part.file.write(bytes);
+                reported(part.rt, part.target.as_str(), written, &mut part.is_told)
+            }
         }
     }
 
@@ -62,12 +85,12 @@ impl<'a> Output<'a> {
     pub fn open(rt: &'a HostRuntime, name: &str, inputs: &[&str]) -> Result<Output<'a>, u8> {
         expect_other_file(rt, name, inputs)?;
         if name == "-" {
-            return Ok(Output::Standard(rt));
+            return Ok(Output::Standard(StandardOutput { rt, is_told: false }));
         }
         match open_target(rt, name) {
             Ok(output) => Ok(output),
-            Err(_) => {
-                tell(rt, format!(in rt.alloc(); "cannot write {name}"));
+            Err(error) => {
+                tell_failed(rt, "cannot write", name, &error);
                 Err(FAILURE)
             }
         }
@@ -79,26 +102,33 @@ impl<'a> Output<'a> {
         let Output::Part(part) = self else {
             return Ok(());
         };
-        let is_placed = is_whole && part.take_place().is_ok();
-        if !is_placed {
+        if !is_whole {
             let _ = fs::remove_file(part.rt, part.name.as_str());
-        }
-        if !is_whole || is_placed && part.sync_folder().is_ok() {
             return Ok(());
         }
-        let target = part.target.as_str();
-        tell(
-            part.rt,
-            format!(in part.rt.alloc(); "cannot write {target}"),
-        );
-        Err(Halt::Write)
+        match part.take_place() {
+            Ok(()) => Ok(()),
+            Err(error) => {
+                tell_failed(part.rt, "cannot write", part.target.as_str(), &error);
+                Err(Halt::Write)
+            }
+        }
     }
 }
 
 impl Part<'_> {
+    // Puts the whole file into the place of the other; one that cannot take it is removed.
+    fn take_place(&self) -> io::Result<()> {
+        if let Err(error) = self.replace() {
+            let _ = fs::remove_file(self.rt, self.name.as_str());
+            return Err(error);
+        }
+        self.sync_folder()
+    }
+
     // Gives the file the mode of the one that it replaces, has all of it on the device, and then
     // puts it into the other's place.
-    fn take_place(&self) -> io::Result<()> {
+    fn replace(&self) -> io::Result<()> {
         let target = self.target.as_str();
         self.file.set_permissions(mode_for(self.rt, target)?)?;
         self.file.sync_all()?;
@@ -117,36 +147,51 @@ impl Part<'_> {
     }
 }
 
+// What came of a write to a file of this name. Why it failed is reported once, unless nobody reads
+// the output any more.
+fn reported(
+    rt: &HostRuntime,
+    name: &str,
+    written: io::Result<usize>,
+    is_told: &mut bool,
+) -> io::Result<usize>
+    ensures { result ≡ written }
+{
+    if let Err(error) = &written {
+        if !*is_told && error.kind() != ErrorKind::BrokenPipe {
+            *is_told = true;
+            tell_failed(rt, "cannot write", name, error);
+        }
+    }
+    written
+}
+
 // The file of this name: a new one beside it, or itself if it is no file.
-fn open_target<'a>(rt: &'a HostRuntime, name: &str) -> Result<Output<'a>, Halt> {
+fn open_target<'a>(rt: &'a HostRuntime, name: &str) -> io::Result<Output<'a>> {
     let Ok(metadata) = fs::metadata(rt, name) else {
         return open_part(rt, followed(rt, name)?);
     };
     if !metadata.is_file() {
-        return match OpenOptions::new().write(true).open(rt, name) {
-            Ok(file) => Ok(Output::Device(file)),
-            Err(_) => Err(Halt::Write),
-        };
+        let file = OpenOptions::new().write(true).open(rt, name)?;
+        return Ok(Output::Device(file));
     }
-    let Ok(target) = fs::canonicalize(rt, name) else {
-        return Err(Halt::Write);
-    };
+    let target = fs::canonicalize(rt, name)?;
     open_part(rt, String::from_str(rt.alloc(), target.as_str())?)
 }
 
 // The name to which a link leads at which there is no file yet, or the name itself if it is no
 // link.
-fn followed(rt: &HostRuntime, name: &str) -> Result<String, Halt> {
+fn followed(rt: &HostRuntime, name: &str) -> io::Result<String> {
     let alloc = rt.alloc();
     let mut path = String::from_str(alloc, name)?;
     for _ in 0..MAX_LINKS {
         match fs::read_link(rt, path.as_str()) {
             Ok(link) => path = linked(alloc, path.as_str(), link.as_str())?,
             Err(error) if is_no_link(error.kind()) => return Ok(path),
-            Err(_) => return Err(Halt::Write),
+            Err(error) => return Err(error),
         }
     }
-    Err(Halt::Write)
+    Err(io::Error::from_raw_os_error(TOO_MANY_LINKS))
 }
 
 // Whether a link could not be read because there is none.
@@ -164,19 +209,20 @@ fn linked(alloc: Global, name: &str, link: &str) -> Result<String, AllocError> {
 }
 
 // A new file in the folder of another, whose place it takes.
-fn open_part<'a>(rt: &'a HostRuntime, target: String) -> Result<Output<'a>, Halt> {
+fn open_part<'a>(rt: &'a HostRuntime, target: String) -> io::Result<Output<'a>> {
     let (file, name) = new_file_beside(rt, target.as_str())?;
     Ok(Output::Part(Part {
         rt,
         file,
         name,
         target,
+        is_told: false,
     }))
 }
 
 // A new file in the folder of another, and its name, which is no longer than the other's or the
 // usual.
-fn new_file_beside(rt: &HostRuntime, target: &str) -> Result<(File, String), Halt> {
+fn new_file_beside(rt: &HostRuntime, target: &str) -> io::Result<(File, String)> {
     let (folder, last) = split_name(target);
     let most = last.len().max(USUAL_LEN).saturating_sub(PART_LEN);
     let words = beginning(rt.alloc(), last, most)?;

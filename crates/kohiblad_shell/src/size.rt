@@ -2,15 +2,26 @@
 
 ghost use Rattle.std.specs.Prelude.{◌≡◌, ◌∷◌, [], Some, IfSome};
 ghost use Rattle.kohiblad_shell.specs.Arguments.{IsUnit};
-ghost use Rattle.kohiblad_shell.specs.Words.{IsScaled, IsSize, digits_value};
+ghost use Rattle.kohiblad_shell.specs.Words.{IsCount, IsScaled, IsSize, digits_value};
 
 /// The number of bytes that a text says: digits, and after them `K`, `M` or `G` for so many times
-/// 1,024, its square or its third power, or nothing. `None` if it is no such text, or the number
-/// does not fit 64 bits.
+/// 1,024, its square or its third power, or nothing; a `B` after these changes nothing. `None` if
+/// it is no such text, or the number does not fit 64 bits.
+#[tactic(auto, using(crate::proofs::SizeLaws::with_byte, crate::proofs::SizeLaws::without_byte))]
 pub fn size_of(text: &str) -> Option<u64>
     ensures { IfSome result (IsSize text.now) }
 {
     let bytes = text.as_bytes();
+    match bytes.split_last()? {
+        (b'B', before) => count_of(before),
+        _ => count_of(bytes),
+    }
+}
+
+// The number that digits and a unit after them say.
+fn count_of(bytes: &[u8]) -> Option<u64>
+    ensures { IfSome result (IsCount bytes.now) }
+{
     let (last, digits) = bytes.split_last()?;
     match unit_of(*last) {
         Some(unit) => scaled(digits, unit),

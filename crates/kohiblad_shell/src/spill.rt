@@ -2,7 +2,7 @@
 //! files.
 
 use crate::halt::Halt;
-use crate::messages::tell;
+use crate::messages::tell_failed;
 use crate::sort::{self, Arrangement, sort_rows};
 use crate::sorted_run::{RowParts, merge_runs, write_run};
 use crate::temporary::unnamed_file;
@@ -117,11 +117,10 @@ impl<'a> Spill<'a> {
     fn new_run(&self) -> Result<File, Halt> {
         match unnamed_file(self.rt, self.folder) {
             Ok(file) => Ok(file),
-            Err(halt) => {
-                let folder = self.folder;
+            Err(error) => {
                 let what = "cannot make a temporary file in";
-                tell(self.rt, format!(in self.rt.alloc(); "{what} {folder}"));
-                Err(halt)
+                tell_failed(self.rt, what, self.folder, &error);
+                Err(Halt::Write)
             }
         }
     }

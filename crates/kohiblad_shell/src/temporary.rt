@@ -1,9 +1,8 @@
 //! Temporary files.
 
-use crate::halt::Halt;
 use hex::encode;
 use std::fs::{self, File, OpenOptions};
-use std::io::ErrorKind;
+use std::io::{self, ErrorKind};
 use std::os::unix::fs::OpenOptionsExt;
 use std::random::RandomSource;
 
@@ -12,18 +11,15 @@ const MAX_TRIES: usize = 100;
 
 /// A new file in this folder, which has no name any more: it is gone when it is closed, also if the
 /// program is stopped.
-pub fn unnamed_file(rt: &HostRuntime, folder: &str) -> Result<File, Halt> {
+pub fn unnamed_file(rt: &HostRuntime, folder: &str) -> io::Result<File> {
     let (file, name) = new_file(rt, folder, "kohiblad")?;
-    match fs::remove_file(rt, name.as_str()) {
-        Ok(()) => Ok(file),
-        Err(_) => Err(Halt::Write),
-    }
+    fs::remove_file(rt, name.as_str())?;
+    Ok(file)
 }
 
 /// A new file in this folder, which its owner alone may open, and its name, which no file had: a
-/// point, these words, 16 random digits and `.part`. `Write` if none can be made, `Read` if the
-/// system gives no random bytes, `Memory` if an allocation fails.
-pub fn new_file(rt: &HostRuntime, folder: &str, words: &str) -> Result<(File, String), Halt> {
+/// point, these words, 16 random digits and `.part`.
+pub fn new_file(rt: &HostRuntime, folder: &str, words: &str) -> io::Result<(File, String)> {
     for _ in 0..MAX_TRIES {
         let name = new_name(rt, folder, words)?;
         let mut options = OpenOptions::new();
@@ -31,18 +27,16 @@ pub fn new_file(rt: &HostRuntime, folder: &str, words: &str) -> Result<(File, St
         match options.open(rt, name.as_str()) {
             Ok(file) => return Ok((file, name)),
             Err(error) if error.kind() == ErrorKind::AlreadyExists => {}
-            Err(_) => return Err(Halt::Write),
+            Err(error) => return Err(error),
         }
     }
-    Err(Halt::Write)
+    Err(io::Error::from(ErrorKind::AlreadyExists))
 }
 
 // A name that hardly any file has.
-fn new_name(rt: &HostRuntime, folder: &str, words: &str) -> Result<String, Halt> {
+fn new_name(rt: &HostRuntime, folder: &str, words: &str) -> io::Result<String> {
     let mut bytes = [0; 8];
-    if rt.fill_bytes(&mut bytes).is_err() {
-        return Err(Halt::Read);
-    }
+    rt.fill_bytes(&mut bytes)?;
     let alloc = rt.alloc();
     let number = encode(alloc, bytes.as_slice())?;
     let slash = if folder.is_empty() || folder.ends_with('/') {
