@@ -148,10 +148,18 @@ Datum pg_kohiblad_larger(PG_FUNCTION_ARGS) {
     PG_RETURN_POINTER(chosen_argument(fcinfo, false));
 }
 
+/* The comparable key of a stored document, as kohiblad_key writes it, or its first bytes where all
+ * have no room. No memory is requested, and no key is measured before it is written. */
+static uint32_t whole_key(const uint8_t *bytes, size_t size, size_t depth, uint8_t *out,
+                          size_t room, size_t *length) {
+    uint32_t status = kohiblad_key_cut(bytes, size, depth, out, room, length);
+    return status == KOHIBLAD_OK && *length > room ? KOHIBLAD_NO_ROOM : status;
+}
+
 PG_FUNCTION_INFO_V1(pg_kohiblad_key);
 Datum pg_kohiblad_key(PG_FUNCTION_ARGS) {
     Bytes document = bytes_of(PG_GETARG_VARLENA_PP(0));
-    PG_RETURN_BYTEA_P(write_value(kohiblad_key, document, document.size, ERRCODE_DATA_CORRUPTED));
+    PG_RETURN_BYTEA_P(write_value(whole_key, document, document.size, ERRCODE_DATA_CORRUPTED));
 }
 
 /* Room for comparable keys, which grows as they need it; at first it is the caller's. */
@@ -169,14 +177,13 @@ static void free_room(KeyRoom *room) {
 static Bytes write_key(Bytes document, KeyRoom *room) {
     size_t depth = depth_of_size(document.size), length;
     check_stack_for(stack_of_depth(depth));
-    uint32_t status =
-        kohiblad_key(document.at, document.size, depth, room->at, room->size, &length);
+    uint32_t status = whole_key(document.at, document.size, depth, room->at, room->size, &length);
     if (status == KOHIBLAD_NO_ROOM) {
         free_room(room);
         room->at = MemoryContextAllocHuge(room->context, length);
         room->size = length;
         room->is_allocated = true;
-        status = kohiblad_key(document.at, document.size, depth, room->at, room->size, &length);
+        status = whole_key(document.at, document.size, depth, room->at, room->size, &length);
     }
     if (status != KOHIBLAD_OK) refuse(status, ERRCODE_DATA_CORRUPTED);
     return (Bytes){room->at, length};
