@@ -15,6 +15,7 @@ from ._changes import DocumentPath, Step
 from ._encode import bytes_of_text, encode, encode_other, parse
 from ._errors import KohibladError, PathError, TooDeepError, warn
 from ._expected import fault_of, quoted_path
+from ._exports import Place
 from ._library import IS_NATIVE, exports
 from ._scalars import Scalar, scalar_of
 from ._stack import DEPTH
@@ -574,10 +575,10 @@ class _Container(Document):
         count: int = exports.kind(self._data, len(self._data)).count
         return count
 
-    def _child(self, place: library.Place) -> Child:
+    def _child(self, place: Place) -> Child:
         return _child_of(place.type, library.payload_of(self._data, place))
 
-    def _document_at(self, place: library.Place) -> Document:
+    def _document_at(self, place: Place) -> Document:
         payload = library.payload_of(self._data, place)
         if place.type != library.TYPE_CONTAINER:
             payload = library.scalar_document(place.type, payload)
@@ -718,7 +719,7 @@ class ObjectDocument(_Container, Mapping[str, Child]):
     def values(self) -> "_Values":
         return _Values(self)
 
-    def _find(self, name: object) -> Optional[library.Place]:
+    def _find(self, name: object) -> Optional[Place]:
         """The place of a member. A name that is no str, or has no UTF-8, is no member's."""
         if not isinstance(name, str):
             # As of a dict: TypeError for a list, which has no hash.

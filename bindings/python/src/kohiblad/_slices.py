@@ -10,6 +10,7 @@ from . import _changes as changes
 from . import _library as library
 from ._changes import Step
 from ._document import Document, ScalarDocument
+from ._exports import Place
 from ._library import exports
 
 if TYPE_CHECKING:
@@ -108,18 +109,20 @@ class _Slices:
             needed = place.length
 
 
-def _find_in(prefix: bytes, size: int, step: Step) -> library.Place:
+def _find_in(prefix: bytes, size: int, step: Step) -> Place:
     if isinstance(step, str):
         try:
             name = step.encode()
         except UnicodeEncodeError:
-            return library.Place(status=library.NONE)
-        return exports.find_key_in_prefix(prefix, len(prefix), size, name, len(name))
+            return Place(status=library.NONE)
+        found: Place = exports.find_key_in_prefix(prefix, len(prefix), size, name, len(name))
+        return found
     if step < 0:
         it = exports.kind(prefix, len(prefix))
         if it.status != library.OK:
             raise library.error_of(it.status)
-        step += it.count
+        step += int(it.count)
     if step < 0:
-        return library.Place(status=library.NONE)
-    return exports.find_index_in_prefix(prefix, len(prefix), size, step)
+        return Place(status=library.NONE)
+    item: Place = exports.find_index_in_prefix(prefix, len(prefix), size, step)
+    return item

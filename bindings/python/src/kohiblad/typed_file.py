@@ -20,6 +20,7 @@ from . import _arrays as arrays
 from . import _library as library
 from ._changes import document_of_path, edited, warn_of_missing
 from ._document import Document, path_error, steps_of_name
+from ._exports import TypedColumn
 from ._iso import READERS
 from ._library import exports
 from ._scalars import (Date, Interval, Timestamp, TimestampTz, date_of, decimal_of,
@@ -172,7 +173,7 @@ class StoredColumn(library.Fixed, Sequence[Any]):
     _word: str
     _scale: int
 
-    def __init__(self, told: library.TypedColumn, file: memoryview, length: int) -> None:
+    def __init__(self, told: TypedColumn, file: memoryview, length: int) -> None:
         def cut(at: int, size: int) -> memoryview:
             return file[at:at + size]
         word = _TYPES[told.type]
@@ -312,13 +313,13 @@ class TypedFile(library.Fixed, Sequence[Document]):
     def _told(self) -> Any:
         """The columns as the library tells them."""
         count = ctypes.c_size_t()
-        told: Any = (library.TypedColumn * 0)()
+        told: Any = (TypedColumn * 0)()
         while True:
             status = exports.typed_columns(self._at, self._size, ctypes.addressof(told),
                                            len(told), ctypes.addressof(count))
             if status != library.NO_ROOM:
                 break
-            told = (library.TypedColumn * count.value)()
+            told = (TypedColumn * count.value)()
         if status != library.OK:
             raise library.error_of(status)
         return told
