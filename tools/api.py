@@ -29,8 +29,8 @@ OF_PROGRAMS = re.compile(r"run|answer|answer_lines|ask|line|reason|decode_shallo
 IN_C = """
 ## The exports for C
 
-[kohiblad.h](../bindings/kohiblad.h) says in words what each does, and [C](C.md#what-is-proved) by
-which definitions it is said.
+[kohiblad.h](../bindings/kohiblad.h) says in words what each does, and
+[DEFINITIONS](DEFINITIONS.md#exports-for-c) by which definitions it is said.
 """
 # Traits that a caller does not name, or that come with another.
 SILENT = {"Model", "Drop", "PartialEq", "PartialOrd"}

@@ -104,10 +104,11 @@ ALSO = {
 DECLARED = re.compile(r'(?:/\*(?:(?!\*/).)*\*/\n)?^(static inline [^;{]*?'
                       r'KOHIBLAD_INLINE\("(\w+)"\);)', re.M | re.S)
 
-# The blocks of docs/C.md that are made, below what names them.
-SIGNATURES = re.compile(r"(^## Signatures\n.*?^```c\n).*?(^```$)", re.M | re.S)
-RECIPE = re.compile(r"(\]\(\.\./bindings/examples/(\w+\.\w+)\):\n\n```\w+\n).*?(^```$)",
-                    re.M | re.S)
+# The blocks of docs/C.md that are made, below what names them. They stand between marks.
+SIGNATURES = re.compile(r"(^## Signatures\n.*?^<!-- tools/pages -->\n```c\n).*?(^```$)",
+                        re.M | re.S)
+RECIPE = re.compile(r"(\]\(\.\./bindings/examples/(\w+\.\w+)\):\n\n<!-- tools/pages -->\n```\w+\n)"
+                    r".*?(^```$)", re.M | re.S)
 
 
 def exported():
