@@ -1,10 +1,11 @@
 -- The laws of frames of numbers that are not negative.
-use Rattle.std.proofs.Common.{◌≡◌, ℕ, zero, suc, ◌+◌, ◌-◌, ◌^◌, ◌<◌, ◌≤◌, true, List, []}
+use Rattle.std.proofs.Common.{◌≡◌, ℕ, zero, suc, ◌+◌, ◌-◌, ◌*◌, ◌^◌, ◌<◌, ◌≤◌, true, List, []}
 use Rattle.std.proofs.Common.{◌∷◌, ℤ, pos, ◌-ℤ◌, ◌≤ℤ◌, All, fold, map}
 use Rattle.std.proofs.Common.{min, length, get_or, drop, take, refl, sym, ap, ap₂, subst, ◌∙◌}
 use Rattle.std.proofs.Common.{arith}
 use Rattle.std.proofs.Common.{unsigned_abs, Some, None, inl, inr, le-ltb, lt-ltb}
 use Rattle.std.specs.Int.{int_min}
+use Rattle.std.proofs.Math.Nat.{pow-le-pow_right}
 use Rattle.std.proofs.lemmas.Bool.{cases_lt}
 use Rattle.std.proofs.lemmas.Int.{ints}
 use Rattle.std.proofs.lemmas.List.{get_or_default, length-drop, length-map}
@@ -23,6 +24,7 @@ use Rattle.typed_chunk.proofs.FrameLaws.{frame_headed, greatest_has, headed_fram
 use Rattle.typed_chunk.proofs.FrameLaws.{least_bounds}
 use Rattle.typed_chunk.proofs.HeadedLaws.{some_not_none, up_to_greatest}
 use Rattle.typed_chunk.proofs.HighFirstLaws.{high_bytes-number}
+use Rattle.typed_chunk.proofs.PackedLaws.{bytes-bits}
 
 -- The least of numbers.
 min_pos : (m n : ℕ) → int_min (pos m) (pos n) ≡ pos (min m n)
@@ -122,6 +124,19 @@ size_passed size least codes none = elim (cases_lt (least + greatest codes) (2 ^
       omega (arith, low, same, most)
   | inr high ↦ absurd (some_not_none (sym (size_left size least codes high) ∙ none))
 ]
+
+-- Numbers of at most 8 bytes have at most 64 bits.
+pub within_64 : (size n : ℕ) → size ≤ 8 → n < 256 ^ size → n < 2 ^ 64
+within_64 size n short low =
+    let up : 256 ^ size ≤ 256 ^ 8 = pow-le-pow_right (omega arith) short in
+    omega (arith, low, up)
+
+pub sum_within_64 : (size least : ℕ) (codes : List ℕ) → size ≤ 8
+    → range_fault (8 * size) (pos least) codes ≡ None → All (λ code. least + code < 2 ^ 64) codes
+sum_within_64 size least codes short none k d inside =
+    let low = size_passed (8 * size) least codes none k d inside in
+    within_64 size (least + get_or codes k d) short
+    (subst (λ n. least + get_or codes k d < n) (sym (bytes-bits size)) low)
 
 -- What the bytes of numbers say of the least of them and of their codes.
 pub record NaturalParts (size : ℕ) (numbers bytes : List ℕ) : Type 0 where

@@ -1,7 +1,7 @@
-//! Numbers of 64 bits without a sign, by the least of them and how far each is above it.
+//! Numbers without a sign of at most 8 bytes, by the least of them and how far each is above it.
 
-ghost use Rattle.std.specs.Prelude.{◌≡◌, ◌≤◌, ◌<◌, ◌^◌, ◌+◌, ◌-◌, ◌++◌, ℕ, All, IsOk, List, OnOk};
-ghost use Rattle.std.specs.Prelude.{drop, fold, if◌then◌else◌, is_ok, length, map, min, pos};
+ghost use Rattle.std.specs.Prelude.{◌≡◌, ◌≤◌, ◌<◌, ◌^◌, ◌*◌, ◌+◌, ◌-◌, ◌++◌, ℕ, All, IsOk, List};
+ghost use Rattle.std.specs.Prelude.{OnOk, drop, fold, if◌then◌else◌, is_ok, length, map, min, pos};
 ghost use Rattle.std.specs.Result.{result_err};
 ghost use Rattle.byteorder.specs.Endian.{big_number};
 ghost use Rattle.typed_chunk.specs.Frame.{IsFrame, frame, least_number, naturals_fault};
@@ -13,55 +13,78 @@ use crate::headed::{append_headed, greatest, read_headed};
 use byteorder::{BigEndian, ByteOrder};
 use std::alloc::AllocError;
 
-/// Appends the bytes of numbers. Afterwards the numbers may be any. If memory is refused, nothing
-/// is appended.
-pub(crate) fn append_naturals(out: &mut Vec<u8>, numbers: &mut [u64]) -> Result<(), AllocError>
+/// Appends the bytes of numbers that fit so many bytes. Afterwards the numbers may be any. If memory
+/// is refused, nothing is appended.
+pub(crate) fn append_naturals(
+    out: &mut Vec<u8>,
+    size: usize,
+    numbers: &mut [u64],
+) -> Result<(), AllocError>
+    requires long { 1 ≤ size }
+    requires short { size ≤ 8 }
     requires some { 0 < length numbers.old }
     requires few { length numbers.old < 2 ^ 57 }
+    requires fit { All (λ number. number < 256 ^ size) numbers.old }
     ensures { out.new.items ≡ (if is_ok result
-        then out.old.items ++ frame (unsigned_word 8) (map pos numbers.old)
+        then out.old.items ++ frame (unsigned_word size) (map pos numbers.old)
         else out.old.items) }
 {
     let least = least_number(numbers);
     lower(least, numbers);
-    append_behind(out, least, numbers)
+    append_behind(out, size, least, numbers)
 }
 
-/// Reads as many numbers as there is room for, which are all that the bytes have. On an error they
-/// may be any. The first of these is reported:
+/// Reads as many numbers of so many bytes as there is room for, which are all that the bytes have.
+/// On an error they may be any. The first of these is reported:
 ///
-/// - `WrongLength`: there are fewer than 9 bytes;
+/// - `WrongLength`: there are no more bytes than those of a number;
 /// - `NoSuchWidth`: codes never have so many bits as the first byte says;
 /// - `WrongLength`: the bytes behind the least number are not as many as those of so many codes;
 /// - `BitsPastEnd`: a bit past the last code is set;
 /// - `NotLeastWidth`: all codes fit a lower width;
 /// - `NotLeastValue`: no code is 0;
-/// - `ValueOutOfRange`: the greatest number is not one of 64 bits.
-pub(crate) fn read_naturals(bytes: &[u8], numbers: &mut [u64]) -> Result<(), ChunkFault>
+/// - `ValueOutOfRange`: the greatest number does not fit so many bytes.
+pub(crate) fn read_naturals(
+    bytes: &[u8],
+    size: usize,
+    numbers: &mut [u64],
+) -> Result<(), ChunkFault>
+    requires long { 1 ≤ size }
+    requires short { size ≤ 8 }
     requires few { length numbers.old < 2 ^ 57 }
-    ensures fault { result_err result ≡ naturals_fault 8 (length numbers.old) bytes.now }
-    ensures ok { OnOk result (IsFrame (unsigned_word 8) (map pos numbers.new) bytes.now) }
-    ensures behind { OnOk result (numbers.new ≡ numbers_in 8 (length numbers.old) bytes.now) }
+    ensures fault { result_err result ≡ naturals_fault size (length numbers.old) bytes.now }
+    ensures ok { OnOk result (IsFrame (unsigned_word size) (map pos numbers.new) bytes.now) }
+    ensures behind { OnOk result (numbers.new ≡ numbers_in size (length numbers.old) bytes.now) }
     ensures back { (items : List ℕ) → length items ≡ length numbers.old
-        → All (λ number. number < 2 ^ 64) items
-        → IsFrame (unsigned_word 8) (map pos items) bytes.now
+        → All (λ number. number < 256 ^ size) items
+        → IsFrame (unsigned_word size) (map pos items) bytes.now
         → IsOk result × (numbers.new ≡ items) }
 {
-    read_headed(bytes, 8, numbers)?;
-    let least = least_in(bytes);
-    check_sum(least, numbers)?;
+    read_headed(bytes, size, numbers)?;
+    let least = least_in(bytes, size);
+    check_sum(least, size, numbers)?;
     raise(least, numbers);
     Ok(())
 }
 
 // Appends codes behind the least number.
-fn append_behind(out: &mut Vec<u8>, least: u64, codes: &[u64]) -> Result<(), AllocError>
-    requires { length codes.now < 2 ^ 57 }
+fn append_behind(
+    out: &mut Vec<u8>,
+    size: usize,
+    least: u64,
+    codes: &[u64],
+) -> Result<(), AllocError>
+    requires long { 1 ≤ size }
+    requires short { size ≤ 8 }
+    requires fits { least < 256 ^ size }
+    requires few { length codes.now < 2 ^ 57 }
     ensures { out.new.items ≡ (if is_ok result
-        then out.old.items ++ headed (unsigned_word 8 (pos least)) codes.now
+        then out.old.items ++ headed (unsigned_word size (pos least)) codes.now
         else out.old.items) }
 {
-    append_headed(out, &least.to_be_bytes(), codes)
+    let mut head = [0; 8];
+    BigEndian::write_uint(&mut head[..size], least, size);
+    append_headed(out, &head[..size], codes)
 }
 
 // The least of the numbers, or 0 of none.
@@ -107,20 +130,24 @@ fn raise(least: u64, numbers: &mut [u64])
 }
 
 // The least number that bytes tell.
-fn least_in(bytes: &[u8]) -> u64
-    requires { 8 < length bytes.now }
-    ensures { result ≡ big_number 8 (drop 1 bytes.now) }
+fn least_in(bytes: &[u8], size: usize) -> u64
+    requires long { 1 ≤ size }
+    requires short { size ≤ 8 }
+    requires room { size < length bytes.now }
+    ensures { result ≡ big_number size (drop 1 bytes.now) }
 {
-    BigEndian::read_u64(&bytes[1..])
+    BigEndian::read_uint(&bytes[1..], size)
 }
 
-// Whether the number of the greatest code has 64 bits.
+// Whether the number of the greatest code fits so many bytes.
 #[tactic(auto, using(crate::proofs::NaturalLaws::size_tests))]
-fn check_sum(least: u64, codes: &[u64]) -> Result<(), ChunkFault>
-    ensures { result_err result ≡ range_fault 64 (pos least) codes.now }
+fn check_sum(least: u64, size: usize, codes: &[u64]) -> Result<(), ChunkFault>
+    requires { size ≤ 8 }
+    ensures { result_err result ≡ range_fault (8 * size) (pos least) codes.now }
 {
-    match least.checked_add(greatest(codes)) {
-        Some(_) => Ok(()),
-        None => Err(ChunkFault::ValueOutOfRange),
+    let most = u128::from(least) + u128::from(greatest(codes));
+    if most < 1 << (8 * size) {
+        return Ok(());
     }
+    Err(ChunkFault::ValueOutOfRange)
 }

@@ -42,7 +42,7 @@ pub fn append_rising(out: &mut Vec<u8>, values: &[i64], steps: &mut [u64]) -> Re
     write_steps(values, steps);
     let start = out.len();
     append_first(out, values)?;
-    match append_naturals(out, steps) {
+    match append_naturals(out, 8, steps) {
         Ok(()) => Ok(()),
         Err(error) => {
             out.truncate(start);
@@ -76,7 +76,7 @@ pub fn read_rising(bytes: &[u8], steps: &mut [u64], values: &mut [i64]) -> Resul
     if bytes.len() < 8 {
         return Err(ChunkFault::WrongLength);
     }
-    read_naturals(&bytes[8..], steps)?;
+    read_naturals(&bytes[8..], 8, steps)?;
     let first = first_in(bytes);
     check_last(first, steps)?;
     write_values(first, steps, values);
