@@ -1,4 +1,0 @@
-use Rattle.kohiblad.proofs.taken_types.kohiblad_take_boolean.Goals as goal
-
-pub returns : goal.returns
-returns c = rw c.checked-truths.ensures at c.take.ensures

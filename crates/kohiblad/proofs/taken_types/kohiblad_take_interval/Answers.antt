@@ -1,4 +1,0 @@
-use Rattle.kohiblad.proofs.taken_types.kohiblad_take_interval.Goals as goal
-
-pub returns : goal.returns
-returns c = rw c.checked-intervals.ensures at c.take.ensures
