@@ -9,3 +9,5 @@ pub mod RisingLaws
 pub mod FlagLaws
 pub mod RisingReadLaws
 pub mod FlagReadLaws
+pub mod SpanLaws
+pub mod BeginningLaws

@@ -5,3 +5,4 @@ pub mod Frame
 pub mod Headed
 pub mod Packed
 pub mod Rising
+pub mod Texts

@@ -1,6 +1,7 @@
 //! The chunks of one column: the values of a block of rows as bytes, and back.
 #![tactic(auto)]
 
+mod beginning;
 mod examples;
 mod fault;
 mod flags;
@@ -9,6 +10,10 @@ mod headed;
 mod naturals;
 mod packed;
 mod rising;
+mod spans;
+#[cfg(test)]
+mod tests;
+mod texts;
 mod unpacked;
 mod width;
 
@@ -17,5 +22,6 @@ pub use flags::{append_flags, read_flags};
 pub use frame::{append_frame, read_frame};
 pub use packed::{append_codes, packed_len};
 pub use rising::{append_rising, read_rising, rises};
+pub use texts::append_texts;
 pub use unpacked::{code_at, read_codes};
 pub use width::Width;

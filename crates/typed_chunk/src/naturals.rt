@@ -13,8 +13,8 @@ use crate::headed::{append_headed, greatest, read_headed};
 use byteorder::{BigEndian, ByteOrder};
 use std::alloc::AllocError;
 
-/// Appends the bytes of numbers that fit so many bytes. Afterwards the numbers may be any. If memory
-/// is refused, nothing is appended.
+/// Appends the bytes of numbers that fit so many bytes. Afterwards the numbers may be any. If
+/// memory is refused, nothing is appended.
 pub(crate) fn append_naturals(
     out: &mut Vec<u8>,
     size: usize,

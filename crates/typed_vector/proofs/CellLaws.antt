@@ -9,7 +9,7 @@ use Rattle.typed_vector.specs.Cells.{AreAlike, AreEnds, AreOffsets, Cell, value,
 use Rattle.typed_vector.specs.Cells.{rest_cell, rows_from, rows}
 
 -- The first end is at most the size.
-start-le : (size start : ℕ) (ends : List ℕ) → AreEnds size start ends → start ≤ size
+pub start-le : (size start : ℕ) (ends : List ℕ) → AreEnds size start ends → start ≤ size
 start-le size start [] h = omega arith
 start-le size start (e ∷ es) h =
     let later = start-le size e es h.1 in omega (arith, h.0, later)
@@ -45,7 +45,7 @@ pub AreOffsets-push : (size more : ℕ) (offsets : List ℕ) → AreOffsets size
 AreOffsets-push size more [] h le = absurd h
 AreOffsets-push size more (s ∷ es) h le = (h.0, AreEnds-push size more s es h.1 le)
 
-length-rows_from : (b : List ℕ) (start : ℕ) (ends : List ℕ)
+pub length-rows_from : (b : List ℕ) (start : ℕ) (ends : List ℕ)
     → length (rows_from b start ends) ≡ length ends
 length-rows_from b start [] = refl
 length-rows_from b start (e ∷ es) = ap (λ n. suc n) (length-rows_from b e es)
@@ -62,7 +62,7 @@ pub record IsRowAt (b offsets : List ℕ) (i : ℕ) : Type 0 where
   pub row : get_or (rows b offsets) i []
       ≡ take (get_or offsets (suc i) 0 - get_or offsets i 0) (drop (get_or offsets i 0) b)
 
-row_from-at : (b : List ℕ) (start : ℕ) (ends : List ℕ) (i : ℕ) → AreEnds (length b) start ends
+pub row_from-at : (b : List ℕ) (start : ℕ) (ends : List ℕ) (i : ℕ) → AreEnds (length b) start ends
     → i < length ends → IsRowAt b (start ∷ ends) i
 row_from-at b start [] i h low = absurd (omega (arith, low))
 row_from-at b start (e ∷ es) zero h low =

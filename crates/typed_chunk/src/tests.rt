@@ -1,0 +1,27 @@
+//! Tests of bytes that a model of the form in another language wrote.
+
+use crate::append_texts;
+use std::alloc::{AllocError, Global};
+
+// Four rows, of which the second has no text.
+const TEXTS: &[u8] = b"town-atown-bcdtown-";
+
+const OFFSETS: [usize; 5] = [0, 6, 6, 14, 19];
+
+const HAS: [bool; 4] = [true, false, true, true];
+
+const BYTES: &[u8] = b"\x05town-\x02\x00\x00\x00\x00\x31abcd";
+
+fn bytes_of_texts(alloc: Global) -> Result<Vec<u8>, AllocError> {
+    let mut out = Vec::new(alloc);
+    append_texts(&mut out, TEXTS, &OFFSETS, &HAS, &mut [0; 4])?;
+    Ok(out)
+}
+
+#[test]
+fn texts_with_a_common_beginning(rt: HostRuntime) {
+    match bytes_of_texts(rt.alloc()) {
+        Ok(bytes) => assert_eq!(rt; bytes.as_slice(), BYTES),
+        Err(_) => assert!(rt; false),
+    }
+}
