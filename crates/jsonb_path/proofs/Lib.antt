@@ -2,8 +2,10 @@ pub mod CharacterLaws
 pub mod DottedLaws
 pub mod EscapeLaws
 pub mod ExampleLaws
+pub mod FoundLaws
 pub mod LeftLaws
 pub mod NameLaws
+pub mod PairLaws
 pub mod PartLaws
 pub mod PathTextLaws
 pub mod PathTreeLaws

@@ -6,6 +6,7 @@ pub mod Dotted
 pub mod Escape
 pub mod Examples
 pub mod Fault
+pub mod Found
 pub mod Meaning
 pub mod Numeral
 pub mod PathParts

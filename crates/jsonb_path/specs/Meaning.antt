@@ -46,14 +46,14 @@ abbrev pub fails : PathError → Outcome
 fails e = record { values = []; error = Some e }
 
 -- The first outcome, and after its values the second, unless it ends with an error.
-abbrev before_end : List Tree → Option PathError → Outcome → Outcome
+abbrev pub before_end : List Tree → Option PathError → Outcome → Outcome
 before_end vs None o = record { values = vs ++ o.values; error = o.error }
 before_end vs (Some e) o = record { values = vs; error = Some e }
 
 abbrev pub joined : Outcome → Outcome → Outcome
 joined o p = before_end o.values o.error p
 
-abbrev each : (Tree → Outcome) → List Tree → Option PathError → Outcome
+abbrev pub each : (Tree → Outcome) → List Tree → Option PathError → Outcome
 each step [] end = record { values = []; error = end }
 each step (v ∷ vs) end = before_end (step v).values (step v).error (each step vs end)
 
@@ -94,7 +94,7 @@ items_of mode (array ts) = Some (list_of ts)
 items_of Lax t = Some (t ∷ [])
 items_of Strict t = None
 
-abbrev given : Place → Option (List Tree) → (List Tree → Outcome) → Outcome
+abbrev pub given : Place → Option (List Tree) → (List Tree → Outcome) → Outcome
 given place None ask = unless_forgiven place errors.ArrayNotFound
 given place (Some ts) ask = ask ts
 
@@ -121,7 +121,7 @@ values_named name no_pairs = []
 values_named name (pair k t ps) =
     if pointwise nat_eq name k then t ∷ [] else values_named name ps
 
-abbrev found : Place → List Tree → Outcome
+abbrev pub found : Place → List Tree → Outcome
 found place [] = unless_forgiven place errors.MemberNotFound
 found place (t ∷ ts) = gives (t ∷ ts)
 
@@ -154,7 +154,7 @@ is_container (array ts) = true
 is_container (object ps) = true
 is_container t = false
 
-abbrev meant : Level → Level → ℕ → Tree → List Tree
+abbrev pub meant : Level → Level → ℕ → Tree → List Tree
 meant a b level t = if is_meant a b level (is_container t) then t ∷ [] else []
 
 abbrev mutual
@@ -211,7 +211,7 @@ abbrev pub calculated : Result Number NumberError → Outcome
 calculated (Ok x) = gives (number x ∷ [])
 calculated (Err e) = fails (fault_of e)
 
-abbrev of_number : PathError → (Number → Outcome) → Tree → Outcome
+abbrev pub of_number : PathError → (Number → Outcome) → Tree → Outcome
 of_number e ask (number x) = ask x
 of_number e ask t = fails e
 
@@ -243,7 +243,7 @@ operated operators.Multiply x y = number_within (product (fraction_of x) (fracti
 operated operators.Remainder x y = remainder_within (fraction_of x) (fraction_of y)
 
 -- Exactly one number, or the error.
-abbrev only_number : PathError → (Number → Outcome) → List Tree → Outcome
+abbrev pub only_number : PathError → (Number → Outcome) → List Tree → Outcome
 only_number e ask (number x ∷ []) = ask x
 only_number e ask ts = fails e
 
@@ -280,10 +280,10 @@ abbrev pub index_number : ℤ → Number
 index_number (pos n) = UInt64 n
 index_number (negsuc n) = Int64 (negsuc n)
 
-abbrev cut : ℤ → Result ℤ PathError
+abbrev pub cut : ℤ → Result ℤ PathError
 cut z = if is_within 31 z then Ok z else Err errors.InvalidSubscript
 
-abbrev one_index : List Tree → Result ℤ PathError
+abbrev pub one_index : List Tree → Result ℤ PathError
 one_index (number x ∷ []) = cut (whole_part_of (fraction_of x))
 one_index ts = Err errors.InvalidSubscript
 
@@ -295,13 +295,13 @@ index_unless (Some e) ts = Err e
 abbrev pub index_in : Outcome → Result ℤ PathError
 index_in o = index_unless o.error o.values
 
-abbrev taken : ℕ → ℤ → ℤ → List Tree → List Tree
+abbrev pub taken : ℕ → ℤ → ℤ → List Tree → List Tree
 taken at first last [] = []
 taken at first last (t ∷ ts) =
     if int_le first (pos at) && int_le (pos at) last then t ∷ taken (suc at) first last ts
     else taken (suc at) first last ts
 
-abbrev in_bounds : ℤ → ℤ → ℕ → Bool
+abbrev pub in_bounds : ℤ → ℤ → ℕ → Bool
 in_bounds first last n = int_le (pos 0) first && int_le first last && int_lt last (pos n)
 
 -- The items from the first index to the last one. Where they are out of bounds, those that there
@@ -326,19 +326,19 @@ truth_value True = boolean true
 truth_value False = boolean false
 truth_value Unknown = null
 
-abbrev row : (Tree → Truth) → List Tree → List Truth
+abbrev pub row : (Tree → Truth) → List Tree → List Truth
 row test [] = []
 row test (u ∷ us) = test u ∷ row test us
 
-abbrev table : (Tree → Tree → Truth) → List Tree → List Tree → List Truth
+abbrev pub table : (Tree → Tree → Truth) → List Tree → List Tree → List Truth
 table test [] us = []
 table test (t ∷ ts) us = row (test t) us ++ table test ts us
 
-abbrev some_true : List Truth → Truth
+abbrev pub some_true : List Truth → Truth
 some_true [] = False
 some_true (t ∷ ts) = either t (some_true ts)
 
-abbrev some_unknown : List Truth → Bool
+abbrev pub some_unknown : List Truth → Bool
 some_unknown [] = false
 some_unknown (Unknown ∷ ts) = true
 some_unknown (t ∷ ts) = some_unknown ts
@@ -373,13 +373,13 @@ exists_in mode o = exists_before mode o.error o.values
 
 -- ---- the whole
 
-abbrev given_as : List ℕ → List (List ℕ × Tree) → Outcome
+abbrev pub given_as : List ℕ → List (List ℕ × Tree) → Outcome
 given_as name [] = fails errors.UndefinedVariable
 given_as name (v ∷ vs) =
     if pointwise nat_eq name v.0 then gives (v.1 ∷ []) else given_as name vs
 
 -- All errors of what is not there are forgiven after `.**`, also in strict.
-abbrev past : Place → Accessor → Place
+abbrev pub past : Place → Accessor → Place
 past place (syntax.descendants a b) = record place { forgives = true }
 past place a = place
 
@@ -453,7 +453,7 @@ abbrev mutual
   names_in (syntax.arithmetic op e f) = names_in e ++ names_in f
   names_in (syntax.tested p) = names_judged p
 
-  names_begin : Primary → List (List ℕ)
+  pub names_begin : Primary → List (List ℕ)
   names_begin syntax.root = []
   names_begin syntax.current = []
   names_begin syntax.last = []
@@ -461,11 +461,11 @@ abbrev mutual
   names_begin (syntax.variable name) = name ∷ []
   names_begin (syntax.inner e) = names_in e
 
-  names_along : Accessors → List (List ℕ)
+  pub names_along : Accessors → List (List ℕ)
   names_along syntax.no_accessors = []
   names_along (syntax.accessor a steps) = names_access a ++ names_along steps
 
-  names_access : Accessor → List (List ℕ)
+  pub names_access : Accessor → List (List ℕ)
   names_access (syntax.member name) = []
   names_access syntax.all_members = []
   names_access syntax.all_items = []
@@ -474,12 +474,12 @@ abbrev mutual
   names_access (syntax.filter p) = names_judged p
   names_access (syntax.method m) = []
 
-  names_select : Subscripts → List (List ℕ)
+  pub names_select : Subscripts → List (List ℕ)
   names_select syntax.no_subscripts = []
   names_select (syntax.index e rest) = names_in e ++ names_select rest
   names_select (syntax.range e f rest) = names_in e ++ (names_in f ++ names_select rest)
 
-  names_judged : Predicate → List (List ℕ)
+  pub names_judged : Predicate → List (List ℕ)
   names_judged (syntax.conjunction p q) = names_judged p ++ names_judged q
   names_judged (syntax.disjunction p q) = names_judged p ++ names_judged q
   names_judged (syntax.denial p) = names_judged p
@@ -488,15 +488,15 @@ abbrev mutual
   names_judged (syntax.starting e f) = names_in e ++ names_in f
   names_judged (syntax.exists e) = names_in e
 
-abbrev is_given : List (List ℕ × Tree) → List ℕ → Bool
+abbrev pub is_given : List (List ℕ × Tree) → List ℕ → Bool
 is_given [] name = false
 is_given (v ∷ vs) name = pointwise nat_eq name v.0 || is_given vs name
 
-abbrev all_given : List (List ℕ × Tree) → List (List ℕ) → Bool
+abbrev pub all_given : List (List ℕ × Tree) → List (List ℕ) → Bool
 all_given vs [] = true
 all_given vs (name ∷ names) = is_given vs name && all_given vs names
 
-abbrev is_lax : Mode → Bool
+abbrev pub is_lax : Mode → Bool
 is_lax Lax = true
 is_lax Strict = false
 

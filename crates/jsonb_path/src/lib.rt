@@ -1,16 +1,24 @@
 //! Path texts of SQL/JSON, and what they mean over documents.
 #![tactic(auto)]
 
+mod ask;
 pub mod compare;
+mod compute;
 mod examples;
+mod method;
 pub mod number;
+mod outcome;
+mod pairs;
 pub mod path;
+mod place;
 mod print;
 mod read;
 pub mod token;
+mod value;
 
 pub use compare::{Comparison, Scalar, Truth};
 pub use number::NumberError;
+pub use outcome::Outcome;
 pub use path::{
     Accessor, Level, Literal, Method, Mode, Operator, Part, Path, PathError, Sign, Source,
     Subscript, Test,

@@ -1,0 +1,12 @@
+use Rattle.jsonb.specs.Node.{node_tree}
+use Rattle.jsonb_path.specs.Found.{left_of, place_of}
+use Rattle.jsonb_path.specs.Meaning.{members_of}
+use Rattle.jsonb_path.proofs.FoundLaws.{step_on}
+use Rattle.jsonb_path.proofs.ask.append_all_members.Goals as goal
+
+pub loop-unit-preserved : goal.loop-unit-preserved
+loop-unit-preserved c =
+    step_on (members_of (place_of c.args.place.now)) (node_tree c.in-Some.unit)
+    (left_of c.loop-unit.units) (left_of c.next_unit.new.self) c.in-Some.ensures
+    c.loop-unit.found.items c.append_members.new.found.items c.in_ok-append_members.field-0 _
+    c.loop-unit.invariant c.in_ok-append_members.ensures
