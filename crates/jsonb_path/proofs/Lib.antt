@@ -5,6 +5,7 @@ pub mod ExampleLaws
 pub mod FoundLaws
 pub mod LeftLaws
 pub mod NameLaws
+pub mod NumeralLaws
 pub mod PairLaws
 pub mod PartLaws
 pub mod PathTextLaws

@@ -7,6 +7,7 @@ pub mod Escape
 pub mod Examples
 pub mod Fault
 pub mod Found
+pub mod Literal
 pub mod Meaning
 pub mod Numeral
 pub mod PathParts

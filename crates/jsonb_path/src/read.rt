@@ -1,4 +1,5 @@
 //! Paths, read of their tokens.
 
 mod dotted;
+mod literal;
 mod scan;

@@ -9,7 +9,7 @@ ghost use Rattle.jsonb_path.specs.Token.{is_ended, is_pair, lexed, lexeme_of, ma
 ghost use Rattle.jsonb_path.specs.Token.{placed_of, slash_at, text_at, tokens_of, variable_at};
 ghost use Rattle.jsonb_path.specs.Token.{with_token, word_at};
 
-mod cursor;
+pub(crate) mod cursor;
 mod escape;
 mod numeral;
 #[cfg(test)]
@@ -83,7 +83,7 @@ impl<T: Drop> From<AllocFailed<T>> for ReadError {
 
 // Why a token is not read.
 #[derive(Clone, Copy, Debug, PartialEq, Eq)]
-enum Stop {
+pub(crate) enum Stop {
     OutOfMemory,
     Refused(Reason),
 }

@@ -18,15 +18,20 @@ pub enum Expected {
     Level,
     /// `.key` or `.value` after `.keyvalue()`.
     KeyOrValue,
+    /// `$`, `@` within a filter, `last` within a subscript, a literal, a variable or `(`.
+    Value,
+    /// A text in quotes or a variable after `starts with`.
+    TextOrVariable,
     /// This mark.
     Mark(char),
 }
 
-/// What is known, and not read here.
+/// What is known, and not read here: methods, and numbers past 128 bits or a scale of 255.
 #[derive(Clone, Copy, Debug, PartialEq, Eq)]
 pub enum LeftOut {
     Double,
     Datetime,
+    WideNumber,
 }
 
 /// Why tokens are no path.
