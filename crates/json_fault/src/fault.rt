@@ -8,7 +8,7 @@ ghost use Rattle.json_fault.specs.Words.{changed, IsExpected, IsStop, reason_at}
 use crate::classes::Next;
 use crate::expected::{Bracket, Change, Expected, followed, stops_in_number};
 use jsonb_value::{Error, Exponents, is_json};
-use std::alloc::Global;
+use std::alloc::{AllocError, Global};
 
 /// Why a text is not JSON.
 #[derive(Clone, Copy, Debug, PartialEq, Eq)]
@@ -39,10 +39,9 @@ fn innermost(brackets: &Vec<Bracket>) -> Option<Bracket>
 }
 
 // Opens or closes a bracket.
-fn change(brackets: &mut Vec<Bracket>, change: Change) -> Result<(), Error>
-    ensures ok { OnOk result (reverse brackets.new.items
+fn change(brackets: &mut Vec<Bracket>, change: Change) -> Result<(), AllocError>
+    ensures { OnOk result (reverse brackets.new.items
         ≡ changed change (reverse brackets.old.items)) }
-    ensures memory { IfErr result (λ e. e ≡ Error.OutOfMemory) }
 {
     match change {
         Change::Keep => {}
@@ -77,9 +76,8 @@ struct Stop {
 }
 
 // Where a text is not JSON under this rule for exponents; of JSON, the end of the text.
-fn scanned(alloc: Global, text: &str, exponents: Exponents) -> Result<Stop, Error>
-    ensures ok { IfOk result (IsStop exponents text.now) }
-    ensures memory { IfErr result (λ e. e ≡ Error.OutOfMemory) }
+fn scanned(alloc: Global, text: &str, exponents: Exponents) -> Result<Stop, AllocError>
+    ensures { IfOk result (IsStop exponents text.now) }
 {
     let mut brackets = Vec::new(alloc);
     let mut expected = Expected::Value;

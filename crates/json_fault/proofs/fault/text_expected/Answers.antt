@@ -6,7 +6,7 @@ use Rattle.json_fault.proofs.fault.text_expected.Goals as goal
 
 pub returns-clause-ok : goal.returns-clause-ok
 returns-clause-ok c =
-    let at = c.in_ok-stop.ensures.ok in
+    let at = c.in_ok-stop.ensures in
     let offset = c.in_ok-stop.stop.offset in
     let text = c.args.text.now in
     let cut : c.range.result.now ≡ take offset text =
