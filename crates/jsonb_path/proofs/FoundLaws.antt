@@ -1,16 +1,21 @@
 -- What walks over values find, one value after the other.
-use Rattle.std.proofs.Common.{◌≡◌, ℕ, Bool, true, false, List, [], ◌∷◌, ◌++◌, ◌∙◌, ap, sym, refl}
-use Rattle.std.proofs.Common.{◌&&◌, ◌==◌, get_or, length, ◌<◌, ◌≤◌}
+use Rattle.std.proofs.Common.{◌≡◌, ℕ, ℤ, Bool, true, false, List, [], ◌∷◌, ◌++◌, ◌∙◌, ap, sym, refl}
+use Rattle.std.proofs.Common.{◌&&◌, ◌==◌, arith, get_or, length, ◌<◌, ◌≤◌}
 use Rattle.std.specs.Prelude.{Option, None, Some, Ok, Err, if◌then◌else◌, map, nat_eq}
+use Rattle.std.specs.Prelude.{FitsSigned}
+use Rattle.std.specs.Int.{w32}
 use Rattle.std.specs.Cmp.Lexicographic.{pointwise}
 use Rattle.std.proofs.Math.Bool.{and-false}
-use Rattle.std.proofs.lemmas.Bool.{eq-eqb}
+use Rattle.std.proofs.lemmas.Bool.{eq-eqb, lt-ltb}
 use Rattle.std.proofs.lemmas.Bool.Decides.{Decides-eqb}
 use Rattle.std.proofs.lemmas.List.{append-nil, append_assoc}
 use Rattle.std.proofs.lemmas.Slice.Eq.{slice_eq-Decides}
 use Rattle.jsonb_value.specs.Tree.{Tree, Pairs, no_pairs, pair, number, text}
 use Rattle.jsonb_value.specs.Tree.{object}
 use Rattle.jsonb_value.specs.declared.number.Number.{Number}
+use Rattle.jsonb_value.specs.NumCode.{is_within}
+use Rattle.jsonb_value.specs.Order.{fraction_of}
+use Rattle.jsonb_value.proofs.PayloadLaws.{fits_within}
 use Rattle.jsonb.specs.declared.node.Node.{Node}
 use Rattle.jsonb.specs.Lookup.{find_pair}
 use Rattle.jsonb.specs.Node as nodes
@@ -20,10 +25,11 @@ use Rattle.jsonb_path.specs.declared.outcome.WalkError.TheVariants.{Failed, OutO
 use Rattle.jsonb_path.specs.declared.path.Mode.TheVariants.{Lax, Strict}
 use Rattle.jsonb_path.specs.declared.path.PathError.{PathError}
 use Rattle.jsonb_path.specs.declared.path.PathError.TheVariants as errors
+use Rattle.jsonb_path.specs.Arithmetic.{whole_part_of}
 use Rattle.jsonb_path.specs.Found.{Finds, ended, found_then, lone_number, name_tree, number_in, value_tree}
 use Rattle.jsonb_path.specs.Meaning.{Outcome, Place, before_end, each, gives, joined, keys_of}
 use Rattle.jsonb_path.specs.Meaning.{all_unwrapped, fails, found as found_of, of_number}
-use Rattle.jsonb_path.specs.Meaning.{only_number, pairs_in, unwrapped}
+use Rattle.jsonb_path.specs.Meaning.{cut, one_index, only_number, pairs_in, unwrapped}
 use Rattle.jsonb_path.specs.Meaning.{member_of, members_of, unless_forgiven, values_named, values_of}
 use Rattle.jsonb_path.proofs.PathTextLaws.{first_left, later, nothing_left}
 
@@ -317,6 +323,50 @@ pub lists_end : (xs : List Node) → length xs < 1 → (found old : List Node) (
 lists_end xs none found old a o whole =
     unwrapped_end (map node_tree xs) (ap (map node_tree) (nothing_left xs none)) found old a o whole
 
+-- ---- indexes
+
+within_32 : (z : ℤ) → FitsSigned w32 z → is_within 31 z ≡ true
+within_32 z fits = grind (arith, lt-ltb)
+
+cut_fits : (z i : ℤ) → FitsSigned w32 z → i ≡ z → Ok i ≡ cut z
+cut_fits z i fits same =
+    let e : is_within 31 z ≡ true = within_32 z fits in rw e (ap Ok same)
+
+none_by : (z : ℤ) (b : Bool) → is_within 31 z ≡ b → (FitsSigned w32 z → ⊥)
+    → Err errors.InvalidSubscript ≡ (if b then Ok z else Err errors.InvalidSubscript)
+none_by z true e past = absurd (past (fits_within w32 z e))
+none_by z false e past = refl
+
+cut_fails : (z : ℤ) → (FitsSigned w32 z → ⊥) → Err errors.InvalidSubscript ≡ cut z
+cut_fails z past = none_by z (is_within 31 z) refl past
+
+one_is : (ts : List Tree) (x : Number) → Some x ≡ lone_number ts
+    → cut (whole_part_of (fraction_of x)) ≡ one_index ts
+one_is [] x is = absurd (cc)
+one_is (number y ∷ []) x is =
+    let same : x ≡ y = cc in ap (λ n. cut (whole_part_of (fraction_of n))) same
+one_is (t ∷ []) x is = absurd (cc)
+one_is (t ∷ u ∷ us) x is = absurd (cc)
+
+pub index_there : (ts : List Tree) (x : Number) (i : ℤ) → Some x ≡ lone_number ts
+    → FitsSigned w32 (whole_part_of (fraction_of x)) → i ≡ whole_part_of (fraction_of x)
+    → Ok i ≡ one_index ts
+index_there ts x i is fits same =
+    cut_fits (whole_part_of (fraction_of x)) i fits same ∙ one_is ts x is
+
+pub index_past : (ts : List Tree) (x : Number) → Some x ≡ lone_number ts
+    → (FitsSigned w32 (whole_part_of (fraction_of x)) → ⊥)
+    → Err errors.InvalidSubscript ≡ one_index ts
+index_past ts x is past = cut_fails (whole_part_of (fraction_of x)) past ∙ one_is ts x is
+
+pub index_missing : (ts : List Tree) → None ≡ lone_number ts
+    → Err errors.InvalidSubscript ≡ one_index ts
+index_missing [] is = refl
+index_missing (number y ∷ []) is = absurd (cc)
+index_missing (t ∷ []) is = refl
+index_missing (number y ∷ u ∷ us) is = refl
+index_missing (t ∷ u ∷ us) is = refl
+
 -- ---- the end of a walk
 
 -- nothing comes after
@@ -345,3 +395,5 @@ pub ruleset walks = (step_on, step_stops, steps_end, value_on, value_stops, valu
 pub ruleset slices = (slice_on, slice_stops, slice_end)
 
 pub ruleset unwrapping = (strict_stays, joined_nothing, lists_on, lists_stop, lists_end)
+
+pub ruleset indexes = (index_there, index_past, index_missing)

@@ -11,6 +11,7 @@ pub mod PartLaws
 pub mod PathTextLaws
 pub mod PathTreeLaws
 pub mod RaisedLaws
+pub mod TakenLaws
 pub mod TokenLaws
 pub mod TurnLaws
 pub mod WholeLaws

@@ -2,6 +2,7 @@
 #![tactic(auto)]
 
 mod ask;
+mod choose;
 pub mod compare;
 mod compute;
 mod examples;
