@@ -3,6 +3,8 @@ pub mod DottedLaws
 pub mod EscapeLaws
 pub mod ExampleLaws
 pub mod FoundLaws
+pub mod GrammarLaws
+pub mod GrowthLaws
 pub mod LeftLaws
 pub mod NameLaws
 pub mod NumeralLaws

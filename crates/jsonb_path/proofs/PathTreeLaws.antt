@@ -94,7 +94,7 @@ node_is ps i x h e =
 -- ---- a part names none but parts before it
 
 -- Both lists have the same node at each index before this one.
-Agree : ℕ → List PathNode → List PathNode → Type 0
+unfoldable pub Agree : ℕ → List PathNode → List PathNode → Type 0
 Agree n xs ys = (i : ℕ) → i < n → node_at xs i ≡ node_at ys i
 
 pub expression_within : (before : List Part) (i : ℕ) → IsTrue (is_expression before i) → i < length before
@@ -117,7 +117,7 @@ same_test : (before : List Part) (xs ys : List PathNode) → Agree (length befor
 unfolding Agree
 same_test before xs ys same i h = ap as_test (same i (test_within before i h))
 
-same_source : (before : List Part) (xs ys : List PathNode) → Agree (length before) xs ys
+pub same_source : (before : List Part) (xs ys : List PathNode) → Agree (length before) xs ys
     → (s : Source) → IsTrue (is_source before s) → primary_of xs s ≡ primary_of ys s
 unfolding Agree
 same_source before xs ys same (sources.Part i) h =
@@ -128,7 +128,7 @@ same_source before xs ys same sources.Last h = refl
 same_source before xs ys same (sources.Literal l) h = refl
 same_source before xs ys same (sources.Variable s) h = refl
 
-one_subscript : (before : List Part) (xs ys : List PathNode) → Agree (length before) xs ys
+pub one_subscript : (before : List Part) (xs ys : List PathNode) → Agree (length before) xs ys
     → (i : ℕ) (o : Option ℕ) (left right : syntax.Subscripts) → left ≡ right
     → IsTrue (is_subscript before (record { first = i; last = o }))
     → subscript_onto xs i o left ≡ subscript_onto ys i o right
@@ -141,7 +141,7 @@ one_subscript before xs ys same i (Some j) left right rest h =
     let f = same_expression before xs ys same j both.1 in
     λ k. syntax.range (e k) (f k) (rest k)
 
-same_subscripts : (before : List Part) (xs ys : List PathNode) → Agree (length before) xs ys
+pub same_subscripts : (before : List Part) (xs ys : List PathNode) → Agree (length before) xs ys
     → (ss : List Subscript) → IsTrue (list_all (is_subscript before) ss)
     → subscripts_of xs ss ≡ subscripts_of ys ss
 same_subscripts before xs ys same [] h = refl
@@ -150,7 +150,7 @@ same_subscripts before xs ys same (s ∷ ss) h =
     one_subscript before xs ys same s.first s.last (subscripts_of xs ss) (subscripts_of ys ss)
     (same_subscripts before xs ys same ss both.1) both.0
 
-same_accessor : (before : List Part) (xs ys : List PathNode) → Agree (length before) xs ys
+pub same_accessor : (before : List Part) (xs ys : List PathNode) → Agree (length before) xs ys
     → (a : Accessor) → IsTrue (is_accessor before a) → accessor_of xs a ≡ accessor_of ys a
 same_accessor before xs ys same (accessors.Items ss) h =
     ap syntax.items_at (same_subscripts before xs ys same ss.items h)
@@ -162,7 +162,7 @@ same_accessor before xs ys same accessors.AllItems h = refl
 same_accessor before xs ys same (accessors.Descendants a b) h = refl
 same_accessor before xs ys same (accessors.Method m) h = refl
 
-same_accessors : (before : List Part) (xs ys : List PathNode) → Agree (length before) xs ys
+pub same_accessors : (before : List Part) (xs ys : List PathNode) → Agree (length before) xs ys
     → (steps : List Accessor) → IsTrue (list_all (is_accessor before) steps)
     → accessors_of xs steps ≡ accessors_of ys steps
 same_accessors before xs ys same [] h = refl
@@ -173,7 +173,7 @@ same_accessors before xs ys same (a ∷ steps) h =
     λ k. syntax.accessor (e k) (f k)
 
 -- what stands after `starts with` names no part
-same_prefix : (xs ys : List PathNode) (s : Source) → IsTrue (is_prefix s)
+pub same_prefix : (xs ys : List PathNode) (s : Source) → IsTrue (is_prefix s)
     → primary_of xs s ≡ primary_of ys s
 same_prefix xs ys (sources.Part i) h = absurd (false≢true h)
 same_prefix xs ys sources.Root h = refl
@@ -211,7 +211,7 @@ same_predicate before xs ys same (tests.StartsWith i s) h =
 same_predicate before xs ys same (tests.Exists i) h =
     ap syntax.exists (same_expression before xs ys same i h)
 
-same_node : (before : List Part) (xs ys : List PathNode) → Agree (length before) xs ys
+pub same_node : (before : List Part) (xs ys : List PathNode) → Agree (length before) xs ys
     → (p : Part) → IsTrue (is_part before p) → node_of xs p ≡ node_of ys p
 same_node before xs ys same (parts.Chain s steps) h =
     let both = and_true (is_source before s) (list_all (is_accessor before) steps.items) h in

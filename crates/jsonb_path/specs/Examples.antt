@@ -1,5 +1,6 @@
--- What paths give of documents: the rows of a table that a server answered.
-use Rattle.std.specs.Prelude.{◌≡◌, pos, List, [], ◌∷◌, codes, Some, true, false}
+-- What paths give of documents, the rows of a table that a server answered, and how their texts are
+-- read.
+use Rattle.std.specs.Prelude.{◌≡◌, pos, List, [], ◌∷◌, codes, None, Some, true, false}
 use Prim.Native.String.{String}
 use Rattle.jsonb_value.specs.Notation.{whole, scaled, string, items, members, minus}
 use Rattle.jsonb_value.specs.Tree.{Tree, null, boolean, number}
@@ -12,6 +13,7 @@ use Rattle.jsonb_path.specs.declared.path.Operator.TheVariants.{Add, Subtract, M
 use Rattle.jsonb_path.specs.declared.path.PathError.{PathError}
 use Rattle.jsonb_path.specs.declared.path.PathError.TheVariants as errors
 use Rattle.jsonb_path.specs.declared.path.Sign.TheVariants.{Minus}
+use Rattle.jsonb_path.specs.Grammar.{path_of_text}
 use Rattle.jsonb_path.specs.Meaning.{Outcome, gives, path_gives}
 use Rattle.jsonb_path.specs.Syntax.{Expression, Accessor, Accessors}
 use Rattle.jsonb_path.specs.Syntax.{chain, signed, arithmetic, tested, root, current, last, literal}
@@ -241,3 +243,48 @@ pub record NumberExamples : Type 0 where
   pub size_of_number : strict (from_root (all_items ∷ method methods.Size ∷ []))
       (items (items (whole 1 ∷ whole 2 ∷ []) ∷ whole 3 ∷ []))
       ≡ ends (whole 2 ∷ []) errors.ArrayNotFound
+
+-- A text is read as this in lax, or is no path.
+abbrev reads : String → Expression → Type 0
+reads s e = path_of_text (codes s) ≡ Some (record { mode = Lax; tree = e })
+
+abbrev is_no_path : String → Type 0
+is_no_path s = path_of_text (codes s) ≡ None
+
+-- Texts of paths.
+pub record TextExamples : Type 0 where
+  pub in_strict : path_of_text (codes "strict$.a")
+      ≡ Some (record { mode = Strict; tree = from_root (key "a" ∷ []) })
+  pub keys : reads "$.last . \"exists\"" (from_root (key "last" ∷ key "exists" ∷ []))
+  pub tighter : reads "1 + 2 * 3" (arithmetic Add (value (whole 1))
+      (arithmetic Multiply (value (whole 2)) (value (whole 3))))
+  pub to_the_left : reads "1 - 2 - 3" (arithmetic Subtract
+      (arithmetic Subtract (value (whole 1)) (value (whole 2))) (value (whole 3)))
+  pub in_parentheses : reads "1 - (2 - 3)" (arithmetic Subtract (value (whole 1))
+      (arithmetic Subtract (value (whole 2)) (value (whole 3))))
+  pub negative : reads "-1" (value (number (Int64 (minus 1))))
+  pub twice_negative : reads "- -1" (value (whole 1))
+  pub sign_of_a_chain : reads "-1.5.type()" (signed Minus
+      (chain (literal (number (scaled (pos 15) 1))) (steps (method methods.Type ∷ []))))
+  pub chain_goes_on : reads "($.a)[0]" (from_root (key "a" ∷ item (value (whole 0)) ∷ []))
+  pub type_of_test : reads "($ == 1).type()" (chain (inner (tested
+      (comparison Equal (from_root []) (value (whole 1))))) (steps (method methods.Type ∷ [])))
+  pub and_before_or : reads "exists($) || !($ == 1) && ($ > 1) is unknown" (tested (disjunction
+      (exists (from_root [])) (conjunction
+      (denial (comparison Equal (from_root []) (value (whole 1))))
+      (is_unknown (comparison Greater (from_root []) (value (whole 1)))))))
+  pub begins_so : reads "$ starts with \"a\"" (tested (starting (from_root []) (value (string "a"))))
+  pub filtered : reads "$?(@.a == $x)" (from_root (filter (comparison Equal
+      (from_current (key "a" ∷ [])) (chain (variable (codes "x")) no_accessors)) ∷ []))
+  pub last_ones : reads "$[last, 0 to last]" (from_root
+      (items_at (index last_index (range (value (whole 0)) last_index no_subscripts)) ∷ []))
+  pub below : reads "$.** {1 to last}[*].*"
+      (from_root (descendants (levels.Number 1) levels.Last ∷ all_items ∷ all_members ∷ []))
+  pub empty : is_no_path ""
+  pub compared_twice : is_no_path "1 < 2 < 3"
+  pub two_expressions : is_no_path "$.a && $.b"
+  pub test_compared : is_no_path "($.a > 1) == true"
+  pub current_without_filter : is_no_path "$[@]"
+  pub last_without_subscript : is_no_path "last"
+  pub denied_twice : is_no_path "!!($ == 1)"
+  pub existence_known : is_no_path "exists($) is unknown"

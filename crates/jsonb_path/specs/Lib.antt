@@ -7,6 +7,8 @@ pub mod Escape
 pub mod Examples
 pub mod Fault
 pub mod Found
+pub mod Grammar
+pub mod Growth
 pub mod Literal
 pub mod Meaning
 pub mod Numeral

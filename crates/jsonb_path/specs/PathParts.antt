@@ -26,7 +26,7 @@ is_some_expression (Some (parts.Sign sign i)) = true
 is_some_expression (Some (parts.Arithmetic op i j)) = true
 is_some_expression (Some (parts.Test t)) = false
 
-abbrev is_some_test : Option Part → Bool
+abbrev pub is_some_test : Option Part → Bool
 is_some_test None = false
 is_some_test (Some (parts.Chain s steps)) = false
 is_some_test (Some (parts.Sign sign i)) = false
@@ -51,7 +51,7 @@ is_prefix (sources.Literal (literals.Text s)) = true
 is_prefix (sources.Variable s) = true
 is_prefix s = false
 
-abbrev is_expression_if : List Part → Option ℕ → Bool
+abbrev pub is_expression_if : List Part → Option ℕ → Bool
 is_expression_if before None = true
 is_expression_if before (Some i) = is_expression before i
 

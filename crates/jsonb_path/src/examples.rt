@@ -1,7 +1,7 @@
 //! Examples of the definitions, which the prover checks.
 
 ghost use Rattle.jsonb_path.specs.Examples.{DescendantExamples, FilterExamples, MemberExamples};
-ghost use Rattle.jsonb_path.specs.Examples.{NumberExamples, SubscriptExamples, TestExamples};
+ghost use Rattle.jsonb_path.specs.Examples.{NumberExamples, SubscriptExamples, TestExamples, TextExamples};
 
 // Examples of what the definitions say.
 fn examples()
@@ -11,4 +11,5 @@ fn examples()
     ensures filter { FilterExamples }
     ensures test { TestExamples }
     ensures number { NumberExamples }
+    ensures text { TextExamples }
 {}

@@ -1,9 +1,10 @@
 //! What is after a point: a key, `*`, `**` or a method.
 
-ghost use Rattle.std.specs.Prelude.{◌≡◌, ◌≤◌, [], IfSome};
+ghost use Rattle.std.specs.Prelude.{◌≡◌, ◌<◌, ◌≤◌, [], IfOk, IfSome, IsTrue, length};
 ghost use Rattle.jsonb_path.specs.Dotted.{called, dotted, last_level, level, level_value, lexemes};
 ghost use Rattle.jsonb_path.specs.Dotted.{levels_after, method_of, pair_part, pairs_of};
 ghost use Rattle.jsonb_path.specs.Dotted.{with_decimal};
+ghost use Rattle.jsonb_path.specs.PathParts.{is_accessor};
 ghost use Rattle.jsonb_path.specs.PathTree.{accessor_of};
 ghost use Rattle.jsonb_path.specs.Unread.{Parses};
 
@@ -15,8 +16,10 @@ use crate::token::{PlacedToken, Token};
 
 /// The accessor after a point, and what is after it.
 pub fn read_dotted(tokens: &[PlacedToken]) -> Result<(Accessor, &[PlacedToken]), Unread>
-    ensures { Parses (λ x. (accessor_of [] x.0, lexemes x.1.now)) result
+    ensures meaning { Parses (λ x. (accessor_of [] x.0, lexemes x.1.now)) result
         (dotted (lexemes tokens.now)) }
+    ensures accessor { IfOk result (λ x. IsTrue (is_accessor [] x.0)) }
+    ensures shorter { IfOk result (λ x. length x.1.now < length tokens.now) }
 {
     let [first, rest @ ..] = tokens else {
         return Err(unexpected(tokens, Expected::Key));
@@ -39,8 +42,10 @@ fn read_method<'a>(
     name: &str,
     tokens: &'a [PlacedToken],
 ) -> Result<(Accessor, &'a [PlacedToken]), Unread>
-    ensures { Parses (λ x. (accessor_of [] x.0, lexemes x.1.now)) result
+    ensures meaning { Parses (λ x. (accessor_of [] x.0, lexemes x.1.now)) result
         (called name.now (lexemes tokens.now)) }
+    ensures accessor { IfOk result (λ x. IsTrue (is_accessor [] x.0)) }
+    ensures shorter { IfOk result (λ x. length x.1.now < length tokens.now) }
 {
     let rest = expect_mark(')', tokens)?;
     if is_word("keyvalue", name) {
@@ -77,8 +82,10 @@ fn method_of(name: &str) -> Option<Method>
 // `.key` or `.value` after `.keyvalue()`.
 #[tactic(auto, unfolding(crate::specs::Dotted::pairs_of))]
 fn read_pairs(tokens: &[PlacedToken]) -> Result<(Accessor, &[PlacedToken]), Unread>
-    ensures { Parses (λ x. (accessor_of [] x.0, lexemes x.1.now)) result
+    ensures meaning { Parses (λ x. (accessor_of [] x.0, lexemes x.1.now)) result
         (pairs_of (lexemes tokens.now)) }
+    ensures accessor { IfOk result (λ x. IsTrue (is_accessor [] x.0)) }
+    ensures shorter { IfOk result (λ x. length x.1.now < length tokens.now) }
 {
     let key = expect_mark('.', tokens)?;
     match key {
@@ -99,8 +106,10 @@ fn part_of_pairs<'a>(
     name: &str,
     tokens: &'a [PlacedToken],
 ) -> Result<(Accessor, &'a [PlacedToken]), Unread>
-    ensures { Parses (λ x. (accessor_of [] x.0, lexemes x.1.now)) result
+    ensures meaning { Parses (λ x. (accessor_of [] x.0, lexemes x.1.now)) result
         (pair_part name.now (lexemes tokens.now)) }
+    ensures accessor { IfOk result (λ x. IsTrue (is_accessor [] x.0)) }
+    ensures shorter { IfOk result (λ x. length x.1.now ≤ length tokens.now) }
 {
     match name {
         "key" => Ok((Accessor::Method(Method::MemberNames), tokens)),
@@ -112,8 +121,10 @@ fn part_of_pairs<'a>(
 // The levels after `.**`: all, if there is no brace.
 #[tactic(auto, unfolding(crate::specs::Dotted::levels_after))]
 fn read_levels(tokens: &[PlacedToken]) -> Result<(Accessor, &[PlacedToken]), Unread>
-    ensures { Parses (λ x. (accessor_of [] x.0, lexemes x.1.now)) result
+    ensures meaning { Parses (λ x. (accessor_of [] x.0, lexemes x.1.now)) result
         (levels_after (lexemes tokens.now)) }
+    ensures accessor { IfOk result (λ x. IsTrue (is_accessor [] x.0)) }
+    ensures shorter { IfOk result (λ x. length x.1.now ≤ length tokens.now) }
 {
     let Some(inside) = after_mark('{', tokens) else {
         return Ok((Accessor::Descendants(Level::Number(0), Level::Last), tokens));
@@ -126,8 +137,9 @@ fn read_levels(tokens: &[PlacedToken]) -> Result<(Accessor, &[PlacedToken]), Unr
 
 // The last level after `to`, or the first one without it.
 fn read_last_level(first: Level, tokens: &[PlacedToken]) -> Result<(Level, &[PlacedToken]), Unread>
-    ensures { Parses (λ x. (x.0, lexemes x.1.now)) result
+    ensures meaning { Parses (λ x. (x.0, lexemes x.1.now)) result
         (last_level first (lexemes tokens.now)) }
+    ensures shorter { IfOk result (λ x. length x.1.now ≤ length tokens.now) }
 {
     match after_word("to", tokens) {
         Some(rest) => read_level(rest),
@@ -137,7 +149,8 @@ fn read_last_level(first: Level, tokens: &[PlacedToken]) -> Result<(Level, &[Pla
 
 // A level: a number below 2^31, or `last`.
 fn read_level(tokens: &[PlacedToken]) -> Result<(Level, &[PlacedToken]), Unread>
-    ensures { Parses (λ x. (x.0, lexemes x.1.now)) result (level (lexemes tokens.now)) }
+    ensures meaning { Parses (λ x. (x.0, lexemes x.1.now)) result (level (lexemes tokens.now)) }
+    ensures shorter { IfOk result (λ x. length x.1.now < length tokens.now) }
 {
     let [first, rest @ ..] = tokens else {
         return Err(unexpected(tokens, Expected::Level));

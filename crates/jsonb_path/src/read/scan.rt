@@ -1,13 +1,13 @@
 //! What tokens begin with, and why they are refused.
 
-ghost use Rattle.std.specs.Prelude.{◌≡◌, length, option_map};
+ghost use Rattle.std.specs.Prelude.{◌≡◌, ◌<◌, IfOk, IfSome, length, option_map};
 ghost use Rattle.jsonb_path.specs.Dotted.{after_mark, after_word, is_word, lexemes};
 ghost use Rattle.jsonb_path.specs.Unread.{Parses};
 ghost use Rattle.jsonb_path.specs.declared.read.scan.Refusal.TheVariants as refusals;
 ghost use Rattle.jsonb_path.specs.declared.read.scan.Unread.TheVariants as ends;
 
 use crate::token::{PlacedToken, Token};
-use std::alloc::AllocError;
+use std::alloc::{AllocError, AllocFailed};
 
 /// What may be read at a place.
 #[derive(Clone, Copy, Debug, PartialEq, Eq)]
@@ -24,6 +24,12 @@ pub enum Expected {
     TextOrVariable,
     /// This mark.
     Mark(char),
+    /// An expression, and no test, before this place.
+    ExpressionBefore,
+    /// A test, and no expression, before this place.
+    TestBefore,
+    /// An operator, an accessor or the end.
+    End,
 }
 
 /// What is known, and not read here: methods, and numbers past 128 bits or a scale of 255.
@@ -39,6 +45,8 @@ pub enum LeftOut {
 pub enum Refusal {
     Expected(Expected),
     LeftOut(LeftOut),
+    /// More than 256 levels of parentheses, filters, subscripts and signs.
+    TooDeep,
 }
 
 /// Why tokens are not read: memory, or a refusal at so many tokens before the end.
@@ -52,6 +60,14 @@ impl From<AllocError> for Unread {
     ghost from_gives = { λ _ e. e ≡ ends.OutOfMemory };
 
     fn from(_error: AllocError) -> Unread {
+        Unread::OutOfMemory
+    }
+}
+
+impl<T: Drop> From<AllocFailed<T>> for Unread {
+    ghost from_gives = { λ _ e. e ≡ ends.OutOfMemory };
+
+    fn from(_failed: AllocFailed<T>) -> Unread {
         Unread::OutOfMemory
     }
 }
@@ -70,9 +86,18 @@ pub fn left_out(tokens: &[PlacedToken], what: LeftOut) -> Unread
     Unread::Refused(tokens.len(), Refusal::LeftOut(what))
 }
 
+/// The refusal of a level too many.
+pub fn too_deep(tokens: &[PlacedToken]) -> Unread
+    ensures { result ≡ ends.Refused (length tokens.now) refusals.TooDeep }
+{
+    Unread::Refused(tokens.len(), Refusal::TooDeep)
+}
+
 /// What is after a mark, if it is the first token.
 pub fn after_mark(mark: char, tokens: &[PlacedToken]) -> Option<&[PlacedToken]>
-    ensures { option_map (λ rest. lexemes rest.now) result ≡ after_mark mark (lexemes tokens.now) }
+    ensures meaning { option_map (λ rest. lexemes rest.now) result
+        ≡ after_mark mark (lexemes tokens.now) }
+    ensures shorter { IfSome result (λ rest. length rest.now < length tokens.now) }
 {
     match tokens {
         [first, rest @ ..] => match &first.token {
@@ -85,8 +110,9 @@ pub fn after_mark(mark: char, tokens: &[PlacedToken]) -> Option<&[PlacedToken]>
 
 /// What is after a word in any case, if it is the first token.
 pub fn after_word<'a>(word: &str, tokens: &'a [PlacedToken]) -> Option<&'a [PlacedToken]>
-    ensures { option_map
-        (λ rest. lexemes rest.now) result ≡ after_word word.now (lexemes tokens.now) }
+    ensures meaning { option_map (λ rest. lexemes rest.now) result
+        ≡ after_word word.now (lexemes tokens.now) }
+    ensures shorter { IfSome result (λ rest. length rest.now < length tokens.now) }
 {
     match tokens {
         [first, rest @ ..] => match &first.token {
@@ -107,7 +133,9 @@ pub fn is_word(word: &str, name: &str) -> bool
 
 /// What is after a mark, which has to be the first token.
 pub fn expect_mark(mark: char, tokens: &[PlacedToken]) -> Result<&[PlacedToken], Unread>
-    ensures { Parses (λ rest. lexemes rest.now) result (after_mark mark (lexemes tokens.now)) }
+    ensures meaning { Parses (λ rest. lexemes rest.now) result
+        (after_mark mark (lexemes tokens.now)) }
+    ensures shorter { IfOk result (λ rest. length rest.now < length tokens.now) }
 {
     match after_mark(mark, tokens) {
         Some(rest) => Ok(rest),

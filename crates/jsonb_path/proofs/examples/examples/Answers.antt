@@ -9,4 +9,5 @@ returns c = record {
   filter = laws.filter_examples;
   test = laws.test_examples;
   number = laws.number_examples;
+  text = laws.text_examples;
 }
