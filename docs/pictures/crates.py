@@ -9,7 +9,7 @@ PLACES = {
     "jsonb_comparable": (4.05, 3, "green"), "jsonb_cli": (0, 4, "blue"),
     "jsonb_probe": (2, 4, "plain"), "typed_vector": (3.1, 4, "green"),
     "jsonb_functions": (4.4, 4, "green"), "json_fault": (5.5, 5, "green"),
-    "typed_chunk": (5.5, 4, "green"),
+    "typed_chunk": (1.5, 5, "green"),
     "kohiblad_shell": (0.5, 6, "blue"), "jsonb_typed_file": (2.8, 6, "green"),
     "jsonb_typed": (3.6, 5, "green"), "tests_of_calls": (4.1, 7, "plain"),
     "tests_of_documents": (2.55, 5, "plain"),

@@ -11,3 +11,6 @@ pub mod RisingReadLaws
 pub mod FlagReadLaws
 pub mod SpanLaws
 pub mod BeginningLaws
+pub mod SharedLaws
+pub mod BegunLaws
+pub mod TextReadLaws

@@ -110,3 +110,13 @@ kept_behind old between new more is kept =
     let part : take (length old) new ≡ take (length old) (take (length between) new) =
     sym (take-take (length old) (length between) new short) in
     part ∙ ap (take (length old)) kept ∙ kept_front old between more is
+
+-- Three parts behind what was there.
+pub three_more : (old one two new head middle last : List ℕ) → one ≡ old ++ head
+    → two ≡ one ++ middle → new ≡ two ++ last → new ≡ old ++ (head ++ (middle ++ last))
+three_more old one two new head middle last first second third =
+    third
+    ∙ ap (λ (xs : List ℕ). xs ++ last)
+    (second ∙ ap (λ (xs : List ℕ). xs ++ middle) first ∙ append_assoc old head middle)
+    ∙ append_assoc old (head ++ middle) last
+    ∙ ap (λ (xs : List ℕ). old ++ xs) (append_assoc head middle last)

@@ -5,4 +5,5 @@ pub mod Frame
 pub mod Headed
 pub mod Packed
 pub mod Rising
+pub mod TextReading
 pub mod Texts

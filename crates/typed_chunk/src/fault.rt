@@ -19,4 +19,8 @@ pub enum ChunkFault {
     NoSuchFlags,
     /// Bits that are to say which rows have a value say that none or all have one.
     NotSomeFlags,
+    /// A row that has no text has bytes.
+    TextOfNoValue,
+    /// All texts begin alike with more bytes than they are said to.
+    NotLongestBeginning,
 }

@@ -9,6 +9,7 @@ ghost use Rattle.typed_chunk.specs.Flags.{rows_of, some_fault, some_has};
 
 use crate::fault::ChunkFault;
 use crate::packed::{append_codes, packed_len};
+use crate::parts::{behind, front};
 use crate::unpacked::read_codes;
 use crate::width::Width;
 use std::alloc::AllocError;
@@ -107,22 +108,6 @@ fn set_all(has: &mut [bool])
     ensures { has.new ≡ replicate (length has.old) true }
 {
     has.fill(true);
-}
-
-// The first bytes, so many.
-fn front(bytes: &[u8], size: usize) -> &[u8]
-    requires { size ≤ length bytes.now }
-    ensures { result.now ≡ take size bytes.now }
-{
-    &bytes[..size]
-}
-
-// The bytes behind the first, so many.
-fn behind(bytes: &[u8], size: usize) -> &[u8]
-    requires { size ≤ length bytes.now }
-    ensures { result.now ≡ drop size bytes.now }
-{
-    &bytes[size..]
 }
 
 // Reads a bit for each row, and answers what is behind them.

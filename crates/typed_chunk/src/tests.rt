@@ -1,6 +1,6 @@
 //! Tests of bytes that a model of the form in another language wrote.
 
-use crate::append_texts;
+use crate::{append_texts, read_texts};
 use std::alloc::{AllocError, Global};
 
 // Four rows, of which the second has no text.
@@ -22,6 +22,19 @@ fn bytes_of_texts(alloc: Global) -> Result<Vec<u8>, AllocError> {
 fn texts_with_a_common_beginning(rt: HostRuntime) {
     match bytes_of_texts(rt.alloc()) {
         Ok(bytes) => assert_eq!(rt; bytes.as_slice(), BYTES),
+        Err(_) => assert!(rt; false),
+    }
+}
+
+#[test]
+fn texts_are_read(rt: HostRuntime) {
+    let mut offsets = [0; 5];
+    match read_texts(BYTES, &HAS, &mut [0; 4], &mut offsets) {
+        Ok(read) => {
+            assert_eq!(rt; read.start, b"town-".as_slice());
+            assert_eq!(rt; read.tails, b"abcd".as_slice());
+            assert_eq!(rt; offsets, [0, 1, 1, 4, 4]);
+        }
         Err(_) => assert!(rt; false),
     }
 }

@@ -5,17 +5,8 @@ use Rattle.std.proofs.Math.Seq.{take-length}
 use Rattle.typed_vector.specs.Cells.{rows}
 use Rattle.typed_chunk.specs.Frame.{frame, unsigned_word}
 use Rattle.typed_chunk.specs.Texts.{tails}
-use Rattle.typed_chunk.proofs.SpanLaws.{kept_behind, kept_front, lengths_fit}
+use Rattle.typed_chunk.proofs.SpanLaws.{kept_behind, kept_front, lengths_fit, three_more}
 use Rattle.typed_chunk.proofs.texts.append_begun.Goals as goal
-
-three_more : (old one two new head middle last : List ℕ) → one ≡ old ++ head → two ≡ one ++ middle
-    → new ≡ two ++ last → new ≡ old ++ (head ++ (middle ++ last))
-three_more old one two new head middle last first second third =
-    third
-    ∙ ap (λ (xs : List ℕ). xs ++ last)
-    (second ∙ ap (λ (xs : List ℕ). xs ++ middle) first ∙ append_assoc old head middle)
-    ∙ append_assoc old (head ++ middle) last
-    ∙ ap (λ (xs : List ℕ). old ++ xs) (append_assoc head middle last)
 
 pub append_naturals-requires-clause-fit : goal.append_naturals-requires-clause-fit
 append_naturals-requires-clause-fit c =
