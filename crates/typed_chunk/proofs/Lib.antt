@@ -14,3 +14,4 @@ pub mod BeginningLaws
 pub mod SharedLaws
 pub mod BegunLaws
 pub mod TextReadLaws
+pub mod WholeLaws

@@ -17,6 +17,7 @@ mod tests;
 mod text_reading;
 mod texts;
 mod unpacked;
+mod whole_texts;
 mod width;
 
 pub use fault::ChunkFault;
@@ -27,4 +28,5 @@ pub use rising::{append_rising, read_rising, rises};
 pub use text_reading::{BegunTexts, read_texts};
 pub use texts::append_texts;
 pub use unpacked::{code_at, read_codes};
+pub use whole_texts::append_whole_texts;
 pub use width::Width;

@@ -1,6 +1,6 @@
 //! Tests of bytes that a model of the form in another language wrote.
 
-use crate::{append_texts, read_texts};
+use crate::{append_texts, append_whole_texts, read_texts};
 use std::alloc::{AllocError, Global};
 
 // Four rows, of which the second has no text.
@@ -34,6 +34,12 @@ fn texts_are_read(rt: HostRuntime) {
             assert_eq!(rt; read.start, b"town-".as_slice());
             assert_eq!(rt; read.tails, b"abcd".as_slice());
             assert_eq!(rt; offsets, [0, 1, 1, 4, 4]);
+            let mut texts = Vec::new(rt.alloc());
+            let mut whole = [0; 5];
+            let answer = append_whole_texts(&mut texts, &read, &offsets, &HAS, &mut whole);
+            assert!(rt; answer.is_ok());
+            assert_eq!(rt; texts.as_slice(), TEXTS);
+            assert_eq!(rt; whole, OFFSETS);
         }
         Err(_) => assert!(rt; false),
     }
