@@ -15,3 +15,5 @@ pub mod SharedLaws
 pub mod BegunLaws
 pub mod TextReadLaws
 pub mod WholeLaws
+pub mod PlaceLaws
+pub mod DictionaryLaws

@@ -1,9 +1,11 @@
+pub mod Dictionary
 pub mod Digits
 pub mod Examples
 pub mod Flags
 pub mod Frame
 pub mod Headed
 pub mod Packed
+pub mod Places
 pub mod Rising
 pub mod TextReading
 pub mod Texts

@@ -23,4 +23,12 @@ pub enum ChunkFault {
     TextOfNoValue,
     /// All texts begin alike with more bytes than they are said to.
     NotLongestBeginning,
+    /// An entry is not greater by its bytes than the one before it.
+    EntriesNotAscending,
+    /// There are no more entries than a place says.
+    NoSuchEntry,
+    /// A row that has no text has another place than 0.
+    PlaceOfNoValue,
+    /// An entry is that of no row that has a text.
+    EntryOfNoRow,
 }

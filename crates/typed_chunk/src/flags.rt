@@ -97,14 +97,14 @@ fn read_behind<'a>(
 }
 
 // Says that no row has a value.
-fn unset_all(has: &mut [bool])
+pub(crate) fn unset_all(has: &mut [bool])
     ensures { has.new ≡ replicate (length has.old) false }
 {
     has.fill(false);
 }
 
 // Says that each row has a value.
-fn set_all(has: &mut [bool])
+pub(crate) fn set_all(has: &mut [bool])
     ensures { has.new ≡ replicate (length has.old) true }
 {
     has.fill(true);
@@ -157,7 +157,7 @@ fn some_has(has: &[bool]) -> bool
 }
 
 // Whether all rows have a value.
-fn all_have(has: &[bool]) -> bool
+pub(crate) fn all_have(has: &[bool]) -> bool
     ensures { result ≡ all_have has.now }
 {
     for flag in has {

@@ -2,6 +2,8 @@
 #![tactic(auto)]
 
 mod beginning;
+mod dictionary;
+mod dictionary_reading;
 mod examples;
 mod fault;
 mod flags;
@@ -10,6 +12,7 @@ mod headed;
 mod naturals;
 mod packed;
 mod parts;
+mod places;
 mod rising;
 mod spans;
 #[cfg(test)]
@@ -20,6 +23,8 @@ mod unpacked;
 mod whole_texts;
 mod width;
 
+pub use dictionary::append_dictionary;
+pub use dictionary_reading::read_dictionary;
 pub use fault::ChunkFault;
 pub use flags::{append_flags, read_flags};
 pub use frame::{append_frame, read_frame};

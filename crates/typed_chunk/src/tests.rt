@@ -1,6 +1,6 @@
 //! Tests of bytes that a model of the form in another language wrote.
 
-use crate::{append_texts, append_whole_texts, read_texts};
+use crate::{append_dictionary, append_texts, append_whole_texts, read_dictionary, read_texts};
 use std::alloc::{AllocError, Global};
 
 // Four rows, of which the second has no text.
@@ -40,6 +40,44 @@ fn texts_are_read(rt: HostRuntime) {
             assert!(rt; answer.is_ok());
             assert_eq!(rt; texts.as_slice(), TEXTS);
             assert_eq!(rt; whole, OFFSETS);
+        }
+        Err(_) => assert!(rt; false),
+    }
+}
+
+// Five rows, of which the third has no text.
+const ENTRIES: &[u8] = b"lommalundystad";
+
+const CODES: [u64; 5] = [1, 2, 0, 1, 0];
+
+const DICTIONARY: &[u8] = b"\x02\x00\x01\x00\x00\x00\x04\x05lommalundystad\x49\x00";
+
+fn bytes_of_dictionary(alloc: Global) -> Result<Vec<u8>, AllocError> {
+    let mut out = Vec::new(alloc);
+    let (all, lengths) = (&mut [false; 3], &mut [0; 3]);
+    append_dictionary(&mut out, ENTRIES, &[0, 5, 9, 14], &CODES, all, lengths)?;
+    Ok(out)
+}
+
+#[test]
+fn a_dictionary_of_three(rt: HostRuntime) {
+    match bytes_of_dictionary(rt.alloc()) {
+        Ok(bytes) => assert_eq!(rt; bytes.as_slice(), DICTIONARY),
+        Err(_) => assert!(rt; false),
+    }
+}
+
+#[test]
+fn a_dictionary_is_read(rt: HostRuntime) {
+    let has = [true, true, false, true, true];
+    let (all, lengths) = (&mut [false; 3], &mut [0; 3]);
+    let mut offsets = [0; 4];
+    let mut places = [9; 5];
+    match read_dictionary(DICTIONARY, &has, all, lengths, &mut offsets, &mut places) {
+        Ok(read) => {
+            assert_eq!(rt; read.tails, ENTRIES);
+            assert_eq!(rt; offsets, [0, 5, 9, 14]);
+            assert_eq!(rt; places, CODES);
         }
         Err(_) => assert!(rt; false),
     }
