@@ -16,4 +16,5 @@ pub mod RaisedLaws
 pub mod TakenLaws
 pub mod TokenLaws
 pub mod TurnLaws
+pub mod VisitLaws
 pub mod WholeLaws

@@ -19,3 +19,4 @@ pub mod Syntax
 pub mod Token
 pub mod Turns
 pub mod Unread
+pub mod Visits

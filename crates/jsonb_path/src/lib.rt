@@ -5,6 +5,7 @@ mod ask;
 mod choose;
 pub mod compare;
 mod compute;
+mod descend;
 mod examples;
 mod method;
 pub mod number;
