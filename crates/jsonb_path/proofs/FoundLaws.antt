@@ -378,6 +378,29 @@ after_nothing vs (Some e) = refl
 pub joined_nothing : (o : Outcome) → joined o (gives []) ≡ o
 joined_nothing o = after_nothing o.values o.error
 
+three_values : (vs us : List Tree) (e : Option PathError) (q : Outcome)
+    → before_end vs None (before_end us e q)
+    ≡ before_end (vs ++ us) e q
+three_values vs us None q =
+    ap (λ (ws : List Tree). ended ws q.error)
+    (sym (append_assoc vs us q.values))
+three_values vs us (Some e) q = refl
+
+three_ends : (vs : List Tree) (e : Option PathError) (p q : Outcome)
+    → before_end vs e (before_end p.values p.error q)
+    ≡ before_end (before_end vs e p).values (before_end vs e p).error q
+three_ends vs (Some e) p q = refl
+three_ends vs None p q = three_values vs p.values p.error q
+
+-- the end of a walk comes after it
+pub each_end : (step : Tree → Outcome) (ts : List Tree) (end : Option PathError)
+    → joined (each step ts None) (ended [] end) ≡ each step ts end
+each_end step [] end = refl
+each_end step (t ∷ ts) end =
+    sym (three_ends (step t).values (step t).error (each step ts None)
+    (ended [] end))
+    ∙ ap (before_end (step t).values (step t).error) (each_end step ts end)
+
 pub ruleset named_values = (member_there, member_missing)
 
 pub ruleset all_pairs = (members_there, members_missing)

@@ -2,7 +2,9 @@ pub mod CharacterLaws
 pub mod DottedLaws
 pub mod EscapeLaws
 pub mod ExampleLaws
+pub mod FollowLaws
 pub mod FoundLaws
+pub mod GivenLaws
 pub mod GrammarLaws
 pub mod GrowthLaws
 pub mod LeftLaws

@@ -1,6 +1,6 @@
 -- What walks over values find, as outcomes.
 use Rattle.std.specs.Prelude.{◌≡◌, ◌++◌, ◌∷◌, [], ◌-ℤ◌, pos, ⊤, ℕ, List, map}
-use Rattle.std.specs.Prelude.{Bool, true, false, Option, None, Some, Result, Ok, Err}
+use Rattle.std.specs.Prelude.{Bool, true, false, if◌then◌else◌, Option, None, Some, Result, Ok, Err}
 use Rattle.jsonb_value.specs.declared.number.Number.{Number}
 use Rattle.jsonb_value.specs.Order.{fraction_of}
 use Rattle.jsonb_value.specs.Tree.{Tree, number, text}
@@ -27,6 +27,7 @@ use Rattle.jsonb_path.specs.declared.place.Units.TheVariants.{Itself, Items}
 use Rattle.jsonb_path.specs.Arithmetic.{ceiling_of, floor_of, number_within, unsigned}
 use Rattle.jsonb_path.specs.Comparison.{Comparand, comparand_of, compares, either, starts_with}
 use Rattle.jsonb_path.specs.Meaning as meaning
+use Rattle.jsonb_path.specs.Syntax.{Predicate, Subscripts}
 
 -- The trees of an outcome's values, and its error.
 abbrev pub outcome_of : Outcome → meaning.Outcome
@@ -114,3 +115,14 @@ abbrev pub settles : Mode → Truth → Bool
 settles Lax True = true
 settles Strict Unknown = true
 settles mode t = false
+
+-- The value if a test holds where it is asked.
+abbrev pub filtered_by : meaning.Place → Predicate → Tree → meaning.Outcome
+filtered_by place p u =
+    meaning.gives (if meaning.is_true (meaning.judge (record place { current = u }) p) then u ∷ []
+    else [])
+
+-- The items that subscripts name, of what has items.
+abbrev pub selected_in : meaning.Place → Subscripts → Option (List Tree) → meaning.Outcome
+selected_in place subscripts None = meaning.gives []
+selected_in place subscripts (Some ts) = meaning.select place subscripts ts
