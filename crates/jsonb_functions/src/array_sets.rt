@@ -18,7 +18,7 @@ use jsonb::constants::CONTAINER_TAG;
 use jsonb::layer::parts::{Children, Contents, Part};
 use jsonb::layer::writer::{Level, append_document};
 use jsonb::{Document, Error, Node, OwnedJsonb};
-use std::alloc::Global;
+use std::alloc::{AllocError, Global};
 use std::collections::BTreeMap;
 
 /// The canonical document of the array's items without those that are equal to one before them. A
@@ -100,10 +100,9 @@ fn matched_document(
 }
 
 // The items of an array, or the one value that is not an array.
-fn items_of<'a>(alloc: Global, document: Document<'a>) -> Result<Vec<Part<'a>>, Error>
-    ensures items { IfOk result (λ list. listed_trees list.items
+fn items_of<'a>(alloc: Global, document: Document<'a>) -> Result<Vec<Part<'a>>, AllocError>
+    ensures { IfOk result (λ list. listed_trees list.items
         ≡ items_or_one (document_tree document.entry)) }
-    ensures memory { IfErr result (λ e. e ≡ Error.OutOfMemory) }
 {
     let part = document.part();
     if part.type_code != CONTAINER_TAG {
@@ -115,19 +114,17 @@ fn items_of<'a>(alloc: Global, document: Document<'a>) -> Result<Vec<Part<'a>>, 
     }
 }
 
-fn one_item<'a>(alloc: Global, part: Part<'a>) -> Result<Vec<Part<'a>>, Error>
-    ensures item { IfOk result (λ list. list.items ≡ part.entry ∷ []) }
-    ensures memory { IfErr result (λ e. e ≡ Error.OutOfMemory) }
+fn one_item<'a>(alloc: Global, part: Part<'a>) -> Result<Vec<Part<'a>>, AllocError>
+    ensures { IfOk result (λ list. list.items ≡ part.entry ∷ []) }
 {
     let mut list = Vec::with_capacity(alloc, 1)?;
     list.push(part)?;
     Ok(list)
 }
 
-fn all_items<'a>(alloc: Global, items: Children<'a>) -> Result<Vec<Part<'a>>, Error>
-    ensures items { IfOk result (λ list. (ts : Trees) → AreChildren ts items.entry
+fn all_items<'a>(alloc: Global, items: Children<'a>) -> Result<Vec<Part<'a>>, AllocError>
+    ensures { IfOk result (λ list. (ts : Trees) → AreChildren ts items.entry
         → listed_trees list.items ≡ ts) }
-    ensures memory { IfErr result (λ e. e ≡ Error.OutOfMemory) }
 {
     let mut list = Vec::with_capacity(alloc, item_count(items))?;
     let mut left = items;
@@ -159,10 +156,9 @@ fn listed_level<'a>(parts: &'a [Part<'a>]) -> ChosenLevel<'a>
 }
 
 // The items that have no equal before them.
-fn distinct_of<'a>(alloc: Global, items: &[Part<'a>]) -> Result<Vec<Part<'a>>, Error>
-    ensures ok { IfOk result (λ list. listed_trees list.items
+fn distinct_of<'a>(alloc: Global, items: &[Part<'a>]) -> Result<Vec<Part<'a>>, AllocError>
+    ensures { IfOk result (λ list. listed_trees list.items
         ≡ distinct_items (listed_trees items.now)) }
-    ensures memory { IfErr result (λ e. e ≡ Error.OutOfMemory) }
 {
     let mut counts = BTreeMap::new(alloc);
     let mut list = Vec::new(alloc);
@@ -180,10 +176,9 @@ fn matched_of<'a>(
     items: &[Part<'a>],
     others: &[Part<'a>],
     matched: bool,
-) -> Result<Vec<Part<'a>>, Error>
-    ensures ok { IfOk result (λ list. listed_trees list.items
+) -> Result<Vec<Part<'a>>, AllocError>
+    ensures { IfOk result (λ list. listed_trees list.items
         ≡ matched_items matched (listed_trees items.now) (listed_trees others.now)) }
-    ensures memory { IfErr result (λ e. e ≡ Error.OutOfMemory) }
 {
     let mut counts = count_items(alloc, others)?;
     let mut list = Vec::new(alloc);
@@ -196,10 +191,9 @@ fn matched_of<'a>(
 
 // Appends a part if it is kept.
 #[inline(always)]
-fn push_if<'a>(is_kept: bool, list: &mut Vec<Part<'a>>, part: Part<'a>) -> Result<(), Error>
-    ensures pushed { OnOk result (list.new.items
+fn push_if<'a>(is_kept: bool, list: &mut Vec<Part<'a>>, part: Part<'a>) -> Result<(), AllocError>
+    ensures { OnOk result (list.new.items
         ≡ (if is_kept then list.old.items ++ part.entry ∷ [] else list.old.items)) }
-    ensures memory { IfErr result (λ e. e ≡ Error.OutOfMemory) }
 {
     if is_kept {
         list.push(part)?;
@@ -221,9 +215,11 @@ fn has_shared<'a>(items: &[Part<'a>], counts: &BTreeMap<Node<'a>, usize>) -> boo
 }
 
 // How many of the items are equal to each value.
-fn count_items<'a>(alloc: Global, items: &[Part<'a>]) -> Result<BTreeMap<Node<'a>, usize>, Error>
-    ensures counts { IfOk result (λ counts. CountsEquals counts.entries (listed_trees items.now)) }
-    ensures memory { IfErr result (λ e. e ≡ Error.OutOfMemory) }
+fn count_items<'a>(
+    alloc: Global,
+    items: &[Part<'a>],
+) -> Result<BTreeMap<Node<'a>, usize>, AllocError>
+    ensures { IfOk result (λ counts. CountsEquals counts.entries (listed_trees items.now)) }
 {
     let mut counts = BTreeMap::new(alloc);
     for part in items {
@@ -249,12 +245,14 @@ fn count_of<'a>(counts: &BTreeMap<Node<'a>, usize>, node: &Node<'a>) -> usize
 }
 
 // Raises the count of a value's equals by one; returns what it was.
-fn raise_count<'a>(counts: &mut BTreeMap<Node<'a>, usize>, node: Node<'a>) -> Result<usize, Error>
+fn raise_count<'a>(
+    counts: &mut BTreeMap<Node<'a>, usize>,
+    node: Node<'a>,
+) -> Result<usize, AllocError>
     requires { equals_count counts.old.entries node < usize.MAX }
     ensures before { IfOk result (λ count. count ≡ equals_count counts.old.entries node.entry) }
     ensures raised { OnOk result (SetsEqualsCount counts.old.entries counts.new.entries node.entry
         (suc (equals_count counts.old.entries node.entry))) }
-    ensures memory { IfErr result (λ e. e ≡ Error.OutOfMemory) }
 {
     let count = count_of(counts, &node);
     counts.insert(node, count + 1)?;

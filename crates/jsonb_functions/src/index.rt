@@ -11,6 +11,7 @@ ghost use Rattle.jsonb_functions.specs.Words.{tree_hashes, trees_of};
 use crate::walk::{next_item, next_member};
 use jsonb::{Document, Error, Items, Members, Node};
 use jsonb_comparable::{Sink, append_escaped, append_node};
+use std::alloc::AllocError;
 
 /// The hash of no byte: FNV-1a of 64 bits.
 pub const START: u64 = 14695981039346656037;
@@ -51,21 +52,20 @@ pub fn append_index_keys(document: Document<'_>, out: &mut Vec<u64>) -> Result<(
     let before = out.len();
     match append_keys(document.value(), Hashed { hash: START }, out) {
         Ok(()) => Ok(()),
-        Err(error) => {
+        Err(AllocError) => {
             out.truncate(before);
-            Err(error)
+            Err(Error::OutOfMemory)
         }
     }
 }
 
 // Appends the keys of a value, on the way to which the path was hashed.
 #[cycle(index)]
-fn append_keys(node: Node<'_>, path: Hashed, out: &mut Vec<u64>) -> Result<(), Error>
+fn append_keys(node: Node<'_>, path: Hashed, out: &mut Vec<u64>) -> Result<(), AllocError>
     requires { HoldsNoScalar node }
     ensures appended { OnOk result ((p : List ℕ) → path.hash ≡ hash_64 p
         → out.new.items ≡ out.old.items ++ tree_hashes p (node_tree node.entry)) }
     ensures some { AppendsSome out.old.items out.new.items }
-    ensures memory { IfErr result (λ e. e ≡ Error.OutOfMemory) }
 {
     match node {
         Node::Container(document) => append_container_keys(document, path, out),
@@ -84,12 +84,11 @@ fn append_container_keys(
     document: Document<'_>,
     path: Hashed,
     out: &mut Vec<u64>,
-) -> Result<(), Error>
+) -> Result<(), AllocError>
     requires { IsContainer (document_tree document) }
     ensures appended { OnOk result ((p : List ℕ) → path.hash ≡ hash_64 p
         → out.new.items ≡ out.old.items ++ tree_hashes p (document_tree document.entry)) }
     ensures some { AppendsSome out.old.items out.new.items }
-    ensures memory { IfErr result (λ e. e ≡ Error.OutOfMemory) }
 {
     if let Some(items) = document.items() {
         return append_items_keys(items, path, out);
@@ -101,11 +100,14 @@ fn append_container_keys(
 }
 
 #[cycle(index)]
-fn append_items_keys(mut items: Items<'_>, path: Hashed, out: &mut Vec<u64>) -> Result<(), Error>
+fn append_items_keys(
+    mut items: Items<'_>,
+    path: Hashed,
+    out: &mut Vec<u64>,
+) -> Result<(), AllocError>
     ensures appended { OnOk result ((p : List ℕ) → path.hash ≡ hash_64 p
         → out.new.items ≡ out.old.items ++ items_hashes p (trees_of (rest_trees items.entry))) }
     ensures some { AppendsSome out.old.items out.new.items }
-    ensures memory { IfErr result (λ e. e ≡ Error.OutOfMemory) }
 {
     while let Some(item) = next_item(&mut items) {
         append_keys(item, path, out)?;
@@ -118,11 +120,10 @@ fn append_members_keys(
     mut members: Members<'_>,
     path: Hashed,
     out: &mut Vec<u64>,
-) -> Result<(), Error>
+) -> Result<(), AllocError>
     ensures appended { OnOk result ((p : List ℕ) → path.hash ≡ hash_64 p
         → out.new.items ≡ out.old.items ++ members_hashes p (pairs_of (rest_pairs members.entry))) }
     ensures some { AppendsSome out.old.items out.new.items }
-    ensures memory { IfErr result (λ e. e ≡ Error.OutOfMemory) }
 {
     while let Some((key, value)) = next_member(&mut members) {
         let mut hashed = path;

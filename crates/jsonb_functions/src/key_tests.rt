@@ -13,7 +13,7 @@ ghost use Rattle.jsonb_functions.specs.Words.{value_of_key};
 use crate::choice::{is_named, sorted};
 use crate::walk::{next_item, next_member};
 use jsonb::{Document, Error, Items, Members, Node};
-use std::alloc::Global;
+use std::alloc::{AllocError, Global};
 use std::collections::BTreeSet;
 
 /// Whether some of these keys is there, as `exists` says of one; of no keys none is. It does not
@@ -100,9 +100,8 @@ pub fn exists_all(alloc: Global, document: Document<'_>, keys: &[&str]) -> Resul
 }
 
 // The names, each once.
-fn set_of<'a>(alloc: Global, names: &[&'a str]) -> Result<BTreeSet<&'a str>, Error>
-    ensures ok { IfOk result (IsFromIterResult names_cmp names.now) }
-    ensures memory { IfErr result (λ e. e ≡ Error.OutOfMemory) }
+fn set_of<'a>(alloc: Global, names: &[&'a str]) -> Result<BTreeSet<&'a str>, AllocError>
+    ensures { IfOk result (IsFromIterResult names_cmp names.now) }
 {
     let set = names.iter().copied().collect(alloc)?;
     Ok(set)

@@ -8,7 +8,7 @@ ghost use Rattle.jsonb_functions.specs.Names.{name_and_rest, names_of};
 
 use crate::marks::split_mark;
 use jsonb::Error;
-use std::alloc::Global;
+use std::alloc::{AllocError, Global};
 
 /// The names in a list that is written as PostgreSQL writes an array of texts: `{a,0,"b c"}`. A
 /// name is between quotes, where `\` takes the next character as it is, or it is plain: not empty,
@@ -44,10 +44,9 @@ fn read_after<'a>(
     alloc: Global,
     mark: u8,
     text: &'a str,
-) -> Result<Option<(String, &'a str)>, Error>
+) -> Result<Option<(String, &'a str)>, AllocError>
     requires { mark < 128 }
-    ensures ok { IfOk result (λ read. option_map name_and_rest read ≡ name_after mark text.now) }
-    ensures memory { IfErr result (λ e. e ≡ Error.OutOfMemory) }
+    ensures { IfOk result (λ read. option_map name_and_rest read ≡ name_after mark text.now) }
 {
     let Some((first, rest)) = split_mark(text) else {
         return Ok(None);
@@ -59,9 +58,8 @@ fn read_after<'a>(
 }
 
 // The name with which a text begins, and what is after it.
-fn read_name<'a>(alloc: Global, text: &'a str) -> Result<Option<(String, &'a str)>, Error>
-    ensures ok { IfOk result (λ read. option_map name_and_rest read ≡ list_name text.now) }
-    ensures memory { IfErr result (λ e. e ≡ Error.OutOfMemory) }
+fn read_name<'a>(alloc: Global, text: &'a str) -> Result<Option<(String, &'a str)>, AllocError>
+    ensures { IfOk result (λ read. option_map name_and_rest read ≡ list_name text.now) }
 {
     let Some((mark, rest)) = split_mark(text) else {
         return read_plain(alloc, text);
@@ -73,9 +71,8 @@ fn read_name<'a>(alloc: Global, text: &'a str) -> Result<Option<(String, &'a str
 }
 
 // A plain name, and what is after it.
-fn read_plain<'a>(alloc: Global, text: &'a str) -> Result<Option<(String, &'a str)>, Error>
-    ensures ok { IfOk result (λ read. option_map name_and_rest read ≡ plain_name text.now) }
-    ensures memory { IfErr result (λ e. e ≡ Error.OutOfMemory) }
+fn read_plain<'a>(alloc: Global, text: &'a str) -> Result<Option<(String, &'a str)>, AllocError>
+    ensures { IfOk result (λ read. option_map name_and_rest read ≡ plain_name text.now) }
 {
     let end = plain_len(text);
     let name = &text[..end];
@@ -114,9 +111,8 @@ fn is_plain_byte(byte: u8) -> bool
 }
 
 // A name up to its closing quote, and what is after that.
-fn read_quoted<'a>(alloc: Global, text: &'a str) -> Result<Option<(String, &'a str)>, Error>
-    ensures ok { IfOk result (λ read. option_map name_and_rest read ≡ quoted false text.now) }
-    ensures memory { IfErr result (λ e. e ≡ Error.OutOfMemory) }
+fn read_quoted<'a>(alloc: Global, text: &'a str) -> Result<Option<(String, &'a str)>, AllocError>
+    ensures { IfOk result (λ read. option_map name_and_rest read ≡ quoted false text.now) }
 {
     let mut name = String::new(alloc);
     let mut left = text;

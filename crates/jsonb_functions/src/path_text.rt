@@ -27,7 +27,7 @@ use crate::path::Step;
 use crate::selection::{Bound, Selector, step_at};
 use jsonb::layer::parse_scalar;
 use jsonb::{Error, Exponents, Node, NumberItem, Value};
-use std::alloc::Global;
+use std::alloc::{AllocError, Global};
 
 /// The path that a text gives: `$`, and then its steps. `.name` is the value of a key, and so is
 /// `."any name"`, if there are points, brackets or question marks in it; `[7]` is an item, also as
@@ -83,10 +83,9 @@ fn list_count(path: &[Selector<'_>]) -> usize
 }
 
 // The steps after the `$` of a text, with any number of lists.
-fn read_steps<'a>(alloc: Global, text: &'a str) -> Result<Option<Vec<Selector<'a>>>, Error>
-    ensures ok { IfOk result (λ path. (steps : List SelectorView) → StepsText text.now steps
+fn read_steps<'a>(alloc: Global, text: &'a str) -> Result<Option<Vec<Selector<'a>>>, AllocError>
+    ensures { IfOk result (λ path. (steps : List SelectorView) → StepsText text.now steps
         ↔ (option_map (λ selectors. map selector_view selectors.items) path ≡ Some steps)) }
-    ensures memory { IfErr result (λ e. e ≡ Error.OutOfMemory) }
 {
     let Some(start) = after_char(text, '$') else {
         return Ok(None);
@@ -137,9 +136,11 @@ fn step_of<'a>(selector: &Selector<'a>) -> Option<Step<'a>>
 }
 
 // The first step of a text, and what is after it.
-fn read_step<'a>(alloc: Global, text: &'a str) -> Result<Option<(Selector<'a>, &'a str)>, Error>
-    ensures ok { IfOk result (ReadsStep BeginsWithStep false text.now) }
-    ensures memory { IfErr result (λ e. e ≡ Error.OutOfMemory) }
+fn read_step<'a>(
+    alloc: Global,
+    text: &'a str,
+) -> Result<Option<(Selector<'a>, &'a str)>, AllocError>
+    ensures { IfOk result (ReadsStep BeginsWithStep false text.now) }
 {
     match after_char(after_spaces(text), '?') {
         Some(condition) => read_filter(alloc, condition),
@@ -165,9 +166,8 @@ fn read_written<'a>(
     alloc: Global,
     text: &'a str,
     in_filter: bool,
-) -> Result<Option<(Selector<'a>, &'a str)>, Error>
-    ensures ok { IfOk result (ReadsStep (BeginsWith in_filter) in_filter text.now) }
-    ensures memory { IfErr result (λ e. e ≡ Error.OutOfMemory) }
+) -> Result<Option<(Selector<'a>, &'a str)>, AllocError>
+    ensures { IfOk result (ReadsStep (BeginsWith in_filter) in_filter text.now) }
 {
     if let Some(name) = after_char(text, '.') {
         return Ok(read_member(name, in_filter));
@@ -284,9 +284,8 @@ fn read_bracketed<'a>(
     alloc: Global,
     text: &'a str,
     in_filter: bool,
-) -> Result<Option<(Selector<'a>, &'a str)>, Error>
-    ensures ok { IfOk result (ReadsStep (BeginsWith in_filter) in_filter (91 ∷ text.now)) }
-    ensures memory { IfErr result (λ e. e ≡ Error.OutOfMemory) }
+) -> Result<Option<(Selector<'a>, &'a str)>, AllocError>
+    ensures { IfOk result (ReadsStep (BeginsWith in_filter) in_filter (91 ∷ text.now)) }
 {
     match split_at(text, ']') {
         Some((place, rest)) => match read_place(alloc, place)? {
@@ -298,10 +297,9 @@ fn read_bracketed<'a>(
 }
 
 // The step between brackets.
-fn read_place<'a>(alloc: Global, place: &str) -> Result<Option<Selector<'a>>, Error>
-    ensures ok { IfOk result (λ selector.
+fn read_place<'a>(alloc: Global, place: &str) -> Result<Option<Selector<'a>>, AllocError>
+    ensures { IfOk result (λ selector.
         option_map selector_view selector ≡ place_in place.now) }
-    ensures memory { IfErr result (λ e. e ≡ Error.OutOfMemory) }
 {
     if place == "*" {
         return Ok(Some(Selector::AllItems));
@@ -313,10 +311,9 @@ fn read_place<'a>(alloc: Global, place: &str) -> Result<Option<Selector<'a>>, Er
 }
 
 // The step to the items at indexes between commas.
-fn read_list<'a>(alloc: Global, place: &str) -> Result<Option<Selector<'a>>, Error>
-    ensures ok { IfOk result (λ selector.
+fn read_list<'a>(alloc: Global, place: &str) -> Result<Option<Selector<'a>>, AllocError>
+    ensures { IfOk result (λ selector.
         option_map selector_view selector ≡ option_map indexes (indexes_in place.now)) }
-    ensures memory { IfErr result (λ e. e ≡ Error.OutOfMemory) }
 {
     match read_indexes(alloc, place)? {
         Some(indexes) => Ok(Some(Selector::Indexes(indexes))),
@@ -325,10 +322,9 @@ fn read_list<'a>(alloc: Global, place: &str) -> Result<Option<Selector<'a>>, Err
 }
 
 // The indexes between commas. There may be spaces before each.
-fn read_indexes(alloc: Global, place: &str) -> Result<Option<Vec<Bound>>, Error>
-    ensures ok { IfOk result (λ indexes.
+fn read_indexes(alloc: Global, place: &str) -> Result<Option<Vec<Bound>>, AllocError>
+    ensures { IfOk result (λ indexes.
         option_map (λ indexes. indexes.items) indexes ≡ indexes_in place.now) }
-    ensures memory { IfErr result (λ e. e ≡ Error.OutOfMemory) }
 {
     let mut indexes = Vec::new(alloc);
     let mut left = place;
@@ -436,9 +432,11 @@ fn bound_from_end(number: usize) -> Bound
 }
 
 // A filter after its question mark, and what is after it.
-fn read_filter<'a>(alloc: Global, text: &'a str) -> Result<Option<(Selector<'a>, &'a str)>, Error>
-    ensures ok { IfOk result (Reads selector_view (IsFilter text.now)) }
-    ensures memory { IfErr result (λ e. e ≡ Error.OutOfMemory) }
+fn read_filter<'a>(
+    alloc: Global,
+    text: &'a str,
+) -> Result<Option<(Selector<'a>, &'a str)>, AllocError>
+    ensures { IfOk result (Reads selector_view (IsFilter text.now)) }
 {
     let Some(inner) = after_char(after_spaces(text), '(') else {
         return Ok(None);
@@ -450,9 +448,11 @@ fn read_filter<'a>(alloc: Global, text: &'a str) -> Result<Option<(Selector<'a>,
 }
 
 // The terms of a filter, and what is after its closing parenthesis.
-fn read_terms<'a>(alloc: Global, text: &'a str) -> Result<Option<(Vec<Term<'a>>, &'a str)>, Error>
-    ensures ok { IfOk result (Reads terms_view (AreTerms true 0 text.now)) }
-    ensures memory { IfErr result (λ e. e ≡ Error.OutOfMemory) }
+fn read_terms<'a>(
+    alloc: Global,
+    text: &'a str,
+) -> Result<Option<(Vec<Term<'a>>, &'a str)>, AllocError>
+    ensures { IfOk result (Reads terms_view (AreTerms true 0 text.now)) }
 {
     let mut terms = Vec::new(alloc);
     let mut wants_value = true;
@@ -506,9 +506,8 @@ fn state_after(wants_value: bool, depth: usize, term: &Term<'_>) -> Option<(bool
 }
 
 // A term of a condition, and what is after it.
-fn read_term<'a>(alloc: Global, text: &'a str) -> Result<Option<(Term<'a>, &'a str)>, Error>
-    ensures ok { IfOk result (Reads term_view (BeginsWithTerm text.now)) }
-    ensures memory { IfErr result (λ e. e ≡ Error.OutOfMemory) }
+fn read_term<'a>(alloc: Global, text: &'a str) -> Result<Option<(Term<'a>, &'a str)>, AllocError>
+    ensures { IfOk result (Reads term_view (BeginsWithTerm text.now)) }
 {
     let start = after_spaces(text);
     if let Some(test) = after_char(start, '@') {
@@ -563,9 +562,8 @@ fn read_exists<'a>(
     alloc: Global,
     text: &'a str,
     is_wanted: bool,
-) -> Result<Option<(Term<'a>, &'a str)>, Error>
-    ensures ok { IfOk result (Reads term_view (IsExists is_wanted text.now)) }
-    ensures memory { IfErr result (λ e. e ≡ Error.OutOfMemory) }
+) -> Result<Option<(Term<'a>, &'a str)>, AllocError>
+    ensures { IfOk result (Reads term_view (IsExists is_wanted text.now)) }
 {
     let Some((path, end)) = read_filter_path(alloc, text)? else {
         return Ok(None);
@@ -639,9 +637,8 @@ fn tail_after_not(text: &str) -> Option<&str>
 }
 
 // A test after its `@`, and what is after it.
-fn read_test<'a>(alloc: Global, text: &'a str) -> Result<Option<(Term<'a>, &'a str)>, Error>
-    ensures ok { IfOk result (Reads term_view (BeginsWithTest text.now)) }
-    ensures memory { IfErr result (λ e. e ≡ Error.OutOfMemory) }
+fn read_test<'a>(alloc: Global, text: &'a str) -> Result<Option<(Term<'a>, &'a str)>, AllocError>
+    ensures { IfOk result (Reads term_view (BeginsWithTest text.now)) }
 {
     let Some((path, end)) = read_filter_path(alloc, text)? else {
         return Ok(None);
@@ -667,14 +664,16 @@ fn read_test<'a>(alloc: Global, text: &'a str) -> Result<Option<(Term<'a>, &'a s
 fn read_filter_path<'a>(
     alloc: Global,
     text: &'a str,
-) -> Result<Option<(Vec<Step<'a>>, &'a str)>, Error>
-    ensures ok { IfOk result (Reads steps_view (IsFilterPath text.now)) }
-    ensures memory { IfErr result (λ e. e ≡ Error.OutOfMemory) }
+) -> Result<Option<(Vec<Step<'a>>, &'a str)>, AllocError>
+    ensures { IfOk result (Reads steps_view (IsFilterPath text.now)) }
 {
     let Some((path, end)) = read_filter_steps(alloc, text)? else {
         return Ok(None);
     };
-    match steps_of_path(alloc, &path)? {
+    let Ok(single) = steps_of_path(alloc, &path) else {
+        return Err(AllocError);
+    };
+    match single {
         Some(steps) => Ok(Some((steps, end))),
         None => Ok(None),
     }
@@ -684,9 +683,8 @@ fn read_filter_path<'a>(
 fn read_filter_steps<'a>(
     alloc: Global,
     text: &'a str,
-) -> Result<Option<(Vec<Selector<'a>>, &'a str)>, Error>
-    ensures ok { IfOk result (Reads path_view (AreFilterSteps text.now)) }
-    ensures memory { IfErr result (λ e. e ≡ Error.OutOfMemory) }
+) -> Result<Option<(Vec<Selector<'a>>, &'a str)>, AllocError>
+    ensures { IfOk result (Reads path_view (AreFilterSteps text.now)) }
 {
     let mut steps = Vec::new(alloc);
     let mut left = text;
@@ -736,9 +734,8 @@ fn comparison_in(word: &str) -> Option<Comparison>
 }
 
 // A literal, and what is after it.
-fn read_literal<'a>(alloc: Global, text: &'a str) -> Result<Option<(Node<'a>, &'a str)>, Error>
-    ensures ok { IfOk result (Reads node_tree (BeginsWithLiteral text.now)) }
-    ensures memory { IfErr result (λ e. e ≡ Error.OutOfMemory) }
+fn read_literal<'a>(alloc: Global, text: &'a str) -> Result<Option<(Node<'a>, &'a str)>, AllocError>
+    ensures { IfOk result (Reads node_tree (BeginsWithLiteral text.now)) }
 {
     match after_char(text, '"') {
         Some(quoted) => Ok(read_string(quoted)),
@@ -757,10 +754,9 @@ fn read_string<'a>(text: &'a str) -> Option<(Node<'a>, &'a str)>
 }
 
 // A word, and what is after it.
-fn read_word<'a>(alloc: Global, text: &'a str) -> Result<Option<(Node<'a>, &'a str)>, Error>
+fn read_word<'a>(alloc: Global, text: &'a str) -> Result<Option<(Node<'a>, &'a str)>, AllocError>
     requires { (rest : List ℕ) → text.now ≡ 34 ∷ rest → ⊥ }
-    ensures ok { IfOk result (Reads node_tree (BeginsWithLiteral text.now)) }
-    ensures memory { IfErr result (λ e. e ≡ Error.OutOfMemory) }
+    ensures { IfOk result (Reads node_tree (BeginsWithLiteral text.now)) }
 {
     let (word, rest) = split_word(text);
     if word.is_empty() {
@@ -799,15 +795,15 @@ fn is_in_word(byte: u8) -> bool
 }
 
 // The value of a word: null, a truth value or a number, as JSON spells it.
-fn read_scalar<'a>(alloc: Global, word: &str) -> Result<Option<Node<'a>>, Error>
-    ensures ok { IfOk result (λ value. MatchOption value ((t : Tree) → IsLiteralWord word.now t → ⊥)
+fn read_scalar<'a>(alloc: Global, word: &str) -> Result<Option<Node<'a>>, AllocError>
+    ensures { IfOk result (λ value. MatchOption value ((t : Tree) → IsLiteralWord word.now t → ⊥)
         (λ node. IsLiteralWord word.now (node_tree node))) }
-    ensures memory { IfErr result (λ e. e ≡ Error.OutOfMemory) }
 {
     match parse_scalar(alloc, word, Exponents::Allowed) {
         Ok(value) => Ok(scalar_node(value)),
         Err(Error::InvalidJson) => Ok(None),
-        Err(error) => Err(error),
+        Err(Error::OutOfMemory) => Err(AllocError),
+        Err(_) => unreachable!(),
     }
 }
 

@@ -8,7 +8,7 @@ ghost use Rattle.jsonb_functions.specs.Pointer.{pointer_of, unescaped};
 
 use crate::marks::split_mark;
 use jsonb::Error;
-use std::alloc::Global;
+use std::alloc::{AllocError, Global};
 
 /// The names in a JSON pointer (RFC 6901): each is written after a `/`, with `~1` for a `/` in it
 /// and `~0` for a `~`. The empty text has none, and is the pointer to the whole value. `None` if
@@ -32,9 +32,8 @@ pub fn read_pointer(alloc: Global, text: &str) -> Result<Option<Vec<String>>, Er
 }
 
 // The first name of a pointer, and what is after it.
-fn read_name<'a>(alloc: Global, text: &'a str) -> Result<Option<(String, &'a str)>, Error>
-    ensures ok { IfOk result (λ read. option_map name_and_rest read ≡ pointer_name text.now) }
-    ensures memory { IfErr result (λ e. e ≡ Error.OutOfMemory) }
+fn read_name<'a>(alloc: Global, text: &'a str) -> Result<Option<(String, &'a str)>, AllocError>
+    ensures { IfOk result (λ read. option_map name_and_rest read ≡ pointer_name text.now) }
 {
     let Some((mark, rest)) = split_mark(text) else {
         return Ok(None);
@@ -46,9 +45,8 @@ fn read_name<'a>(alloc: Global, text: &'a str) -> Result<Option<(String, &'a str
 }
 
 // A name up to the next slash or the end, and the rest.
-fn unescape<'a>(alloc: Global, text: &'a str) -> Result<Option<(String, &'a str)>, Error>
-    ensures ok { IfOk result (λ read. option_map name_and_rest read ≡ unescaped false text.now) }
-    ensures memory { IfErr result (λ e. e ≡ Error.OutOfMemory) }
+fn unescape<'a>(alloc: Global, text: &'a str) -> Result<Option<(String, &'a str)>, AllocError>
+    ensures { IfOk result (λ read. option_map name_and_rest read ≡ unescaped false text.now) }
 {
     let mut name = String::new(alloc);
     let mut left = text;

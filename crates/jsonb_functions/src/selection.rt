@@ -22,7 +22,7 @@ use crate::places::{next_place, node_at_place, places_from, whole_place};
 use crate::steps::{Unanswered, take};
 use jsonb::layer::Entry;
 use jsonb::{Document, Error, Node};
-use std::alloc::Global;
+use std::alloc::{AllocError, Global};
 
 /// An end of a range of items: an index, counted from 0, from the start or from the end:
 /// `FromEnd(0)` is the last item, and `End` is the place right after that.
@@ -63,7 +63,7 @@ pub fn select<'a>(
     ensures memory { IfErr result (λ e. e ≡ Error.OutOfMemory) }
 {
     let places = select_places(alloc, document, path)?;
-    nodes_at(alloc, document.as_bytes(), &places)
+    Ok(nodes_at(alloc, document.as_bytes(), &places)?)
 }
 
 /// Where the values are that `select` returns: the types of their entries, and the positions of
@@ -89,12 +89,15 @@ pub fn select_places(
 }
 
 // The values at positions.
-fn nodes_at<'a>(alloc: Global, bytes: &'a [u8], places: &[Entry]) -> Result<Vec<Node<'a>>, Error>
+fn nodes_at<'a>(
+    alloc: Global,
+    bytes: &'a [u8],
+    places: &[Entry],
+) -> Result<Vec<Node<'a>>, AllocError>
     requires { AreAllParts bytes.now places.now }
     ensures ok { IfOk result (λ nodes. map node_tree nodes.items
         ≡ map (tree_there bytes.entry.now) places.now) }
     ensures items { IfOk result (λ nodes. AreItemsAt bytes.entry.now places.now nodes.items) }
-    ensures memory { IfErr result (λ e. e ≡ Error.OutOfMemory) }
 {
     let mut nodes = Vec::with_capacity(alloc, places.len())?;
     let mut left = places;
@@ -215,11 +218,10 @@ fn append_places(
     place: Entry,
     path: &[Selector<'_>],
     found: &mut Vec<Entry>,
-) -> Result<(), Error>
+) -> Result<(), AllocError>
     requires { IsPart bytes.now place }
-    ensures appended { OnOk result (found.new.items
+    ensures { OnOk result (found.new.items
         ≡ found.old.items ++ selected_from path.now bytes.now place) }
-    ensures memory { IfErr result (λ e. e ≡ Error.OutOfMemory) }
 {
     let Some(left) = after_filters(bytes, place, path) else {
         return Ok(());

@@ -10,6 +10,7 @@ use crate::index::{Hashed, START};
 use crate::walk::{next_item, next_member};
 use jsonb::{Document, Error, Items, Members, Node};
 use jsonb_comparable::Sink;
+use std::alloc::AllocError;
 
 /// The hash that an index has for a key: `append_top_keys` appends it for each document in which
 /// the key exists. It is that of two zero bytes, with which no other index key begins, and the
@@ -35,18 +36,17 @@ pub fn append_top_keys(document: Document<'_>, out: &mut Vec<u64>) -> Result<(),
     let before = out.len();
     match append_keys(document, out) {
         Ok(()) => Ok(()),
-        Err(error) => {
+        Err(AllocError) => {
             out.truncate(before);
-            Err(error)
+            Err(Error::OutOfMemory)
         }
     }
 }
 
-fn append_keys(document: Document<'_>, out: &mut Vec<u64>) -> Result<(), Error>
+fn append_keys(document: Document<'_>, out: &mut Vec<u64>) -> Result<(), AllocError>
     ensures appended { OnOk result
         (out.new.items ≡ out.old.items ++ top_hashes (document_tree document.entry)) }
     ensures some { AppendsSome out.old.items out.new.items }
-    ensures memory { IfErr result (λ e. e ≡ Error.OutOfMemory) }
 {
     if let Some(items) = document.items() {
         return append_texts(items, out);
@@ -59,12 +59,11 @@ fn append_keys(document: Document<'_>, out: &mut Vec<u64>) -> Result<(), Error>
 
 // The hash of a string; nothing for any other value.
 #[tactic(auto, using(crate::proofs::TopKeyLaws::no_text))]
-fn append_text(node: Node<'_>, out: &mut Vec<u64>) -> Result<(), Error>
+fn append_text(node: Node<'_>, out: &mut Vec<u64>) -> Result<(), AllocError>
     requires { HoldsNoScalar node }
     ensures appended { OnOk result
         (out.new.items ≡ out.old.items ++ text_hashes (node_tree node.entry)) }
     ensures some { AppendsSome out.old.items out.new.items }
-    ensures memory { IfErr result (λ e. e ≡ Error.OutOfMemory) }
 {
     match node {
         Node::String(text) => {
@@ -76,11 +75,10 @@ fn append_text(node: Node<'_>, out: &mut Vec<u64>) -> Result<(), Error>
 }
 
 // The hashes of the strings among items.
-fn append_texts(mut items: Items<'_>, out: &mut Vec<u64>) -> Result<(), Error>
+fn append_texts(mut items: Items<'_>, out: &mut Vec<u64>) -> Result<(), AllocError>
     ensures appended { OnOk result
         (out.new.items ≡ out.old.items ++ item_hashes (trees_of (rest_trees items.entry))) }
     ensures some { AppendsSome out.old.items out.new.items }
-    ensures memory { IfErr result (λ e. e ≡ Error.OutOfMemory) }
 {
     while let Some(item) = next_item(&mut items) {
         append_text(item, out)?;
@@ -89,11 +87,10 @@ fn append_texts(mut items: Items<'_>, out: &mut Vec<u64>) -> Result<(), Error>
 }
 
 // The hashes of the keys of members.
-fn append_names(mut members: Members<'_>, out: &mut Vec<u64>) -> Result<(), Error>
+fn append_names(mut members: Members<'_>, out: &mut Vec<u64>) -> Result<(), AllocError>
     ensures appended { OnOk result
         (out.new.items ≡ out.old.items ++ member_hashes (pairs_of (rest_pairs members.entry))) }
     ensures some { AppendsSome out.old.items out.new.items }
-    ensures memory { IfErr result (λ e. e ≡ Error.OutOfMemory) }
 {
     while let Some((name, _)) = next_member(&mut members) {
         out.push(top_key(name))?;

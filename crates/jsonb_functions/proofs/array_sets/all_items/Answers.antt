@@ -17,7 +17,7 @@ loop-first-preserved c = record {
       );
 }
 
-pub returns-clause-items : goal.returns-clause-items
-returns-clause-items c ts h =
+pub returns : goal.returns
+returns c ts h =
     let (others, (are, is)) = c.loop-first.invariant.going ts h in
     listed_all c.loop-first.list.items ts others (c.in_default.ensures.none others are) is

@@ -11,8 +11,8 @@ returns-clause-ok c =
     let us = items_or_one (document_tree c.args.right) in
     let counted : CountsEquals c.in_ok-counts.counts.entries us =
     subst (CountsEquals c.in_ok-counts.counts.entries)
-    (ap listed_trees c.deref.ensures.value ∙ c.in_ok-others.ensures.items)
-    c.in_ok-counts.ensures.counts in
+    (ap listed_trees c.deref.ensures.value ∙ c.in_ok-others.ensures)
+    c.in_ok-counts.ensures in
     c.has_shared.ensures us counted
     ∙ ap (λ ts. some_shared ts us)
-    (ap listed_trees c.deref-2.ensures.value ∙ c.in_ok-items.ensures.items)
+    (ap listed_trees c.deref-2.ensures.value ∙ c.in_ok-items.ensures)

@@ -22,8 +22,8 @@ loop-part-preserved c =
     c.node_of.result (omega arith) c.part-item.is c.node_of.ensures walk.invariant
     c.in_ok-raise_count.ensures.raised
 
-pub returns-clause-counts : goal.returns-clause-counts
-returns-clause-counts c =
+pub returns : goal.returns
+returns c =
     let walk = c.loop-part in
     let done : length c.args.items.now ≤ walk.part-index = omega arith in
     counted_all walk.counts.entries c.args.items.now walk.part-index done walk.invariant

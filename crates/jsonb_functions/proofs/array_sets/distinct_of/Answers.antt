@@ -22,10 +22,10 @@ loop-part-preserved c =
     distinct_next walk.counts.entries _ walk.list.items _ c.args.items.now walk.part-index
     c.part-item.result c.node_of.result c.in_ok-before.before (omega arith) c.part-item.is
     c.node_of.ensures walk.invariant c.in_ok-before.ensures.before c.in_ok-before.ensures.raised
-    c.in_ok-push_if.ensures.pushed
+    c.in_ok-push_if.ensures
 
-pub returns-clause-ok : goal.returns-clause-ok
-returns-clause-ok c =
+pub returns : goal.returns
+returns c =
     let walk = c.loop-part in
     let done : length c.args.items.now ≤ walk.part-index = omega arith in
     distinct_all walk.counts.entries walk.list.items c.args.items.now walk.part-index done

@@ -16,9 +16,9 @@ pub returns-clause-ok : goal.returns-clause-ok
 returns-clause-ok c =
     let is : listed_trees c.deref-3.result.now ≡ matched_items c.args.matched
     (items_or_one (document_tree c.args.left)) (items_or_one (document_tree c.args.right)) =
-    matched_trees c.args.matched _ _ _ _ _ _ _ _ c.deref-3.ensures.value c.in_ok-found.ensures.ok
-    c.deref.ensures.value c.in_ok-items.ensures.items c.deref-2.ensures.value
-    c.in_ok-others.ensures.items in
+    matched_trees c.args.matched _ _ _ _ _ _ _ _ c.deref-3.ensures.value c.in_ok-found.ensures
+    c.deref.ensures.value c.in_ok-items.ensures c.deref-2.ensures.value
+    c.in_ok-others.ensures in
     subst (λ ts. IfOk c.array_document.result (λ owned. owned_bytes owned ≡ canon (array ts))) is
     c.array_document.ensures.ok
 
@@ -26,8 +26,8 @@ pub returns-clause-limits : goal.returns-clause-limits
 returns-clause-limits c =
     let is : listed_trees c.deref-3.result.now ≡ matched_items c.args.matched
     (items_or_one (document_tree c.args.left)) (items_or_one (document_tree c.args.right)) =
-    matched_trees c.args.matched _ _ _ _ _ _ _ _ c.deref-3.ensures.value c.in_ok-found.ensures.ok
-    c.deref.ensures.value c.in_ok-items.ensures.items c.deref-2.ensures.value
-    c.in_ok-others.ensures.items in
+    matched_trees c.args.matched _ _ _ _ _ _ _ _ c.deref-3.ensures.value c.in_ok-found.ensures
+    c.deref.ensures.value c.in_ok-items.ensures c.deref-2.ensures.value
+    c.in_ok-others.ensures in
     subst (λ ts. MadeWithMemory (Fits (array ts)) c.array_document.result) is
     (with_memory _ _ c.array_document.ensures.limits)

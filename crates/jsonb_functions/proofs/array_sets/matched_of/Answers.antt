@@ -6,7 +6,7 @@ use Rattle.jsonb_functions.proofs.array_sets.matched_of.Goals as goal
 pub loop-part-init : goal.loop-part-init
 loop-part-init c =
     matched_none c.args.matched (listed_trees c.args.others.now) _ _ c.args.items.now
-    c.in_ok-counts.ensures.counts c.new-list.ensures.items
+    c.in_ok-counts.ensures c.new-list.ensures.items
 
 pub loop-part-preserved : goal.loop-part-preserved
 loop-part-preserved c =
@@ -15,10 +15,10 @@ loop-part-preserved c =
     walk.list.items _ c.args.items.now walk.part-index c.part-item.result c.node_of.result
     c.lower_count-is_left.result (omega arith) c.part-item.is c.node_of.ensures walk.invariant
     c.lower_count-is_left.ensures.was c.lower_count-is_left.ensures.lowered
-    c.in_ok-push_if.ensures.pushed
+    c.in_ok-push_if.ensures
 
-pub returns-clause-ok : goal.returns-clause-ok
-returns-clause-ok c =
+pub returns : goal.returns
+returns c =
     let walk = c.loop-part in
     let done : length c.args.items.now ≤ walk.part-index = omega arith in
     matched_all c.args.matched (listed_trees c.args.others.now) walk.counts.entries walk.list.items

@@ -11,4 +11,4 @@ returns-clause-ok c =
     all_met (λ k. has_top_key k t) c.args.keys.now c.remove_keys.new.missing c.is_empty.result
     c.is_empty.ensures
     (λ q. c.remove_keys.ensures q
-    ∙ ap (λ b. b && not (has_top_key q.now t)) (c.in_ok-missing.ensures.ok.0 q))
+    ∙ ap (λ b. b && not (has_top_key q.now t)) (c.in_ok-missing.ensures.0 q))

@@ -18,13 +18,13 @@ returns-then-eq-clause-ok c = λ names.
 
 pub returns-in_default-clause-ok : goal.returns-in_default-clause-ok
 returns-in_default-clause-ok c =
-    let none = rw c.in_default.is at c.in_ok-name.ensures.ok in
+    let none = rw c.in_default.is at c.in_ok-name.ensures in
     let text = c.args.text.now in
     no_first text (other_bytes text (codes "{}") c.if-eq.ensures) (sym none)
 
 pub loop-left-init : goal.loop-left-init
 loop-left-init c =
-    let reads = rw c.in-Some.is at c.in_ok-name.ensures.ok in
+    let reads = rw c.in-Some.is at c.in_ok-name.ensures in
     let text = c.args.text.now in (
       search rules,
       first_read text (string_bytes c.in-Some.name) c.in-Some.rest.now
@@ -35,13 +35,13 @@ loop-left-init c =
 
 pub loop-left-smaller : goal.loop-left-smaller
 loop-left-smaller c =
-    let reads = rw c.in-Some-2.is at c.in_ok-name-2.ensures.ok in
+    let reads = rw c.in-Some-2.is at c.in_ok-name-2.ensures in
     after_shorter 44 c.loop-left.left.now (string_bytes c.in-Some-2.name) c.in-Some-2.rest.now
     (sym reads)
 
 pub loop-left-preserved : goal.loop-left-preserved
 loop-left-preserved c =
-    let reads = rw c.in-Some-2.is at c.in_ok-name-2.ensures.ok in
+    let reads = rw c.in-Some-2.is at c.in_ok-name-2.ensures in
     let left = c.loop-left.left.now in (
       search rules,
       name_on (NameList c.args.text.now) (name_after 44) (codes "}") left
@@ -55,7 +55,7 @@ loop-left-preserved c =
 
 pub returns-in_default-2-clause-ok : goal.returns-in_default-2-clause-ok
 returns-in_default-2-clause-ok c =
-    let none = rw c.in_default-2.is at c.in_ok-name-2.ensures.ok in
+    let none = rw c.in_default-2.is at c.in_ok-name-2.ensures in
     let left = c.loop-left.left.now in
     none_read (NameList c.args.text.now) (name_after 44) (codes "}") left
     (names_of c.loop-left.names) (other_by_test left (codes "}") c.loop-left-test.ensures)

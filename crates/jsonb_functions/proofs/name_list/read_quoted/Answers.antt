@@ -24,8 +24,8 @@ pub range_from-rest-requires : goal.range_from-rest-requires
 range_from-rest-requires c = λ _.
     run_boundary is_unquoted ends_run c.runs.left.now c.run_len-end.result c.run_len-end.ensures
 
-pub returns-in_default-clause-ok : goal.returns-in_default-clause-ok
-returns-in_default-clause-ok c =
+pub returns-in_default : goal.returns-in_default
+returns-in_default c =
     let text = c.args.text.now in
     let left = c.runs.left.now in
     let rest = c.range_from-rest.result.now in
@@ -40,8 +40,8 @@ returns-in_default-clause-ok c =
     no_name (quoted false text) now (quoted false rest) here
     (no_mark_none rest stops c.in_default.ensures)
 
-pub returns-then-mark-eq34-clause-ok : goal.returns-then-mark-eq34-clause-ok
-returns-then-mark-eq34-clause-ok c =
+pub returns-then-mark-eq34 : goal.returns-then-mark-eq34
+returns-then-mark-eq34 c =
     let text = c.args.text.now in
     let left = c.runs.left.now in
     let rest = c.range_from-rest.result.now in

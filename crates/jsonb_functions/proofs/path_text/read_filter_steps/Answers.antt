@@ -4,10 +4,10 @@ use Rattle.jsonb_functions.proofs.PathLaws.{filter_steps_none, filter_steps_read
 use Rattle.jsonb_functions.proofs.PathLaws.{path_begins, read_on}
 use Rattle.jsonb_functions.proofs.path_text.read_filter_steps.Goals as goal
 
-pub returns-in_default-clause-ok : goal.returns-in_default-clause-ok
-returns-in_default-clause-ok c =
+pub returns-in_default : goal.returns-in_default
+returns-in_default c =
     filter_steps_none c.args.text.now c.loop-alloc.left.now c.loop-alloc.steps.items
-    (sym c.loop-alloc-test.ensures) (rw c.in_default.is at c.in_ok-selector.ensures.ok)
+    (sym c.loop-alloc-test.ensures) (rw c.in_default.is at c.in_ok-selector.ensures)
     c.loop-alloc.invariant.1
 
 pub loop-alloc-preserved : goal.loop-alloc-preserved
@@ -16,11 +16,11 @@ loop-alloc-preserved c = (
   read_on (BeginsWith true) true path_begins c.args.text.now c.loop-alloc.left.now
       c.in-Some.rest c.loop-alloc.steps.items c.push.new.self.items c.in-Some.selector
       (going_on c.loop-alloc.left.now (sym c.loop-alloc-test.ensures))
-      (rw c.in-Some.is at c.in_ok-selector.ensures.ok) c.in_ok-push.ensures.items
+      (rw c.in-Some.is at c.in_ok-selector.ensures) c.in_ok-push.ensures.items
       c.loop-alloc.invariant.1,
 )
 
-pub returns-clause-ok : goal.returns-clause-ok
-returns-clause-ok c =
+pub returns : goal.returns
+returns c =
     filter_steps_read c.args.text.now c.loop-alloc.left c.loop-alloc.steps
     (sym c.loop-alloc-test.ensures) c.loop-alloc.invariant.1

@@ -21,21 +21,21 @@ loop-part-preserved c = (
       c.in_ok-push.ensures.items,
 )
 
-pub returns-in_default-read_bound-clause-ok : goal.returns-in_default-read_bound-clause-ok
-returns-in_default-read_bound-clause-ok c =
+pub returns-in_default-read_bound : goal.returns-in_default-read_bound
+returns-in_default-read_bound c =
     index_missing c.loop-part.left.now c.in-Some.part.now c.in-Some.rest.now
     c.loop-part.indexes.items (indexes_in c.args.place.now) c.in-Some.ensures.0
     c.in-Some.ensures.1 c.loop-part.invariant.1
     (c.in_default-read_bound.ensures ∙ ap bound_in c.after_spaces.ensures)
 
-pub returns-in_default-read_bound-2-clause-ok : goal.returns-in_default-read_bound-2-clause-ok
-returns-in_default-read_bound-2-clause-ok c =
+pub returns-in_default-read_bound-2 : goal.returns-in_default-read_bound-2
+returns-in_default-read_bound-2 c =
     last_missing c.loop-part.left.now c.loop-part.indexes.items (indexes_in c.args.place.now)
     c.in_default.ensures c.loop-part.invariant.1
     (c.in_default-read_bound-2.ensures ∙ ap bound_in c.after_spaces-2.ensures)
 
-pub returns-clause-ok : goal.returns-clause-ok
-returns-clause-ok c =
+pub returns : goal.returns
+returns c =
     last_read c.loop-part.left.now c.loop-part.indexes.items (indexes_in c.args.place.now)
     c.in_default.ensures c.loop-part.invariant.1 c.in-Some-read_bound-2.index
     c.push-2.new.self.items

@@ -17,12 +17,12 @@ loop-left-init c = (
   ),
 )
 
-pub returns-in_default-2-clause-ok : goal.returns-in_default-2-clause-ok
-returns-in_default-2-clause-ok c =
+pub returns-in_default-2 : goal.returns-in_default-2
+returns-in_default-2 c =
     let read = c.loop-left.invariant.1 in
     none_text c.args.text.now read.0 c.loop-left.left.now c.loop-left.path.items read.1
     (no_bytes c.loop-left.left.now c.loop-left-test.ensures)
-    (rw c.in_default-2.is at c.in_ok-selector.ensures.ok) read.2
+    (rw c.in_default-2.is at c.in_ok-selector.ensures) read.2
 
 pub loop-left-preserved : goal.loop-left-preserved
 loop-left-preserved c =
@@ -34,19 +34,19 @@ loop-left-preserved c =
         read_on BeginsWithStep false step_begins read.0 c.loop-left.left.now c.in-Some-2.rest
             c.loop-left.path.items c.push.new.self.items c.in-Some-2.selector
             (no_bytes c.loop-left.left.now c.loop-left-test.ensures)
-            (rw c.in-Some-2.is at c.in_ok-selector.ensures.ok) c.in_ok-push.ensures.items read.2,
+            (rw c.in-Some-2.is at c.in_ok-selector.ensures) c.in_ok-push.ensures.items read.2,
       ),
     )
 
-pub returns-clause-ok : goal.returns-clause-ok
-returns-clause-ok c =
+pub returns : goal.returns
+returns c =
     let read = c.loop-left.invariant.1 in
     all_read c.args.text.now read.0 c.loop-left.left.now c.loop-left.path.items read.1
     (all_bytes c.loop-left.left.now c.loop-left-test.ensures) read.2
 
 pub loop-left-smaller : goal.loop-left-smaller
 loop-left-smaller c =
-    let step = rw c.in-Some-2.is at c.in_ok-selector.ensures.ok in
+    let step = rw c.in-Some-2.is at c.in_ok-selector.ensures in
     omega (
       arith,
       step_shorter c.loop-left.left.now (selector_view c.in-Some-2.selector) c.in-Some-2.rest.now

@@ -10,28 +10,28 @@ loop-rest-init c = (
   (rw c.new-terms.ensures.items (first_read c.args.text.now), omega arith),
 )
 
-pub returns-in-Some-clause-ok : goal.returns-in-Some-clause-ok
-returns-in-Some-clause-ok c =
+pub returns-in-Some : goal.returns-in-Some
+returns-in-Some c =
     all_read c.args.text.now c.loop-rest.left.now c.loop-rest.wants_value c.loop-rest.depth
     c.loop-rest.terms c.in-Some.rest c.in-Some.ensures c.loop-rest.invariant.1.0
 
-pub returns-in_default-2-clause-ok : goal.returns-in_default-2-clause-ok
-returns-in_default-2-clause-ok c =
+pub returns-in_default-2 : goal.returns-in_default-2
+returns-in_default-2 c =
     none_read c.loop-rest.left.now c.loop-rest.wants_value c.loop-rest.depth
     c.in_default.ensures c.args.text.now c.loop-rest.terms.items
-    (rw c.in_default-2.is at c.in_ok-term.ensures.ok) c.loop-rest.invariant.1.0
+    (rw c.in_default-2.is at c.in_ok-term.ensures) c.loop-rest.invariant.1.0
 
-pub returns-in_default-state_after-clause-ok : goal.returns-in_default-state_after-clause-ok
-returns-in_default-state_after-clause-ok c =
+pub returns-in_default-state_after : goal.returns-in_default-state_after
+returns-in_default-state_after c =
     none_placed c.loop-rest.left.now c.loop-rest.wants_value c.loop-rest.depth
     c.in_default.ensures c.args.text.now c.loop-rest.terms.items c.in-Some-2.term
-    c.in-Some-2.rest (rw c.in-Some-2.is at c.in_ok-term.ensures.ok)
+    c.in-Some-2.rest (rw c.in-Some-2.is at c.in_ok-term.ensures)
     c.in_default-state_after.ensures c.loop-rest.invariant.1.0
 
 pub loop-rest-preserved : goal.loop-rest-preserved
 loop-rest-preserved c =
     let state : Bool × ℕ = (c.in-Some-state_after.wants_next, c.in-Some-state_after.depth_next) in
-    let step = rw c.in-Some-2.is at c.in_ok-term.ensures.ok in
+    let step = rw c.in-Some-2.is at c.in_ok-term.ensures in
     let view = term_view c.in-Some-2.term in (
       search rules,
       (
@@ -51,7 +51,7 @@ loop-rest-preserved c =
 
 pub loop-rest-smaller : goal.loop-rest-smaller
 loop-rest-smaller c =
-    let step = rw c.in-Some-2.is at c.in_ok-term.ensures.ok in
+    let step = rw c.in-Some-2.is at c.in_ok-term.ensures in
     omega (
       arith,
       term_shorter c.loop-rest.left.now (term_view c.in-Some-2.term) c.in-Some-2.rest.now step.is,

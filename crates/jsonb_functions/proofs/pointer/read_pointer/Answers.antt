@@ -16,12 +16,12 @@ loop-left-init c = (
 
 pub loop-left-smaller : goal.loop-left-smaller
 loop-left-smaller c =
-    let reads = rw c.in-Some.is at c.in_ok-name.ensures.ok in
+    let reads = rw c.in-Some.is at c.in_ok-name.ensures in
     first_shorter c.loop-left.left.now (string_bytes c.in-Some.name) c.in-Some.rest.now (sym reads)
 
 pub loop-left-preserved : goal.loop-left-preserved
 loop-left-preserved c =
-    let reads = rw c.in-Some.is at c.in_ok-name.ensures.ok in
+    let reads = rw c.in-Some.is at c.in_ok-name.ensures in
     let left = c.loop-left.left.now in (
       search rules,
       name_on (λ names. c.args.text.now ≡ pointer_of names) pointer_name [] left
@@ -34,7 +34,7 @@ loop-left-preserved c =
 
 pub returns-in_default-clause-ok : goal.returns-in_default-clause-ok
 returns-in_default-clause-ok c =
-    let none = rw c.in_default.is at c.in_ok-name.ensures.ok in
+    let none = rw c.in_default.is at c.in_ok-name.ensures in
     let left = c.loop-left.left.now in
     none_read (λ names. c.args.text.now ≡ pointer_of names) pointer_name [] left
     (names_of c.loop-left.names) (no_bytes left c.loop-left-test.ensures) (sym none)

@@ -24,8 +24,8 @@ pub range_from-rest-requires : goal.range_from-rest-requires
 range_from-rest-requires c = λ _.
     run_boundary is_unescaped ends_run c.runs.left.now c.run_len-end.result c.run_len-end.ensures
 
-pub returns-in_default-clause-ok : goal.returns-in_default-clause-ok
-returns-in_default-clause-ok c =
+pub returns-in_default : goal.returns-in_default
+returns-in_default c =
     let text = c.args.text.now in
     let left = c.runs.left.now in
     let rest = c.range_from-rest.result.now in
@@ -40,8 +40,8 @@ returns-in_default-clause-ok c =
     name_ends (unescaped false text) now rest (unescaped false rest) here
     (no_mark_ends rest stops c.in_default.ensures)
 
-pub returns-then-mark-ne126-clause-ok : goal.returns-then-mark-ne126-clause-ok
-returns-then-mark-ne126-clause-ok c =
+pub returns-then-mark-ne126 : goal.returns-then-mark-ne126
+returns-then-mark-ne126 c =
     let text = c.args.text.now in
     let left = c.runs.left.now in
     let rest = c.range_from-rest.result.now in
@@ -82,8 +82,8 @@ runs-preserved c =
           (character_low step.code character c.in-Some-character_of.ensures))),
     )
 
-pub returns-in_default-split_mark-clause-ok : goal.returns-in_default-split_mark-clause-ok
-returns-in_default-split_mark-clause-ok c =
+pub returns-in_default-split_mark : goal.returns-in_default-split_mark
+returns-in_default-split_mark c =
     let text = c.args.text.now in
     let left = c.runs.left.now in
     let rest = c.range_from-rest.result.now in
@@ -98,8 +98,8 @@ returns-in_default-split_mark-clause-ok c =
     (tilde_then rest after c.in-Some.mark c.in-Some.ensures.1 c.if-mark-ne126.false
     ∙ tilde_ends after c.in_default-split_mark.ensures)
 
-pub returns-in_default-character_of-clause-ok : goal.returns-in_default-character_of-clause-ok
-returns-in_default-character_of-clause-ok c =
+pub returns-in_default-character_of : goal.returns-in_default-character_of
+returns-in_default-character_of c =
     let text = c.args.text.now in
     let left = c.runs.left.now in
     let rest = c.range_from-rest.result.now in

@@ -12,7 +12,7 @@ returns-clause-parts c =
     let found = c.append_places.new.found.items in
     let are : found ≡ selected_from path bytes whole =
     appended_alone path c.as_bytes.result.now bytes whole c.new-found.result.items found
-    c.new-found.ensures.items c.as_bytes.ensures.bytes c.in_ok-append_places.ensures.appended in
+    c.new-found.ensures.items c.as_bytes.ensures.bytes c.in_ok-append_places.ensures in
     parts_selected path bytes (document_tree c.args.document) whole c.whole_of.ensures.part
     c.whole_of.ensures.tree found are
 
@@ -24,6 +24,6 @@ returns-clause-values c =
     let found = c.append_places.new.found.items in
     let are : found ≡ selected_from path bytes whole =
     appended_alone path c.as_bytes.result.now bytes whole c.new-found.result.items found
-    c.new-found.ensures.items c.as_bytes.ensures.bytes c.in_ok-append_places.ensures.appended in
+    c.new-found.ensures.items c.as_bytes.ensures.bytes c.in_ok-append_places.ensures in
     trees_selected path bytes (document_tree c.args.document) whole c.whole_of.ensures.part
     c.whole_of.ensures.tree found are
