@@ -1,5 +1,6 @@
 -- A part, followed after the parts that it names.
-use Rattle.std.proofs.Common.{◌≡◌, ℕ, ◌<◌, List, [], ◌∷◌, ◌∙◌, ◌≤◌, ap, arith, get_or, length, refl, sym, take}
+use Rattle.std.proofs.Common.{◌≡◌, ℕ, ◌<◌, List, [], ◌∷◌, ◌∙◌, ◌≤◌, ap, arith, get_or, length, refl}
+use Rattle.std.proofs.Common.{sym, take}
 use Rattle.std.proofs.Common.{subst}
 use Rattle.std.specs.Prelude.{IfOk, IsTrue, Option, None, Some, Result, Ok, Err}
 use Rattle.std.specs.List.{list_all}
@@ -19,12 +20,15 @@ use Rattle.jsonb_path.specs.Meaning.{access, along, past, select, through}
 use Rattle.jsonb_path.specs.PathParts.{are_parts_after, is_accessor, is_part, is_subscript}
 use Rattle.jsonb_path.specs.PathParts.{is_test_part}
 use Rattle.jsonb_path.specs.Syntax.{Subscripts, no_subscripts}
-use Rattle.jsonb_path.specs.PathTree.{accessor_of, accessors_of, as_expression, as_test, expression_at, node_of, nodes_of}
-use Rattle.jsonb_path.specs.PathTree.{PathNode, predicate_of, subscript_onto, subscripts_of, test_at}
+use Rattle.jsonb_path.specs.PathTree.{accessor_of, accessors_of, as_expression, as_test}
+use Rattle.jsonb_path.specs.PathTree.{expression_at, node_of, nodes_of}
+use Rattle.jsonb_path.specs.PathTree.{PathNode, predicate_of, subscript_onto, subscripts_of}
+use Rattle.jsonb_path.specs.PathTree.{test_at}
 use Rattle.jsonb_path.proofs.FoundLaws.{each_end, joined_nothing, onward, slice_end, slice_stops}
 use Rattle.jsonb_path.proofs.FoundLaws.{step_stops, steps_end, stopped}
 use Rattle.jsonb_path.proofs.PathTextLaws.{first_left, later, prefix_source}
-use Rattle.jsonb_path.proofs.PathTreeLaws.{expression_within, node_is, part_at, parts_before, test_within}
+use Rattle.jsonb_path.proofs.PathTreeLaws.{expression_within, node_is, part_at, parts_before}
+use Rattle.jsonb_path.proofs.PathTreeLaws.{test_within}
 
 pub part_expression : (ps : List Part) (i : ℕ) (x : Part) → i < length ps → x ≡ get_or ps i x
     → as_expression (node_of (nodes_of (take i ps)) x) ≡ expression_at (nodes_of ps) i
@@ -110,7 +114,8 @@ module _ (place : Place) (nodes : List PathNode) (s : Subscript) (all rest : Lis
       (selected_in place (subscripts_of nodes rest) items))
       ≡ found_then before (selected_in place (subscripts_of nodes all) items)
   split before =
-      ap (found_then before) (subscript_step place nodes s.first s.last (subscripts_of nodes rest) items)
+      ap (found_then before)
+      (subscript_step place nodes s.first s.last (subscripts_of nodes rest) items)
       ∙ ap (λ ss. found_then before (selected_in place (subscripts_of nodes ss) items)) (sym first)
 
   pub chosen_on : (before found : List Node) (a : Unit {0}) (w : Outcome)
@@ -158,4 +163,19 @@ chosen_end place nodes all items none found old a o whole =
     ∙ ap (λ ss. found_then found (selected_in place (subscripts_of nodes ss) items)) (sym none)
     ∙ whole
 
-pub ruleset parts_before_it = (part_expression, part_test, prefix_source, expression_within, test_within, part_at, parts_before, slice_stops, slice_end, step_stops, steps_end, chosen_slice, chosen_end, each_end)
+pub ruleset parts_before_it = (
+  part_expression,
+  part_test,
+  prefix_source,
+  expression_within,
+  test_within,
+  part_at,
+  parts_before,
+  slice_stops,
+  slice_end,
+  step_stops,
+  steps_end,
+  chosen_slice,
+  chosen_end,
+  each_end,
+)

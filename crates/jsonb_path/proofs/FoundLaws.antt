@@ -26,11 +26,13 @@ use Rattle.jsonb_path.specs.declared.path.Mode.TheVariants.{Lax, Strict}
 use Rattle.jsonb_path.specs.declared.path.PathError.{PathError}
 use Rattle.jsonb_path.specs.declared.path.PathError.TheVariants as errors
 use Rattle.jsonb_path.specs.Arithmetic.{whole_part_of}
-use Rattle.jsonb_path.specs.Found.{Finds, ended, found_then, lone_number, name_tree, number_in, value_tree}
+use Rattle.jsonb_path.specs.Found.{Finds, ended, found_then, lone_number, name_tree, number_in}
+use Rattle.jsonb_path.specs.Found.{value_tree}
 use Rattle.jsonb_path.specs.Meaning.{Outcome, Place, before_end, each, gives, joined, keys_of}
 use Rattle.jsonb_path.specs.Meaning.{all_unwrapped, fails, found as found_of, of_number}
 use Rattle.jsonb_path.specs.Meaning.{cut, one_index, only_number, pairs_in, unwrapped}
-use Rattle.jsonb_path.specs.Meaning.{member_of, members_of, unless_forgiven, values_named, values_of}
+use Rattle.jsonb_path.specs.Meaning.{member_of, members_of, unless_forgiven, values_named}
+use Rattle.jsonb_path.specs.Meaning.{values_of}
 use Rattle.jsonb_path.proofs.PathTextLaws.{first_left, later, nothing_left}
 
 -- ---- one after the other
@@ -108,7 +110,8 @@ pub slice_end : (step : Tree → Outcome) (xs : List Node) → length xs < 1
     → found_then found (each step (map node_tree xs) None) ≡ found_then old o
     → Finds old found (Ok a) o
 slice_end step xs none found old a o whole =
-    steps_end step (map node_tree xs) (ap (map node_tree) (nothing_left xs none)) found old a o whole
+    steps_end step (map node_tree xs) (ap (map node_tree) (nothing_left xs none))
+    found old a o whole
 
 -- ---- values as they are
 
@@ -273,17 +276,20 @@ walk_fails found f o q is =
 
 module _ (t : Tree) (us all rest : List Tree) (first : all ≡ t ∷ rest) (is : us ≡ unwrapped Lax t)
   where
-    split : (before : List Node) → found_then before (joined (gives us) (gives (all_unwrapped Lax rest)))
+    split : (before : List Node)
+        → found_then before (joined (gives us) (gives (all_unwrapped Lax rest)))
         ≡ found_then before (gives (all_unwrapped Lax all))
     split before =
         ap (λ ts. found_then before (gives (ts ++ all_unwrapped Lax rest))) is
         ∙ ap (λ ts. found_then before (gives (all_unwrapped Lax ts))) (sym first)
 
     pub unwrapped_on : (before found : List Node) (a : Unit {0}) (w : Outcome)
-        → found_then before (gives (all_unwrapped Lax all)) ≡ w → Finds before found (Ok a) (gives us)
+        → found_then before (gives (all_unwrapped Lax all)) ≡ w
+        → Finds before found (Ok a) (gives us)
         → found_then found (gives (all_unwrapped Lax rest)) ≡ w
     unwrapped_on before found a w whole one =
-        onward before found a (gives us) (gives (all_unwrapped Lax rest)) w (split before ∙ whole) one
+        onward before found a (gives us) (gives (all_unwrapped Lax rest)) w
+        (split before ∙ whole) one
 
     pub unwrapped_stops : (before found old : List Node) (x : WalkError) (o : Outcome)
         → found_then before (gives (all_unwrapped Lax all)) ≡ found_then old o
@@ -318,7 +324,8 @@ lists_stop xs x any is us same before found old e o whole one =
     (ap (map node_tree) (first_left xs x any is)) same before found old e o whole one
 
 pub lists_end : (xs : List Node) → length xs < 1 → (found old : List Node) (a : Unit {0})
-    (o : Outcome) → found_then found (gives (all_unwrapped Lax (map node_tree xs))) ≡ found_then old o
+    (o : Outcome) → found_then found (gives (all_unwrapped Lax (map node_tree xs)))
+    ≡ found_then old o
     → Finds old found (Ok a) o
 lists_end xs none found old a o whole =
     unwrapped_end (map node_tree xs) (ap (map node_tree) (nothing_left xs none)) found old a o whole
@@ -379,11 +386,9 @@ pub joined_nothing : (o : Outcome) → joined o (gives []) ≡ o
 joined_nothing o = after_nothing o.values o.error
 
 three_values : (vs us : List Tree) (e : Option PathError) (q : Outcome)
-    → before_end vs None (before_end us e q)
-    ≡ before_end (vs ++ us) e q
+    → before_end vs None (before_end us e q) ≡ before_end (vs ++ us) e q
 three_values vs us None q =
-    ap (λ (ws : List Tree). ended ws q.error)
-    (sym (append_assoc vs us q.values))
+    ap (λ (ws : List Tree). ended ws q.error) (sym (append_assoc vs us q.values))
 three_values vs us (Some e) q = refl
 
 three_ends : (vs : List Tree) (e : Option PathError) (p q : Outcome)
@@ -397,8 +402,7 @@ pub each_end : (step : Tree → Outcome) (ts : List Tree) (end : Option PathErro
     → joined (each step ts None) (ended [] end) ≡ each step ts end
 each_end step [] end = refl
 each_end step (t ∷ ts) end =
-    sym (three_ends (step t).values (step t).error (each step ts None)
-    (ended [] end))
+    sym (three_ends (step t).values (step t).error (each step ts None) (ended [] end))
     ∙ ap (before_end (step t).values (step t).error) (each_end step ts end)
 
 pub ruleset named_values = (member_there, member_missing)

@@ -1,5 +1,6 @@
 -- The variables that parts name, one part after the other.
-use Rattle.std.proofs.Common.{◌≡◌, ℕ, Bool, true, false, List, [], ◌∷◌, ◌++◌, ◌∙◌, ◌≤◌, ap, get_or, length, refl, sym}
+use Rattle.std.proofs.Common.{◌≡◌, ℕ, Bool, true, false, List, [], ◌∷◌, ◌++◌, ◌∙◌, ◌≤◌, ap, get_or}
+use Rattle.std.proofs.Common.{length, refl, sym}
 use Rattle.std.specs.Prelude.{◌&&◌, IsTrue, Option, None, Some}
 use Rattle.std.proofs.lemmas.List.{append-nil}
 use Rattle.jsonb_value.specs.Tree.{Tree}
@@ -88,4 +89,15 @@ module _ (vs : Variables) (nodes : List PathNode) (xs : List Subscript) (d : Sub
       select_step
       ∙ ap (λ b. b && all_given vs (names_select (subscripts_of nodes (later xs)))) e
 
-pub ruleset given_parts = (all_both, test_names, first_names, part_expression, prefix_source, expression_within, test_within, part_at, parts_before, append-nil)
+pub ruleset given_parts = (
+  all_both,
+  test_names,
+  first_names,
+  part_expression,
+  prefix_source,
+  expression_within,
+  test_within,
+  part_at,
+  parts_before,
+  append-nil,
+)

@@ -1,5 +1,6 @@
 -- Whether some pair passes, one after the other.
-use Rattle.std.proofs.Common.{◌≡◌, Bool, true, false, List, [], ◌∷◌, ◌++◌, ◌∙◌, ap, sym, refl, inl, inr}
+use Rattle.std.proofs.Common.{◌≡◌, Bool, true, false, List, [], ◌∷◌, ◌++◌, ◌∙◌, ap, sym, refl, inl}
+use Rattle.std.proofs.Common.{inr}
 use Rattle.std.proofs.Common.{◌≤◌, get_or, length, map}
 use Rattle.std.specs.Prelude.{◌⊎◌, if◌then◌else◌}
 use Rattle.jsonb_value.specs.Tree.{Tree}
@@ -202,7 +203,8 @@ pub row_slice : (mode : Mode) (check : Check) (value : Tree) (xs : List Node) (x
     → 1 ≤ length xs → x ≡ get_or xs 0 x → (v w : Comparand) (t so_far next whole : Truth)
     → v ≡ comparand_of value → w ≡ comparand_of (node_tree x) → t ≡ checked_as check v w
     → next ≡ either_in mode so_far t
-    → either_in mode so_far (some_passes mode (row (checked check value) (map node_tree xs))) ≡ whole
+    → either_in mode so_far (some_passes mode (row (checked check value) (map node_tree xs)))
+    ≡ whole
     → either_in mode next (some_passes mode (row (checked check value) (map node_tree (later xs))))
     ≡ whole
 row_slice mode check value xs x any is v w t so_far next whole left right asked joins h =

@@ -1,5 +1,6 @@
 -- The items from an index to another, one after the other.
-use Rattle.std.proofs.Common.{◌≡◌, ℕ, suc, ℤ, pos, negsuc, ◌+◌, ◌<◌, Bool, true, false, List, [], ◌∷◌, ◌++◌, ◌∙◌}
+use Rattle.std.proofs.Common.{◌≡◌, ℕ, suc, ℤ, pos, negsuc, ◌+◌, ◌<◌, Bool, true, false, List, []}
+use Rattle.std.proofs.Common.{◌∷◌, ◌++◌, ◌∙◌}
 use Rattle.std.proofs.Common.{ap, arith, refl, sym}
 use Rattle.std.specs.Prelude.{◌&&◌, if◌then◌else◌, int_le, int_lt, Ok, Err}
 use Rattle.std.proofs.lemmas.Bool.{lt-leb, lt-ltb, ltb-true}
@@ -25,7 +26,8 @@ one_more at next first last t ts e =
 
 module _ (at : ℕ) (first last : ℤ) (t : Tree) (all rest : List Tree) (split : all ≡ t ∷ rest) where
   whole_is : (before : List Node) (next : ℕ) → next ≡ at + 1
-      → found_then before (joined (gives (taken at first last (t ∷ []))) (gives (taken next first last rest)))
+      → found_then before
+      (joined (gives (taken at first last (t ∷ []))) (gives (taken next first last rest)))
       ≡ found_then before (gives (taken at first last all))
   whole_is before next e =
       ap (λ ts. found_then before (gives ts)) (sym (one_more at next first last t rest e))
@@ -36,8 +38,8 @@ module _ (at : ℕ) (first last : ℤ) (t : Tree) (all rest : List Tree) (split 
       → Finds before found (Ok a) (gives (taken at first last (t ∷ [])))
       → found_then found (gives (taken next first last rest)) ≡ w
   taken_on before found a w next e whole is =
-      onward before found a (gives (taken at first last (t ∷ []))) (gives (taken next first last rest)) w
-      (whole_is before next e ∙ whole) is
+      onward before found a (gives (taken at first last (t ∷ [])))
+      (gives (taken next first last rest)) w (whole_is before next e ∙ whole) is
 
   pub taken_stops : (before found old : List Node) (x : WalkError) (o : Outcome)
       → found_then before (gives (taken at first last all)) ≡ found_then old o

@@ -1,9 +1,11 @@
 -- A walk down, with the values that it has still to visit.
-use Rattle.std.proofs.Common.{◌≡◌, ℕ, suc, ◌+◌, ◌<◌, List, [], ◌∷◌, ◌++◌, ◌∙◌, ap, arith, length, length-append}
+use Rattle.std.proofs.Common.{◌≡◌, ℕ, suc, ◌+◌, ◌<◌, List, [], ◌∷◌, ◌++◌, ◌∙◌, ap, arith, length}
+use Rattle.std.proofs.Common.{length-append}
 use Rattle.std.proofs.Common.{refl, sym}
 use Rattle.std.specs.Prelude.{Option, None, Some, map, option_to_list}
 use Rattle.std.proofs.lemmas.List.{append-nil, append_assoc, length-map, map-append}
-use Rattle.jsonb_value.specs.Tree.{Tree, Trees, no_trees, tree, Pairs, no_pairs, pair, null, boolean}
+use Rattle.jsonb_value.specs.Tree.{Tree, Trees, no_trees, tree, Pairs, no_pairs, pair, null}
+use Rattle.jsonb_value.specs.Tree.{boolean}
 use Rattle.jsonb_value.specs.Tree.{number, text, extension, array, object}
 use Rattle.jsonb.specs.Node as nodes
 use Rattle.jsonb.specs.Node.{pair_list, tree_list}
@@ -41,7 +43,8 @@ children_none t no_items no_members = refl
 
 -- ---- what they give
 
-items_below : (a b : Level) (l : ℕ) (ts : Trees) → below_items a b l ts ≡ below_all a b l (list_of ts)
+items_below : (a b : Level) (l : ℕ) (ts : Trees) → below_items a b l ts
+    ≡ below_all a b l (list_of ts)
 items_below a b l no_trees = refl
 items_below a b l (tree t ts) =
     ap (λ us. meant a b (suc l) t ++ (below a b (suc l) t ++ us)) (items_below a b l ts)
@@ -105,7 +108,8 @@ module _ (a b : Level) (stack : List (List Tree)) (t : Tree) (all rest : List Tr
       let d = below a b (suc n) t in
       let r = below_all a b n rest in
       let s = stack_below a b 0 stack in
-      let longer : length (stack ++ (rest ∷ [])) ≡ suc n = omega (arith, length-append {A = List Tree}) in
+      let longer : length (stack ++ (rest ∷ [])) ≡ suc n =
+      omega (arith, length-append {A = List Tree}) in
       ap (λ ts. stack_below a b 0 (stack ++ (ts ∷ []))) first
       ∙ last_of a b stack (t ∷ rest)
       ∙ append_assoc m (d ++ r) s

@@ -3,17 +3,67 @@
 ghost use Rattle.std.specs.Prelude.{◌≡◌, IfOk, IsTrue, map};
 ghost use Rattle.jsonb.specs.Node.{member_tree, node_tree};
 ghost use Rattle.jsonb_path.specs.Found.{outcome_of};
-ghost use Rattle.jsonb_path.specs.Meaning.{is_lax};
+ghost use Rattle.jsonb_path.specs.Meaning.{exists_in, is_lax};
 ghost use Rattle.jsonb_path.specs.PathParts.{are_parts};
 ghost use Rattle.jsonb_path.specs.PathTree.{path_means};
 
+use crate::compare::Truth;
 use crate::follow::follow_at;
 use crate::given::given_at;
 use crate::outcome::Outcome;
-use crate::path::{Mode, Part, PathError};
+use crate::pairs::exists_in;
+use crate::path::{Mode, Part, Path, PathError};
 use crate::place::Place;
-use jsonb::Node;
+use jsonb::{Document, Error, Node};
 use std::alloc::{AllocError, Global};
+
+impl Path {
+    ghost use Rattle.std.specs.Prelude.{IfErr};
+    ghost use Rattle.jsonb.specs.Document.{document_tree};
+
+    /// What the path gives of a document with these variables, each after its name: values, and the
+    /// error by which the path is given up after them, if there is one. All variables that the path
+    /// names are looked for first: `UndefinedVariable` without a value if one is not given.
+    /// `OutOfMemory` is the only error of the call.
+    pub fn query<'a>(
+        &'a self,
+        alloc: Global,
+        document: Document<'a>,
+        variables: &'a [(&'a str, Node<'a>)],
+    ) -> Result<Outcome<'a>, Error>
+        ensures ok { IfOk result (λ outcome. outcome_of outcome ≡ path_means self.now
+            (map member_tree variables.now) (document_tree document.entry)) }
+        ensures memory { IfErr result (λ e. e ≡ Error.OutOfMemory) }
+    {
+        match follow_whole(
+            alloc,
+            self.mode(),
+            self.parts(),
+            document.value(),
+            variables,
+        ) {
+            Ok(outcome) => Ok(outcome),
+            Err(_) => Err(Error::OutOfMemory),
+        }
+    }
+
+    /// Whether the path gives a value of a document: `Unknown` if it is given up by an error,
+    /// unless it passes over what is not there and a value comes before the error. `OutOfMemory` is
+    /// the only error of the call.
+    pub fn exists<'a>(
+        &'a self,
+        alloc: Global,
+        document: Document<'a>,
+        variables: &'a [(&'a str, Node<'a>)],
+    ) -> Result<Truth, Error>
+        ensures ok { IfOk result (λ truth. truth ≡ exists_in self.now.mode (path_means self.now
+            (map member_tree variables.now) (document_tree document.entry))) }
+        ensures memory { IfErr result (λ e. e ≡ Error.OutOfMemory) }
+    {
+        let outcome = self.query(alloc, document, variables)?;
+        Ok(exists_in(self.mode(), &outcome))
+    }
+}
 
 // What the parts of a path give of a document: all variables are looked for first.
 #[tactic(auto, using(crate::proofs::PathTextLaws::path_parts))]

@@ -55,7 +55,8 @@ append_each-loop-left-preserved t c =
 
 pub filter-loop-unit-preserved : goal.filter-loop-unit-preserved
 filter-loop-unit-preserved t c =
-    step_on (filtered_by (place_of c.args.place.now) (test_at (nodes_of c.args.parts.now) c.args.test))
+    step_on
+    (filtered_by (place_of c.args.place.now) (test_at (nodes_of c.args.parts.now) c.args.test))
     (node_tree c.in-Some.unit) (left_of c.loop-unit.units) (left_of c.next_unit.new.self)
     c.in-Some.ensures c.loop-unit.found.items c.append_if.new.found.items
     c.in_ok-append_if.field-0 _ c.loop-unit.invariant c.in_ok-append_if.ensures

@@ -3,7 +3,8 @@ use Rattle.std.proofs.Common.{◌≡◌, ◌+◌, ◌*◌, length}
 use Rattle.std.specs.Prelude.{IsTrue, None, map}
 use Rattle.std.specs.List.{list_all}
 use Rattle.jsonb.specs.Node.{node_tree}
-use Rattle.jsonb_path.specs.Found.{filtered_by, found_then, left_of, outcome_of, place_of, selected_in}
+use Rattle.jsonb_path.specs.Found.{filtered_by, found_then, left_of, outcome_of, place_of}
+use Rattle.jsonb_path.specs.Found.{selected_in}
 use Rattle.jsonb_path.specs.Meaning.{access, along, each, items_of}
 use Rattle.jsonb_path.specs.PathParts.{is_accessor, is_subscript}
 use Rattle.jsonb_path.specs.PathTree.{accessor_of, accessors_of, nodes_of, subscripts_of, test_at}
@@ -56,7 +57,8 @@ decreases-follow l = 16 * length l.parts.now + 11
 abbrev pub invariant-along-loop-left : goal.invariant-along-loop-left
 invariant-along-loop-left l = record {
   all : IsTrue (list_all (is_accessor l.fn.parts) l.left);
-  whole : along (place_of l.place) (accessors_of (nodes_of l.fn.parts) l.left) (outcome_of l.outcome)
+  whole : along (place_of l.place) (accessors_of (nodes_of l.fn.parts) l.left)
+      (outcome_of l.outcome)
       ≡ along (place_of l.fn.place) (accessors_of (nodes_of l.fn.parts) l.fn.accessors)
       (outcome_of l.fn.start);
 }
