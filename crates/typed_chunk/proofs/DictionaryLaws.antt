@@ -4,11 +4,14 @@ use Rattle.std.proofs.Common.{Option, Some, None, length, map, replicate, refl, 
 use Rattle.std.proofs.Common.{ap₂, ◌∙◌}
 use Rattle.std.specs.List.{list_all}
 use Rattle.std.specs.Prelude.{if◌then◌else◌, nat_lt, not}
+use Rattle.std.proofs.lemmas.Bool.{cases_Bool, ltb-true}
 use Rattle.std.proofs.lemmas.List.{length-map}
-use Rattle.typed_chunk.specs.Dictionary.{dictionary_bytes, dictionary_fault}
+use Rattle.std.proofs.lemmas.List.Sums.{AllPass-from_list_all}
+use Rattle.std.proofs.Common.{All, arith, drop, get_or, inl, inr, subst, ◌<◌, ◌≤◌}
+use Rattle.typed_chunk.specs.Dictionary.{dictionary_bytes, dictionary_fault, entry_bytes}
 use Rattle.typed_chunk.specs.Digits.{digits, number}
 use Rattle.typed_chunk.specs.Headed.{first_fault}
-use Rattle.typed_chunk.specs.Packed.{ArePacked, codes_fault, least_width, packed}
+use Rattle.typed_chunk.specs.Packed.{AreCodes, ArePacked, codes_fault, least_width, packed}
 use Rattle.typed_chunk.specs.Places.{all_used, are_zeros, places_fault, texts_ascend}
 use Rattle.typed_chunk.specs.Texts.{text_bytes}
 use Rattle.typed_chunk.specs.TextReading.{are_blank, with_beginning}
@@ -16,7 +19,8 @@ use Rattle.typed_chunk.specs.declared.fault.ChunkFault.{ChunkFault}
 use Rattle.typed_chunk.specs.declared.fault.ChunkFault.TheVariants.{EntriesNotAscending}
 use Rattle.typed_chunk.specs.declared.fault.ChunkFault.TheVariants.{EntryOfNoRow, NoSuchEntry}
 use Rattle.typed_chunk.specs.declared.fault.ChunkFault.TheVariants.{PlaceOfNoValue}
-use Rattle.typed_chunk.proofs.PlaceLaws.{texts_ascend-front}
+use Rattle.typed_chunk.proofs.HeadedLaws.{least_fits, some_not_none}
+use Rattle.typed_chunk.proofs.PlaceLaws.{check_below, texts_ascend-front}
 use Rattle.typed_chunk.proofs.UnpackedLaws.{written}
 use Rattle.typed_vector.specs.ZoneMap.{set_values}
 
@@ -99,3 +103,44 @@ bytes_of entries codes all count width many are is =
     ap₂ (λ (bs : List Bool) (w : ℕ). (count - 1) ∷ (text_bytes entries bs ++ packed w codes)) are is
     ∙ ap (λ (n : ℕ). (n - 1) ∷ (text_bytes entries (replicate n true)
     ++ packed (least_width (n - 1)) codes)) (sym many)
+
+-- Places that are all right are below the number of entries, and fit its width.
+places_below : (entries : List (List ℕ)) (places : List ℕ) (has : List Bool)
+    → places_fault entries places has ≡ None → All (λ place. place < length entries) places
+places_below entries places has none =
+    let inside = list_all (λ place. nat_lt place (length entries)) places in
+    elim (cases_Bool (texts_ascend entries)) [
+      | inr down ↦
+          let left : places_fault entries places has ≡ Some EntriesNotAscending = rw down refl in
+          absurd (some_not_none (sym left ∙ none))
+      | inl up ↦ elim (cases_Bool inside) [
+        | inr out ↦
+            absurd (some_not_none (sym (check_below entries places has (length entries) refl up out)
+            ∙ none))
+        | inl low ↦ λ k d within.
+            ltb-true (get_or places k d) (length entries)
+            (AllPass-from_list_all (λ place. nat_lt place (length entries)) places low k d within)
+      ]
+    ]
+
+pub are_packed : (entries : List (List ℕ)) (places : List ℕ) (has : List Bool)
+    (behind : List ℕ) (width count : ℕ) → length entries ≡ count → 0 < count → count ≤ 256
+    → width ≡ least_width (count - 1) → places_fault entries places has ≡ None
+    → behind ≡ packed (least_width (length entries - 1)) places → ArePacked width places behind
+are_packed entries places has behind width count many some few is none same =
+    let below = places_below entries places has none in
+    let low : count - 1 < 2 ^ 64 = omega (arith, few) in
+    let fits = least_fits (count - 1) low in
+    let fit : AreCodes (least_width (count - 1)) places =
+    λ k d inside. omega (arith, below k d inside, fits.low, many, some) in
+    record {
+      fit = subst (λ w. AreCodes w places) (sym is) fit;
+      same = same ∙ ap (λ (w : ℕ). packed w places)
+          (ap (λ (n : ℕ). least_width (n - 1)) many ∙ sym is);
+    }
+
+-- A dictionary that was written says where its entries are.
+pub entries_behind : (bytes : List ℕ) (entries : List (List ℕ)) (places : List ℕ)
+    → bytes ≡ dictionary_bytes entries places
+    → drop 1 bytes ≡ entry_bytes entries ++ packed (least_width (length entries - 1)) places
+entries_behind bytes entries places is = ap (drop 1) is

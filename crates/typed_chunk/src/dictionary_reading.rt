@@ -2,8 +2,9 @@
 
 ghost use Rattle.std.specs.Prelude.{◌≡◌, ◌<◌, ◌^◌, ◌+◌, ◌++◌, ℕ, IfOk, List, Some, drop, get_or};
 ghost use Rattle.std.specs.Prelude.{length};
-ghost use Rattle.std.specs.Prelude.{replicate, true};
+ghost use Rattle.std.specs.Prelude.{IsOk, None, replicate, true};
 ghost use Rattle.std.specs.Result.{result_err};
+ghost use Rattle.typed_chunk.specs.Places.{places_fault};
 ghost use Rattle.typed_chunk.specs.Dictionary.{dictionary_bytes, dictionary_fault, entry_bytes};
 ghost use Rattle.typed_chunk.specs.Texts.{AreSpans};
 ghost use Rattle.typed_chunk.specs.TextReading.{texts_fault, with_beginning};
@@ -52,6 +53,12 @@ pub fn read_dictionary<'a>(
     ensures fault { (entries : List (List ℕ)) (rest : List ℕ) → length entries ≡ length all.old
         → drop 1 bytes.now ≡ entry_bytes entries ++ rest
         → result_err result ≡ dictionary_fault entries has.now rest }
+    ensures back { (entries : List (List ℕ)) (items : List ℕ) → length entries ≡ length all.old
+        → length items ≡ length has.now → places_fault entries items has.now ≡ None
+        → bytes.now ≡ dictionary_bytes entries items
+        → IsOk result × (places.new ≡ items) × IfOk result (λ read. with_beginning
+        read.start.now (rows read.tails.now offsets.new) (replicate (length all.old) true)
+        ≡ entries) }
     ensures spans { IfOk result (λ read. AreSpans (length read.tails.now) offsets.new) }
     ensures ok { IfOk result (λ read. bytes.now ≡ dictionary_bytes
         (with_beginning read.start.now (rows read.tails.now offsets.new)

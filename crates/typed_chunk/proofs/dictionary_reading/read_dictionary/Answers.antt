@@ -5,10 +5,13 @@ use Rattle.std.specs.Result.{result_err}
 use Rattle.std.proofs.lemmas.Bool.{false≢true}
 use Rattle.typed_chunk.specs.Dictionary.{dictionary_bytes}
 use Rattle.typed_chunk.specs.Flags.{some_has}
-use Rattle.typed_chunk.specs.Packed.{bits, least_width}
+use Rattle.typed_chunk.specs.Packed.{bits, least_width, packed}
+use Rattle.typed_chunk.specs.Places.{places_fault}
 use Rattle.typed_chunk.specs.Texts.{text_bytes}
 use Rattle.typed_chunk.specs.TextReading.{are_blank, texts_fault, with_beginning}
-use Rattle.typed_chunk.proofs.DictionaryLaws.{all_blank, bytes_of, codes_left, places_left}
+use Rattle.typed_chunk.proofs.DictionaryLaws.{all_blank, are_packed, bytes_of, codes_left}
+use Rattle.typed_chunk.proofs.DictionaryLaws.{entries_behind, places_front, places_left}
+use Rattle.std.proofs.Common.{refl}
 use Rattle.typed_chunk.proofs.FlagLaws.{some-true}
 use Rattle.typed_chunk.proofs.FlagReadLaws.{first_rest}
 use Rattle.typed_chunk.proofs.HeadedLaws.{some_not_none}
@@ -178,3 +181,84 @@ returns-clause-ok c =
     ∙ bytes_of entries places all count (bits c.of.result) size c.set_all.ensures wide
     ∙ ap (λ (bs : List Bool). dictionary_bytes (with_beginning start tails bs) places)
     c.set_all.ensures
+
+pub returns-in_err-read-clause-back : goal.returns-in_err-read-clause-back
+returns-in_err-read-clause-back c = λ entries items many each none is.
+    let count = length c.args.all.now in
+    let all = c.set_all.new.has in
+    let rest = packed (least_width (length entries - 1)) items in
+    let back = c.in_err-read.ensures.back entries rest (many ∙ sym c.set_all.auto.has)
+    (ap (are_blank entries) c.set_all.ensures ∙ all_blank entries count)
+    (behind_first c.args.bytes.now c.behind.result.now rest entries all count c.behind.ensures
+    c.set_all.ensures many (entries_behind c.args.bytes.now entries items is)) in
+    absurd (false≢true back.0)
+
+pub returns-in_err-read_codes-clause-back : goal.returns-in_err-read_codes-clause-back
+returns-in_err-read_codes-clause-back c = λ entries items many each none is.
+    let count = length c.args.all.now in
+    let all = c.set_all.new.has in
+    let rest = packed (least_width (length entries - 1)) items in
+    let back = c.in_ok-read.ensures.back entries rest (many ∙ sym c.set_all.auto.has)
+    (ap (are_blank entries) c.set_all.ensures ∙ all_blank entries count)
+    (behind_first c.args.bytes.now c.behind.result.now rest entries all count c.behind.ensures
+    c.set_all.ensures many (entries_behind c.args.bytes.now entries items is)) in
+    let wide : bits c.of.result ≡ least_width (count - 1) =
+    c.of.ensures.is ∙ ap (λ (n : ℕ). least_width (n - 1)) c.set_all.auto.has in
+    let are = are_packed entries items c.args.has.now c.in_ok-read.read.rest.now
+    (bits c.of.result) count many (omega (arith, c.requires.entries))
+    (omega (arith, c.requires.entries, c.type_inv.bytes 0)) wide none back.1.1 in
+    let codes = c.in_err-read_codes.ensures.back items (each ∙ sym c.requires.rows) are in
+    absurd (false≢true codes.0)
+
+pub returns-in_err-check_places-clause-back : goal.returns-in_err-check_places-clause-back
+returns-in_err-check_places-clause-back c = λ entries items many each none is.
+    let count = length c.args.all.now in
+    let all = c.set_all.new.has in
+    let rest = packed (least_width (length entries - 1)) items in
+    let back = c.in_ok-read.ensures.back entries rest (many ∙ sym c.set_all.auto.has)
+    (ap (are_blank entries) c.set_all.ensures ∙ all_blank entries count)
+    (behind_first c.args.bytes.now c.behind.result.now rest entries all count c.behind.ensures
+    c.set_all.ensures many (entries_behind c.args.bytes.now entries items is)) in
+    let wide : bits c.of.result ≡ least_width (count - 1) =
+    c.of.ensures.is ∙ ap (λ (n : ℕ). least_width (n - 1)) c.set_all.auto.has in
+    let are = are_packed entries items c.args.has.now c.in_ok-read.read.rest.now
+    (bits c.of.result) count many (omega (arith, c.requires.entries))
+    (omega (arith, c.requires.entries, c.type_inv.bytes 0)) wide none back.1.1 in
+    let tails = rows c.in_ok-read.read.tails.now c.read_texts.new.offsets in
+    let ends : length tails ≡ count =
+    omega (
+      arith,
+      many_spans c.in_ok-read.read.tails.now c.read_texts.new.offsets c.in_ok-read.ensures.spans,
+      c.read_texts.auto.offsets,
+      c.requires.ends,
+    ) in
+    let codes = c.in_ok-read_codes.ensures.back items (each ∙ sym c.requires.rows) are in
+    let start = c.in_ok-read.read.start.now in
+    absurd (some_not_none (c.in_err-check_places.ensures
+    ∙ places_front start tails c.read_codes.new.codes c.args.has.now count ends
+    ∙ ap₂ (λ (es : List (List ℕ)) (ps : List ℕ). places_fault es ps c.args.has.now)
+    (ap (λ (bs : List Bool). with_beginning start tails bs) (sym c.set_all.ensures) ∙ back.1.0)
+    codes.1
+    ∙ none))
+
+pub returns-clause-back : goal.returns-clause-back
+returns-clause-back c = λ entries items many each none is.
+    let count = length c.args.all.now in
+    let all = c.set_all.new.has in
+    let rest = packed (least_width (length entries - 1)) items in
+    let back = c.in_ok-read.ensures.back entries rest (many ∙ sym c.set_all.auto.has)
+    (ap (are_blank entries) c.set_all.ensures ∙ all_blank entries count)
+    (behind_first c.args.bytes.now c.behind.result.now rest entries all count c.behind.ensures
+    c.set_all.ensures many (entries_behind c.args.bytes.now entries items is)) in
+    let wide : bits c.of.result ≡ least_width (count - 1) =
+    c.of.ensures.is ∙ ap (λ (n : ℕ). least_width (n - 1)) c.set_all.auto.has in
+    let are = are_packed entries items c.args.has.now c.in_ok-read.read.rest.now
+    (bits c.of.result) count many (omega (arith, c.requires.entries))
+    (omega (arith, c.requires.entries, c.type_inv.bytes 0)) wide none back.1.1 in
+    let codes = c.in_ok-read_codes.ensures.back items (each ∙ sym c.requires.rows) are in
+    let tails = rows c.in_ok-read.read.tails.now c.read_texts.new.offsets in (
+      refl,
+      codes.1,
+      ap (λ (bs : List Bool). with_beginning c.in_ok-read.read.start.now tails bs)
+          (sym c.set_all.ensures) ∙ back.1.0,
+    )

@@ -4,7 +4,6 @@ use Rattle.std.proofs.lemmas.List.{get_or-replicate, get_or_default, length-repl
 use Rattle.std.proofs.lemmas.List.{take_all}
 use Rattle.typed_vector.specs.ZoneMap.{set_values}
 use Rattle.typed_vector.proofs.BlockLaws.{set_values-set, set_values-unset}
-use Rattle.typed_chunk.specs.Flags.{all_have}
 use Rattle.typed_chunk.specs.Places.{all_used, is_used}
 use Rattle.typed_chunk.proofs.PlaceLaws.{mark_more, marks_all}
 use Rattle.typed_chunk.proofs.places.all_used.Goals as goal
