@@ -16,7 +16,7 @@ use Rattle.jsonb_path.specs.declared.path.Subscript.{Subscript}
 use Rattle.jsonb_path.specs.declared.path.Test.{Test}
 use Rattle.jsonb_path.specs.declared.path.Test.TheVariants as tests
 use Rattle.jsonb_path.specs.Grammar.{literal_number, number_alone}
-use Rattle.jsonb_path.specs.Growth.{Grows}
+use Rattle.jsonb_path.specs.Growth.{PartsGrow}
 use Rattle.jsonb_path.specs.PathParts.{are_parts_after, is_accessor, is_expression, is_part}
 use Rattle.jsonb_path.specs.PathParts.{is_expression_if, is_prefix, is_source, is_subscript, is_test}
 use Rattle.jsonb_path.specs.PathTree.{PathNode, accessor_of, accessors_of, expression, node_at}
@@ -116,35 +116,35 @@ part_stays ps more (parts.Test (tests.Exists i)) h = expression_stays ps more i 
 
 -- ---- parts that have grown
 
-agree : (a b : List Part) → Grows a b → Agree (length a) (nodes_of b) (nodes_of a)
+agree : (a b : List Part) → PartsGrow a b → Agree (length a) (nodes_of b) (nodes_of a)
 unfolding Agree
 agree a b g i less = ap (λ qs. node_at (nodes_of qs) i) g.is ∙ node_stays a g.more i less
 
-pub grown_part : (a b : List Part) (p : Part) → Grows a b → IsTrue (is_part a p)
+pub grown_part : (a b : List Part) (p : Part) → PartsGrow a b → IsTrue (is_part a p)
     → IsTrue (is_part b p)
 grown_part a b p g h = subst (λ qs. IsTrue (is_part qs p)) (sym g.is) (part_stays a g.more p h)
 
-pub grown_part_node : (a b : List Part) (p : Part) → Grows a b → IsTrue (is_part a p)
+pub grown_part_node : (a b : List Part) (p : Part) → PartsGrow a b → IsTrue (is_part a p)
     → node_of (nodes_of b) p ≡ node_of (nodes_of a) p
 grown_part_node a b p g h = same_node a (nodes_of b) (nodes_of a) (agree a b g) p h
 
-pub grown_accessor : (a b : List Part) (x : Accessor) → Grows a b → IsTrue (is_accessor a x)
+pub grown_accessor : (a b : List Part) (x : Accessor) → PartsGrow a b → IsTrue (is_accessor a x)
     → IsTrue (is_accessor b x)
 grown_accessor a b x g h =
     subst (λ qs. IsTrue (is_accessor qs x)) (sym g.is) (accessor_stays a g.more x h)
 
-pub grown_accessor_of : (a b : List Part) (x : Accessor) → Grows a b → IsTrue (is_accessor a x)
+pub grown_accessor_of : (a b : List Part) (x : Accessor) → PartsGrow a b → IsTrue (is_accessor a x)
     → accessor_of (nodes_of b) x ≡ accessor_of (nodes_of a) x
 grown_accessor_of a b x g h = same_accessor a (nodes_of b) (nodes_of a) (agree a b g) x h
 
-pub grown_subscripts : (a b : List Part) (ss : List Subscript) → Grows a b
+pub grown_subscripts : (a b : List Part) (ss : List Subscript) → PartsGrow a b
     → IsTrue (list_all (is_subscript a) ss) → IsTrue (list_all (is_subscript b) ss)
 grown_subscripts a b ss g h =
     subst (λ qs. IsTrue (list_all (is_subscript qs) ss)) (sym g.is)
     (all_stay (is_subscript a) (is_subscript (a ++ g.more)) ss
     (λ s k. subscript_stays a g.more s k) h)
 
-pub grown_subscripts_of : (a b : List Part) (ss : List Subscript) → Grows a b
+pub grown_subscripts_of : (a b : List Part) (ss : List Subscript) → PartsGrow a b
     → IsTrue (list_all (is_subscript a) ss)
     → subscripts_of (nodes_of b) ss ≡ subscripts_of (nodes_of a) ss
 grown_subscripts_of a b ss g h =
@@ -152,7 +152,7 @@ grown_subscripts_of a b ss g h =
 
 -- ---- what names no part
 
-from_none : (ps : List Part) → IsTrue (are_parts_after [] ps) → Grows [] ps
+from_none : (ps : List Part) → IsTrue (are_parts_after [] ps) → PartsGrow [] ps
 from_none ps h = record { more = ps; is = refl; parts = h }
 
 pub source_anywhere : (ps : List Part) (s : Source) → IsTrue (are_parts_after [] ps)
@@ -190,7 +190,7 @@ pub number_without_steps : (nodes : List PathNode) (p : Primary) (steps : List A
 number_without_steps nodes p [] h = refl
 number_without_steps nodes p (a ∷ steps) h = absurd (omega arith)
 
-pub grown_parts : (a b : List Part) → Grows a b → IsTrue (are_parts_after [] b)
+pub grown_parts : (a b : List Part) → PartsGrow a b → IsTrue (are_parts_after [] b)
 grown_parts a b g = g.parts
 
 pub ruleset grammar = (

@@ -13,7 +13,7 @@ use Rattle.jsonb_path.specs.declared.path.Part.TheVariants as parts
 use Rattle.jsonb_path.specs.declared.path.Source.TheVariants as sources
 use Rattle.jsonb_path.specs.declared.path.Subscript.{Subscript}
 use Rattle.jsonb_path.specs.Grammar.{accessors_and, subscripts_and}
-use Rattle.jsonb_path.specs.Growth.{Grows, is_operand}
+use Rattle.jsonb_path.specs.Growth.{PartsGrow, is_operand}
 use Rattle.jsonb_path.specs.PathParts.{are_parts_after, is_expression, is_part}
 use Rattle.jsonb_path.specs.PathParts.{is_source, is_test}
 use Rattle.jsonb_path.specs.PathTree.{PathNode, accessor_of, accessors_of, expression}
@@ -100,7 +100,7 @@ one_more before (q ∷ ps) p h k =
 
 -- a part that is appended
 pub pushed_grows : (before after : List Part) (p : Part) → IsTrue (are_parts_after [] before)
-    → IsTrue (is_part before p) → after ≡ before ++ (p ∷ []) → Grows before after
+    → IsTrue (is_part before p) → after ≡ before ++ (p ∷ []) → PartsGrow before after
 pushed_grows before after p h k e = record {
   more = p ∷ [];
   is = e;
@@ -127,22 +127,22 @@ pushed_source before after p i e f =
 
 -- ---- parts that have grown
 
-pub grown_same : (ps : List Part) → IsTrue (are_parts_after [] ps) → Grows ps ps
+pub grown_same : (ps : List Part) → IsTrue (are_parts_after [] ps) → PartsGrow ps ps
 grown_same ps h = record { more = []; is = sym (append-nil ps); parts = h }
 
-pub grown_twice : (a b c : List Part) → Grows a b → Grows b c → Grows a c
+pub grown_twice : (a b c : List Part) → PartsGrow a b → PartsGrow b c → PartsGrow a c
 grown_twice a b c g h = record {
   more = g.more ++ h.more;
   is = h.is ∙ ap (λ qs. qs ++ h.more) g.is ∙ append_assoc a g.more h.more;
   parts = h.parts;
 }
 
-pub grown_operand : (wanted : Bool) (a b : List Part) (i : ℕ) → Grows a b
+pub grown_operand : (wanted : Bool) (a b : List Part) (i : ℕ) → PartsGrow a b
     → IsTrue (is_operand wanted a i) → IsTrue (is_operand wanted b i)
 grown_operand wanted a b i g h =
     subst (λ qs. IsTrue (is_operand wanted qs i)) (sym g.is) (operand_stays wanted a g.more i h)
 
-pub grown_node : (wanted : Bool) (a b : List Part) (i : ℕ) → Grows a b
+pub grown_node : (wanted : Bool) (a b : List Part) (i : ℕ) → PartsGrow a b
     → IsTrue (is_operand wanted a i) → node_at (nodes_of b) i ≡ node_at (nodes_of a) i
 grown_node wanted a b i g h =
     ap (λ qs. node_at (nodes_of qs) i) g.is

@@ -15,8 +15,10 @@ pub mod PartLaws
 pub mod PathTextLaws
 pub mod PathTreeLaws
 pub mod RaisedLaws
+pub mod ReadLaws
 pub mod TakenLaws
 pub mod TokenLaws
 pub mod TurnLaws
 pub mod VisitLaws
 pub mod WholeLaws
+pub mod WholePathLaws

@@ -1,5 +1,5 @@
 -- Steps that each make something smaller end, however many turns they are given.
-use Rattle.std.proofs.Common.{◌≡◌, ℕ, zero, suc, ◌<◌, refl, arith}
+use Rattle.std.proofs.Common.{◌≡◌, ◌∙◌, ℕ, zero, suc, ◌<◌, ap, refl, arith, sym}
 use Rattle.jsonb_path.specs.Turns.{Turn, ends_with, goes_on, after_turn, turns}
 
 -- What a turn keeps: of where it goes on, or of the result.
@@ -44,3 +44,42 @@ turn step none size smaller x =
     same_after (turns step none (size x)) (λ y. turns step none (suc (size y)) y) (step x)
     (λ y e. let less : size y < size x = smaller x y e in
     same_turns step none size smaller (size x) (suc (size y)) y (omega arith) (omega arith))
+
+-- ---- turns that each were seen to make something smaller
+
+-- Turns from here lead to the result, and there are enough of them.
+pub record Leads {X Y : Type 0} (step : X → Turn X Y) (none total : Y) (x : X) (size : ℕ)
+    : Type 0 where
+  pub count : ℕ
+  pub enough : size < count
+  pub rest : turns step none count x ≡ total
+
+pub leads_begin : {X Y : Type 0} (step : X → Turn X Y) (none : Y) (x : X) (size : ℕ)
+    → Leads step none (turns step none (suc size) x) x size
+leads_begin step none x size = record { count = suc size; enough = omega arith; rest = refl }
+
+counted_turn : {X Y : Type 0} (step : X → Turn X Y) (none total : Y) (x : X) (size : ℕ)
+    (t : Turn X Y) → step x ≡ t → (count : ℕ) → size < count → turns step none count x ≡ total
+    → (n : ℕ) × (size < suc n) × (after_turn (turns step none n) t ≡ total)
+counted_turn step none total x size t e zero less rest = absurd (omega arith)
+counted_turn step none total x size t e (suc n) less rest =
+    (n, less, ap (after_turn (turns step none n)) (sym e) ∙ rest)
+
+one_turn : {X Y : Type 0} (step : X → Turn X Y) (none total : Y) (x : X) (size : ℕ) (t : Turn X Y)
+    → step x ≡ t → Leads step none total x size
+    → (n : ℕ) × (size < suc n) × (after_turn (turns step none n) t ≡ total)
+one_turn step none total x size t e h =
+    counted_turn step none total x size t e h.count h.enough h.rest
+
+pub leads_on : {X Y : Type 0} (step : X → Turn X Y) (none total : Y) (x y : X) (size less : ℕ)
+    → Leads step none total x size → step x ≡ goes_on y → less < size
+    → Leads step none total y less
+leads_on step none total x y size less h e smaller =
+    let one = one_turn step none total x size (goes_on y) e h in
+    let enough : size < suc one.0 = one.1 in
+    record { count = one.0; enough = omega arith; rest = one.2 }
+
+pub leads_end : {X Y : Type 0} (step : X → Turn X Y) (none total : Y) (x : X) (size : ℕ) (y : Y)
+    → Leads step none total x size → step x ≡ ends_with y → total ≡ y
+leads_end step none total x size y h e =
+    let one = one_turn step none total x size (ends_with y) e h in sym one.2

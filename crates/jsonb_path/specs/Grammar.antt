@@ -363,12 +363,17 @@ deeper (suc n) r scope ts = ranked (deeper n) r scope ts
 abbrev pub top_scope : Scope
 top_scope = record { in_filter = false; in_subscript = false }
 
+abbrev pub lax_front : List Lexeme → Option (List Lexeme) → Mode × List Lexeme
+lax_front ts None = (Lax, ts)
+lax_front ts (Some rest) = (Lax, rest)
+
+abbrev pub strict_or_lax : List Lexeme → Option (List Lexeme) → Mode × List Lexeme
+strict_or_lax ts None = lax_front ts (after_word (codes "lax") ts)
+strict_or_lax ts (Some rest) = (Strict, rest)
+
 -- `strict`, `lax` or neither, which is lax.
 abbrev pub mode_front : List Lexeme → Mode × List Lexeme
-mode_front (word s ∷ ts) =
-    if is_word (codes "strict") s then (Strict, ts)
-    else if is_word (codes "lax") s then (Lax, ts) else (Lax, word s ∷ ts)
-mode_front ts = (Lax, ts)
+mode_front ts = strict_or_lax ts (after_word (codes "strict") ts)
 
 abbrev pub query_if_end : Mode → PathNode × List Lexeme → Option Query
 query_if_end mode (n, []) = Some (record { mode = mode; tree = as_expression n })

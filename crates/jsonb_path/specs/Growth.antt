@@ -4,7 +4,7 @@ use Rattle.jsonb_path.specs.declared.path.Part.{Part}
 use Rattle.jsonb_path.specs.PathParts.{are_parts_after, is_expression, is_test}
 
 -- More parts are after those before, and each names parts before it.
-pub record Grows (before after : List Part) : Type 0 where
+pub record PartsGrow (before after : List Part) : Type 0 where
   pub more : List Part
   pub is : after ≡ before ++ more
   pub parts : IsTrue (are_parts_after [] after)

@@ -15,6 +15,7 @@ pub mod Numeral
 pub mod PathParts
 pub mod PathText
 pub mod PathTree
+pub mod Refusal
 pub mod Syntax
 pub mod Token
 pub mod Turns

@@ -28,3 +28,4 @@ pub use path::{
     Accessor, Level, Literal, Method, Mode, Operator, Part, Path, PathError, Sign, Source,
     Subscript, Test,
 };
+pub use read::{Expected, LeftOut};

@@ -1,14 +1,20 @@
 //! A path, read: what it asks.
 
-ghost use Rattle.std.specs.Prelude.{◌≡◌, IsTrue};
+ghost use Rattle.std.specs.Prelude.{◌≡◌, [], IfOk, IsTrue, chars};
 ghost use Rattle.std.specs.List.{list_all};
 ghost use Rattle.jsonb_path.specs.Meaning.{operated, signed_as};
-ghost use Rattle.jsonb_path.specs.PathParts.{are_parts, is_accessor, is_expression, is_part};
+ghost use Rattle.jsonb_path.specs.Grammar.{path_of_text};
+ghost use Rattle.jsonb_path.specs.PathParts.{are_parts, are_parts_after, is_accessor, is_expression, is_part};
 ghost use Rattle.jsonb_path.specs.PathParts.{is_prefix, is_source, is_subscript, is_test, made_of};
+ghost use Rattle.jsonb_path.specs.PathTree.{as_expression, node_of, nodes_of, query_of};
+ghost use Rattle.jsonb_path.specs.Unread.{ParsesText};
 
 use crate::compare::Comparison;
 use crate::number::{NumberError, add, multiply, negate, remainder, subtract};
+use crate::read::read_path;
+use crate::token::ReadError;
 use jsonb_value::Number;
+use std::alloc::{AllocError, Global};
 use std::marker::Model;
 
 /// Whether a path passes over what is not there (`Lax`) or refuses it (`Strict`).
@@ -48,6 +54,31 @@ impl Path {
         } else {
             None
         }
+    }
+
+    /// The path of a text, as PostgreSQL reads a `jsonpath`: `Refused` if the text is none, or its
+    /// parentheses, filters, subscripts and signs nest in more than 256 levels; `OutOfMemory` if an
+    /// allocation fails. Left out are `/`, `like_regex`, `.double()`, `.datetime()`, and numbers
+    /// past 128 bits or a scale of 255.
+    pub fn of_text(alloc: Global, text: &str) -> Result<Path, ReadError>
+        ensures { ParsesText (λ path. query_of path) result (path_of_text (chars text.now)) }
+    {
+        read_path(alloc, text)
+    }
+
+    // The path of these parts and a last one.
+    #[tactic(auto, using(crate::proofs::WholePathLaws::paths))]
+    pub(crate) fn of_parts(mode: Mode, parts: Vec<Part>, last: Part) -> Result<Path, AllocError>
+        requires parts { IsTrue (are_parts_after [] parts.items) }
+        requires last { IsTrue (is_part parts.items last) }
+        ensures { IfOk result (λ path. query_of path ≡ record {
+          mode = mode;
+          tree = as_expression (node_of (nodes_of parts.items) last);
+        }) }
+    {
+        let mut parts = parts;
+        parts.push(last)?;
+        Ok(Path { mode, parts })
     }
 
     /// Whether the path passes over what is not there.

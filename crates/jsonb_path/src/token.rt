@@ -15,6 +15,7 @@ mod numeral;
 #[cfg(test)]
 mod tests;
 
+use crate::read::{Expected, LeftOut};
 use cursor::{Class, begins, byte_len, is_mark, is_white, read_run, split_first};
 use escape::read_escape;
 use numeral::{begins_numeral, read_numeral};
@@ -55,6 +56,41 @@ pub enum Reason {
     InvalidEscape,
     /// A number goes on with a letter or another digit.
     InvalidNumber,
+    /// What may stand here, and what does.
+    Expected(Expected, Found),
+    /// What is known to PostgreSQL, and not read here.
+    LeftOut(LeftOut),
+    /// More than 256 levels of parentheses, filters, subscripts and signs.
+    TooDeep,
+}
+
+/// What stands where something else is expected.
+#[derive(Clone, Copy, Debug, PartialEq, Eq)]
+pub enum Found {
+    End,
+    Word,
+    Text,
+    Variable,
+    Number,
+    Mark(char),
+    Pair(char, char),
+}
+
+impl Found {
+    /// What a token is; `None` stands for the end.
+    pub(crate) fn of(token: Option<&PlacedToken>) -> Found {
+        let Some(placed) = token else {
+            return Found::End;
+        };
+        match &placed.token {
+            Token::Word(_) => Found::Word,
+            Token::Text(_) => Found::Text,
+            Token::Variable(_) => Found::Variable,
+            Token::Number(_) => Found::Number,
+            Token::Mark(mark) => Found::Mark(*mark),
+            Token::Pair(first, second) => Found::Pair(*first, *second),
+        }
+    }
 }
 
 /// At which byte a text is no path, and why.

@@ -8,7 +8,7 @@ ghost use Rattle.jsonb_path.specs.declared.read.scan.Unread.TheVariants as ends;
 ghost use Rattle.jsonb_path.specs.Grammar.{accessors_and, alone, as_operand, literal_number};
 ghost use Rattle.jsonb_path.specs.Grammar.{number_alone, one_accessor, wants_test};
 ghost use Rattle.jsonb_path.specs.Grammar.{with_accessor, with_operands, with_sign_before};
-ghost use Rattle.jsonb_path.specs.Growth.{Grows, is_operand};
+ghost use Rattle.jsonb_path.specs.Growth.{PartsGrow, is_operand};
 ghost use Rattle.jsonb_path.specs.PathParts.{are_parts_after, is_accessor, is_part, is_some_test};
 ghost use Rattle.jsonb_path.specs.PathParts.{is_source};
 ghost use Rattle.jsonb_path.specs.PathTree.{PathNode, accessor_of, accessors_of, as_expression};
@@ -37,7 +37,7 @@ pub fn push_operand(
     ensures meaning { Parses (λ at. node_at (nodes_of parts.new.items) at) result
         (as_operand wants_test (node_of (nodes_of parts.old.items) part)) }
     ensures operand { IfOk result (λ at. IsTrue (is_operand wants_test parts.new.items at)) }
-    ensures grown { OnOk result (Grows parts.old.items parts.new.items) }
+    ensures grown { OnOk result (PartsGrow parts.old.items parts.new.items) }
 {
     if is_test(&part) == wants_test {
         push(parts, part)
@@ -99,7 +99,7 @@ pub fn with_accessor(
         (as_expression (node_of (nodes_of parts.old.items) part))
         (accessor_of (nodes_of parts.old.items) accessor))) }
     ensures part { IfOk result (λ p. IsTrue (is_part parts.new.items p)) }
-    ensures grown { OnOk result (Grows parts.old.items parts.new.items) }
+    ensures grown { OnOk result (PartsGrow parts.old.items parts.new.items) }
     ensures memory { IfErr result (λ e. e ≡ ends.OutOfMemory) }
 {
     match part {
@@ -134,7 +134,7 @@ fn in_parentheses(
         (inner (as_expression (node_of (nodes_of parts.old.items) part)))
         (one_accessor (accessor_of (nodes_of parts.old.items) accessor)))) }
     ensures part { IfOk result (λ p. IsTrue (is_part parts.new.items p)) }
-    ensures grown { OnOk result (Grows parts.old.items parts.new.items) }
+    ensures grown { OnOk result (PartsGrow parts.old.items parts.new.items) }
     ensures memory { IfErr result (λ e. e ≡ ends.OutOfMemory) }
 {
     let at = push(parts, part)?;
@@ -172,7 +172,7 @@ pub fn with_sign(
     ensures meaning { Parses (λ p. node_of (nodes_of parts.new.items) p) result
         (with_sign_before sign (node_of (nodes_of parts.old.items) part)) }
     ensures part { IfOk result (λ p. IsTrue (is_part parts.new.items p)) }
-    ensures grown { OnOk result (Grows parts.old.items parts.new.items) }
+    ensures grown { OnOk result (PartsGrow parts.old.items parts.new.items) }
 {
     match number_alone(&part) {
         Some(number) => match sign.apply(&number) {

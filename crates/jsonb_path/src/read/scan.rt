@@ -2,6 +2,7 @@
 
 ghost use Rattle.std.specs.Prelude.{◌≡◌, ◌<◌, IfOk, IfSome, length, option_map};
 ghost use Rattle.jsonb_path.specs.Dotted.{after_mark, after_word, is_word, lexemes};
+ghost use Rattle.jsonb_path.specs.Refusal.{refusal_at};
 ghost use Rattle.jsonb_path.specs.Unread.{Parses};
 ghost use Rattle.jsonb_path.specs.declared.read.scan.Refusal.TheVariants as refusals;
 ghost use Rattle.jsonb_path.specs.declared.read.scan.Unread.TheVariants as ends;
@@ -32,12 +33,14 @@ pub enum Expected {
     End,
 }
 
-/// What is known, and not read here: methods, and numbers past 128 bits or a scale of 255.
+/// What is known, and not read here: methods, operators, and numbers past 128 bits or a scale of 255.
 #[derive(Clone, Copy, Debug, PartialEq, Eq)]
 pub enum LeftOut {
     Double,
     Datetime,
     WideNumber,
+    Division,
+    LikeRegex,
 }
 
 /// Why tokens are no path.
@@ -74,9 +77,25 @@ impl<T: Drop> From<AllocFailed<T>> for Unread {
 
 /// The refusal of these tokens at the first of them, where something else is expected.
 pub fn unexpected(tokens: &[PlacedToken], what: Expected) -> Unread
-    ensures { result ≡ ends.Refused (length tokens.now) (refusals.Expected what) }
+    ensures { result ≡ ends.Refused (length tokens.now) (refusal_at what (lexemes tokens.now)) }
 {
-    Unread::Refused(tokens.len(), Refusal::Expected(what))
+    Unread::Refused(tokens.len(), refusal_at(what, tokens))
+}
+
+// Why the first of these tokens is refused: `/` and `like_regex` are left out.
+fn refusal_at(what: Expected, tokens: &[PlacedToken]) -> Refusal
+    ensures { result ≡ refusal_at what (lexemes tokens.now) }
+{
+    let [first, ..] = tokens else {
+        return Refusal::Expected(what);
+    };
+    match &first.token {
+        Token::Mark('/') => Refusal::LeftOut(LeftOut::Division),
+        Token::Word(word) if is_word("like_regex", word.as_str()) => {
+            Refusal::LeftOut(LeftOut::LikeRegex)
+        }
+        _ => Refusal::Expected(what),
+    }
 }
 
 /// The refusal of what is left out.
