@@ -1,7 +1,9 @@
--- Examples of codes in bytes.
-use Rattle.std.specs.Prelude.{◌≡◌, [], ◌∷◌}
+-- Examples of codes and of texts in bytes.
+use Rattle.std.specs.Prelude.{◌≡◌, [], ◌∷◌, false, true}
+use Rattle.typed_chunk.specs.Dictionary.{dictionary_bytes}
 use Rattle.typed_chunk.specs.Headed.{headed}
 use Rattle.typed_chunk.specs.Packed.{least_width, packed}
+use Rattle.typed_chunk.specs.Texts.{text_bytes}
 
 -- Codes of one width, the lowest bits first; bits past the last code are 0.
 pub record PackedExamples : Type 0 where
@@ -27,3 +29,15 @@ pub record WidthExamples : Type 0 where
 pub record HeadedExamples : Type 0 where
   pub of_codes : headed (7 ∷ 9 ∷ []) (0 ∷ 5 ∷ 3 ∷ []) ≡ 4 ∷ 7 ∷ 9 ∷ 0x50 ∷ 3 ∷ []
   pub of_zeros : headed (7 ∷ 9 ∷ []) (0 ∷ 0 ∷ []) ≡ 0 ∷ 7 ∷ 9 ∷ []
+
+-- Texts by their common beginning, which a row that has no text does not end.
+pub record TextExamples : Type 0 where
+  pub of_two : text_bytes ((1 ∷ 2 ∷ []) ∷ (1 ∷ 3 ∷ 4 ∷ []) ∷ []) (true ∷ true ∷ [])
+      ≡ 1 ∷ 1 ∷ 1 ∷ 0 ∷ 0 ∷ 0 ∷ 1 ∷ 2 ∷ 2 ∷ 3 ∷ 4 ∷ []
+  pub beside_none : text_bytes ((1 ∷ 2 ∷ []) ∷ [] ∷ (1 ∷ 2 ∷ []) ∷ []) (true ∷ false ∷ true ∷ [])
+      ≡ 2 ∷ 1 ∷ 2 ∷ 0 ∷ 0 ∷ 0 ∷ 0 ∷ 0 ∷ []
+
+-- A dictionary of two texts that three rows have.
+pub record DictionaryExamples : Type 0 where
+  pub of_two : dictionary_bytes ((4 ∷ []) ∷ (5 ∷ []) ∷ []) (1 ∷ 0 ∷ 1 ∷ [])
+      ≡ 1 ∷ 0 ∷ 0 ∷ 0 ∷ 0 ∷ 0 ∷ 1 ∷ 4 ∷ 5 ∷ 5 ∷ []

@@ -1,7 +1,6 @@
 -- Whether a dictionary's entries, and the places of rows in it, are those that are written.
 use Rattle.std.specs.Prelude.{ℕ, ◌==◌, ◌&&◌, Bool, true, false, not, List, [], ◌∷◌, Option, Some}
-use Rattle.std.specs.Prelude.{None}
-use Rattle.std.specs.Prelude.{if◌then◌else◌, length, nat_lt}
+use Rattle.std.specs.Prelude.{None, if◌then◌else◌, length, nat_lt}
 use Rattle.std.specs.Cmp.Lexicographic.{slice_cmp}
 use Rattle.std.specs.List.{list_all, list_any, range_with_len}
 use Rattle.std.specs.Ordering.{is_lt, nat_cmp}

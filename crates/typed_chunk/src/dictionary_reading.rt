@@ -1,11 +1,10 @@
 //! The way back from bytes to a dictionary.
 
-ghost use Rattle.std.specs.Prelude.{◌≡◌, ◌<◌, ◌^◌, ◌+◌, ◌++◌, ℕ, IfOk, List, Some, drop, get_or};
-ghost use Rattle.std.specs.Prelude.{length};
-ghost use Rattle.std.specs.Prelude.{IsOk, None, replicate, true};
+ghost use Rattle.std.specs.Prelude.{◌≡◌, ◌<◌, ◌^◌, ◌+◌, ◌++◌, ℕ, IfOk, IsOk, List, None, Some, drop};
+ghost use Rattle.std.specs.Prelude.{get_or, length, replicate, true};
 ghost use Rattle.std.specs.Result.{result_err};
-ghost use Rattle.typed_chunk.specs.Places.{places_fault};
 ghost use Rattle.typed_chunk.specs.Dictionary.{dictionary_bytes, dictionary_fault, entry_bytes};
+ghost use Rattle.typed_chunk.specs.Places.{places_fault};
 ghost use Rattle.typed_chunk.specs.Texts.{AreSpans};
 ghost use Rattle.typed_chunk.specs.TextReading.{texts_fault, with_beginning};
 ghost use Rattle.typed_chunk.specs.declared.fault.ChunkFault.{ChunkFault};

@@ -1,6 +1,7 @@
 //! Examples of the definitions, which the prover checks.
 
-ghost use Rattle.typed_chunk.specs.Examples.{HeadedExamples, PackedExamples, WidthExamples};
+ghost use Rattle.typed_chunk.specs.Examples.{DictionaryExamples, HeadedExamples, PackedExamples};
+ghost use Rattle.typed_chunk.specs.Examples.{TextExamples, WidthExamples};
 
 // Examples of what the definitions say.
 #[tactic(auto, unfolding(crate::specs::Packed::least_width))]
@@ -8,4 +9,6 @@ fn examples()
     ensures packed { PackedExamples }
     ensures widths { WidthExamples }
     ensures headed { HeadedExamples }
+    ensures texts { TextExamples }
+    ensures dictionary { DictionaryExamples }
 {}
