@@ -2,6 +2,7 @@
 
 use crate::{append_dictionary, append_texts, append_whole_texts, read_dictionary, read_texts};
 use std::alloc::{AllocError, Global};
+use std::test::Fail;
 
 // Four rows, of which the second has no text.
 const TEXTS: &[u8] = b"town-atown-bcdtown-";
@@ -19,15 +20,14 @@ fn bytes_of_texts(alloc: Global) -> Result<Vec<u8>, AllocError> {
 }
 
 #[test]
-fn texts_with_a_common_beginning(rt: HostRuntime) {
-    match bytes_of_texts(rt.alloc()) {
-        Ok(bytes) => assert_eq!(rt; bytes.as_slice(), BYTES),
-        Err(_) => assert!(rt; false),
-    }
+fn texts_with_a_common_beginning(rt: HostRuntime) -> Result<(), Fail> {
+    let bytes = bytes_of_texts(rt.alloc())?;
+    assert_eq!(rt; bytes.as_slice(), BYTES);
+    Ok(())
 }
 
 #[test]
-fn texts_are_read(rt: HostRuntime) {
+fn texts_are_read(rt: HostRuntime) -> Result<(), Fail> {
     let mut offsets = [0; 5];
     match read_texts(BYTES, &HAS, &mut [0; 4], &mut offsets) {
         Ok(read) => {
@@ -36,13 +36,13 @@ fn texts_are_read(rt: HostRuntime) {
             assert_eq!(rt; offsets, [0, 1, 1, 4, 4]);
             let mut texts = Vec::new(rt.alloc());
             let mut whole = [0; 5];
-            let answer = append_whole_texts(&mut texts, &read, &offsets, &HAS, &mut whole);
-            assert!(rt; answer.is_ok());
+            append_whole_texts(&mut texts, &read, &offsets, &HAS, &mut whole)?;
             assert_eq!(rt; texts.as_slice(), TEXTS);
             assert_eq!(rt; whole, OFFSETS);
         }
         Err(_) => assert!(rt; false),
     }
+    Ok(())
 }
 
 // Five rows, of which the third has no text.
@@ -60,11 +60,10 @@ fn bytes_of_dictionary(alloc: Global) -> Result<Vec<u8>, AllocError> {
 }
 
 #[test]
-fn a_dictionary_of_three(rt: HostRuntime) {
-    match bytes_of_dictionary(rt.alloc()) {
-        Ok(bytes) => assert_eq!(rt; bytes.as_slice(), DICTIONARY),
-        Err(_) => assert!(rt; false),
-    }
+fn a_dictionary_of_three(rt: HostRuntime) -> Result<(), Fail> {
+    let bytes = bytes_of_dictionary(rt.alloc())?;
+    assert_eq!(rt; bytes.as_slice(), DICTIONARY);
+    Ok(())
 }
 
 #[test]
