@@ -1,7 +1,7 @@
 //! The way back from bytes to a dictionary.
 
-ghost use Rattle.std.specs.Prelude.{◌≡◌, ◌<◌, ◌^◌, ◌+◌, ◌++◌, ℕ, IfOk, IsOk, List, None, Some, drop};
-ghost use Rattle.std.specs.Prelude.{get_or, length, replicate, true};
+ghost use Rattle.std.specs.Prelude.{◌≡◌, ◌<◌, ◌^◌, ◌+◌, ◌++◌, ℕ, IfOk, IsOk, List, None, Some};
+ghost use Rattle.std.specs.Prelude.{drop, get_or, length, replicate, true};
 ghost use Rattle.std.specs.Result.{result_err};
 ghost use Rattle.typed_chunk.specs.Dictionary.{dictionary_bytes, dictionary_fault, entry_bytes};
 ghost use Rattle.typed_chunk.specs.Places.{places_fault};
