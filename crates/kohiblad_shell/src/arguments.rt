@@ -105,7 +105,7 @@ fn exponents_in(arguments: &ArgMatches<'_>) -> Exponents
     }
 }
 
-/// Whether nothing is to be said of a path at which no row has a value.
+/// Whether nothing is to be said of a path, or a name, at which no row has a value.
 pub fn is_quiet_in(arguments: &ArgMatches<'_>) -> bool
     ensures { IsFlag arguments.now (codes "quiet") result }
 {

@@ -83,7 +83,7 @@ fn option_of<'a>(alloc: Global, option: CommandOption) -> Arg<'a> {
             flag(
                 alloc,
                 "quiet",
-                "Say nothing of a path at which no row has a value",
+                "Say nothing of a path or name at which no row has a value",
             )
             .short('q')
         }

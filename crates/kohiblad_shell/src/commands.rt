@@ -141,7 +141,11 @@ pub static COMMANDS: [CommandRow; 22] = [
         name: "count",
         about: "Count the rows in which a path leads to some value",
         operands: OperandKind::Condition,
-        options: &[CommandOption::Documents, CommandOption::OnError],
+        options: &[
+            CommandOption::Documents,
+            CommandOption::Quiet,
+            CommandOption::OnError,
+        ],
         end: End::Count,
     },
     CommandRow {
@@ -181,7 +185,11 @@ pub static COMMANDS: [CommandRow; 22] = [
         name: "set",
         about: "Put a value at the end of a path, of each row",
         operands: OperandKind::Steps,
-        options: &[CommandOption::Documents, CommandOption::OnError],
+        options: &[
+            CommandOption::Documents,
+            CommandOption::Quiet,
+            CommandOption::OnError,
+        ],
         end: End::Rows,
     },
     CommandRow {
@@ -189,7 +197,11 @@ pub static COMMANDS: [CommandRow; 22] = [
         name: "remove",
         about: "Remove what is at the ends of paths, of each row",
         operands: OperandKind::Removed,
-        options: &[CommandOption::Documents, CommandOption::OnError],
+        options: &[
+            CommandOption::Documents,
+            CommandOption::Quiet,
+            CommandOption::OnError,
+        ],
         end: End::Rows,
     },
     CommandRow {
@@ -205,7 +217,11 @@ pub static COMMANDS: [CommandRow; 22] = [
         name: "pick",
         about: "Keep the members of these names, of each row",
         operands: OperandKind::Names,
-        options: &[CommandOption::Documents, CommandOption::OnError],
+        options: &[
+            CommandOption::Documents,
+            CommandOption::Quiet,
+            CommandOption::OnError,
+        ],
         end: End::Rows,
     },
     CommandRow {

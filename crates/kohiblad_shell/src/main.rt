@@ -174,7 +174,7 @@ fn run_operands(
         watch: &watch,
     };
     let status = run_job(rt, row.end, job, arguments);
-    notice_missed(rt, &watch, &texts);
+    notice_missed(rt, &watch, &texts, matches!(row.command, Command::Pick));
     status
 }
 
@@ -190,8 +190,8 @@ fn run_job(rt: &HostRuntime, end: End, job: Job<'_, '_>, arguments: &ArgMatches<
     }
 }
 
-// The texts of the paths for which a notice helps where they lead to no value in any row, in the
-// order of the operation; none if the command is to be quiet.
+// The texts of the paths, or the names, for which a notice helps where they lead to no value in any
+// row, in the order of the operation; none if the command is to be quiet.
 fn watched_texts<'a>(
     rt: &HostRuntime,
     command: Command,
@@ -202,7 +202,19 @@ fn watched_texts<'a>(
         return Ok(texts);
     }
     match command {
-        Command::Get | Command::Select | Command::Filter => texts.push(operand_in(arguments))?,
+        Command::Get | Command::Select | Command::Filter | Command::Count | Command::Set => {
+            texts.push(operand_in(arguments))?;
+        }
+        Command::Remove => {
+            texts.push(operand_in(arguments))?;
+            let words = words_in(arguments).unwrap_or(&[]);
+            texts.extend_from_slice(&words[..path_count(words)])?;
+        }
+        Command::Pick => {
+            for name in operand_in(arguments).split(',') {
+                texts.push(name)?;
+            }
+        }
         Command::Extract => {
             texts.push(operand_in(arguments))?;
             let words = words_in(arguments).unwrap_or(&[]);

@@ -86,19 +86,50 @@ pub fn ended(rt: &HostRuntime, aim: Aim, outcome: Result<Summary, Halt>) -> u8
     run_status(aim, outcome)
 }
 
-/// Says that no row has a value at a path.
-pub fn notice(rt: &HostRuntime, path: &str) {
-    tell(rt, format!(in rt.alloc(); "no row has a value at {path}"));
+/// Says that none of so many rows has a value at a path.
+pub fn notice(rt: &HostRuntime, rows: u64, path: &str) {
+    tell(
+        rt,
+        format!(in rt.alloc(); "no row of {rows} has a value at {path}"),
+    );
 }
 
-/// Says of which of these paths no row has a value, if there are rows and the run saw all of them.
-pub fn notice_missed(rt: &HostRuntime, watch: &Watch<'_>, texts: &[&str]) {
-    if !watch.is_whole.get() || !watch.progress.has_row() {
+// Says the same of a name, and which one may be meant by it.
+fn notice_name(rt: &HostRuntime, rows: u64, name: &str) {
+    let alloc = rt.alloc();
+    let meant = name_meant(name);
+    let words = if meant == name || meant.is_empty() {
+        format!(in alloc; "no row of {rows} has a value at '{name}'")
+    } else {
+        format!(in alloc; "no row of {rows} has a value at '{name}': is '{meant}' meant?")
+    };
+    tell(rt, words);
+}
+
+// A name without the spaces around it, and without what a path has in front of one.
+fn name_meant(name: &str) -> &str {
+    let trimmed = name.trim();
+    match trimmed.strip_prefix("$.") {
+        Some(rest) => rest,
+        None => trimmed,
+    }
+}
+
+/// Says of which of these paths, or names, no row has a value, if there are rows and the run saw
+/// all of them.
+pub fn notice_missed(rt: &HostRuntime, watch: &Watch<'_>, texts: &[&str], are_names: bool) {
+    let rows = watch.progress.rows();
+    if !watch.is_whole.get() || rows == 0 {
         return;
     }
     for (text, has_led) in texts.iter().zip(&watch.have_led) {
-        if !has_led.get() {
-            notice(rt, *text);
+        if has_led.get() {
+            continue;
+        }
+        if are_names {
+            notice_name(rt, rows, *text);
+        } else {
+            notice(rt, rows, *text);
         }
     }
 }

@@ -150,9 +150,12 @@ fn row_lines(
         }
         Operation::Change(change) => {
             let made = changed(alloc, change, document)?;
+            job.watch.see_change(change, document, made.as_bytes());
             Ok(made_row(alloc, form, made.as_bytes())?)
         }
-        Operation::Remove(paths) => Ok(removed_row(alloc, form, document.as_bytes(), paths)?),
+        Operation::Remove(paths) => {
+            Ok(removed_row(alloc, form, document.as_bytes(), paths, job.watch)?)
+        }
         Operation::Range(range) => Ok(kept_row(alloc, form, row, is_in_range(document, range))?),
         Operation::Encode => Ok(framed_row(alloc, Form::Documents, document.as_bytes())?),
         Operation::Decode(layout) => Ok(document_line(alloc, document, layout)?),

@@ -47,9 +47,9 @@ impl<'a> Progress<'a> {
         self.rows.set(self.rows.get().saturating_add(1));
     }
 
-    /// Whether a row that has a document was counted.
-    pub fn has_row(&self) -> bool {
-        self.rows.get() > 0
+    /// How many rows that have a document were counted.
+    pub fn rows(&self) -> u64 {
+        self.rows.get()
     }
 
     /// Removes the line, if it is shown.

@@ -7,19 +7,22 @@ ghost use Rattle.kohiblad_shell.specs.Words.{path_count, without};
 
 use crate::input::Form;
 use crate::operation::made_row;
+use crate::watch::Watch;
 use jsonb::{Document, Error, OwnedJsonb};
 use jsonb_functions::{Edit, Step, edit_document};
 use std::alloc::Global;
 
 /// The row of what is left of a document after what is at the end of each path is removed, one
-/// after the other: an index counts the items that the removals before it left. `InvalidJsonb` if
-/// what a removal leaves is too large for a document, `OutOfMemory` if an allocation fails.
+/// after the other: an index counts the items that the removals before it left. `watch` sees each
+/// removal. `InvalidJsonb` if what a removal leaves is too large for a document, `OutOfMemory` if
+/// an allocation fails.
 #[tactic(auto, using(crate::proofs::RemovalLaws::removed_more))]
 pub fn removed_row(
     alloc: Global,
     form: Form,
     bytes: &[u8],
     paths: &[Vec<Step<'_>>],
+    watch: &Watch<'_>,
 ) -> Result<Vec<u8>, Error>
     requires { IsDocument bytes.now }
     ensures { IsResultOf (IsRemoved form paths.now bytes.now) result }
@@ -27,8 +30,9 @@ pub fn removed_row(
     match paths {
         [] => made_row(alloc, form, bytes),
         [path, rest @ ..] => {
+            watch.see_removal(bytes, path, rest.len());
             let left = without(alloc, bytes, path)?;
-            removed_row(alloc, form, left.as_bytes(), rest)
+            removed_row(alloc, form, left.as_bytes(), rest, watch)
         }
     }
 }

@@ -50,7 +50,7 @@ fn write_counts(
 // Says that no row has a value at the path of a survey, if there are rows.
 fn notice_absent(rt: &HostRuntime, survey: &Survey, arguments: &ArgMatches<'_>) {
     if survey.rows > 0 && survey.absent == survey.rows && !is_quiet_in(arguments) {
-        notice(rt, operand_in(arguments));
+        notice(rt, survey.rows as u64, operand_in(arguments));
     }
 }
 

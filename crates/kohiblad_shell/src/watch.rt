@@ -1,10 +1,12 @@
 //! Which paths lead to a value in some row, for a notice at the end of a run.
 
+ghost use Rattle.kohiblad_shell.specs.Words.{IsDocument};
+
 use crate::first::has_value;
-use crate::operation::Operation;
+use crate::operation::{Change, Operation};
 use crate::progress::Progress;
 use jsonb::Document;
-use jsonb_functions::Selector;
+use jsonb_functions::{Selector, Step, get_path};
 use std::alloc::{AllocError, Global};
 use std::cell::Cell;
 
@@ -45,10 +47,50 @@ impl<'a> Watch<'a> {
             }
         }
     }
+
+    /// Notes whether a removal finds something in these bytes of a document, by its path; so many
+    /// removals come after it.
+    pub fn see_removal(&self, bytes: &[u8], path: &[Step<'_>], later: usize)
+        requires { IsDocument bytes.now }
+    {
+        let Some(has_led) = self.have_led.iter().rev().nth(later) else {
+            return;
+        };
+        if !has_led.get() && has_end(bytes, path) {
+            has_led.set(true);
+        }
+    }
+
+    /// Notes whether a change finds something in a document, or makes these bytes another one.
+    pub fn see_change(&self, change: Change<'_>, document: Document<'_>, made: &[u8]) {
+        let Change::Set(path, _) = change else {
+            return;
+        };
+        for has_led in &self.have_led {
+            if !has_led.get()
+                && (document.as_bytes() != made || get_path(document, path).is_some())
+            {
+                has_led.set(true);
+            }
+        }
+    }
 }
 
-// Whether the path of an operation after so many others leads to a value.
+// Whether a path leads to a value in these bytes of a document.
+fn has_end(bytes: &[u8], path: &[Step<'_>]) -> bool
+    requires { IsDocument bytes.now }
+{
+    get_path(Document::new_unchecked(bytes), path).is_some()
+}
+
+// Whether the path of an operation after so many others, or the name, leads to a value.
 fn leads(operation: Operation<'_>, index: usize, document: Document<'_>) -> bool {
+    if let Operation::Change(Change::Pick(names)) = operation {
+        return match names.get(index) {
+            Some(name) => get_path(document, &[Step::Key(*name)]).is_some(),
+            None => false,
+        };
+    }
     match path_at(operation, index) {
         Some(path) => has_value(document, path),
         None => false,
