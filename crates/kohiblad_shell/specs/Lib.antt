@@ -1,5 +1,6 @@
 pub mod Inputs
 pub mod Kinds
+pub mod Marks
 pub mod Escapes
 pub mod Expected
 pub mod Faults

@@ -37,6 +37,7 @@ pub use Rattle.kohiblad_shell.specs.Inputs.{AppendsHeld, AppendsHeldLine, ReadsL
 pub use Rattle.kohiblad_shell.specs.Inputs.{ReadsRow, framed, made_row}
 pub use Rattle.kohiblad_shell.specs.Kinds.{compressed_kind, foreign_kind, input_kind}
 pub use Rattle.kohiblad_shell.specs.Kinds.{is_document_start, is_text_start, kind_words}
+pub use Rattle.kohiblad_shell.specs.Marks.{PassesMark}
 pub use Rattle.kohiblad_shell.specs.Outcomes.{AnswersNext, IsAnswer, IsOutcome, LineRule}
 pub use Rattle.kohiblad_shell.specs.Outcomes.{row_count, stops_at}
 pub use Rattle.kohiblad_shell.specs.Rows.{AreExpected, IsNotJson, IsParsed}

@@ -6,7 +6,8 @@ use crate::extract::column_words;
 use crate::halt::Halt;
 use crate::input::Form;
 use crate::kind::{InputKind, input_kind};
-use crate::messages::{name_kind, tell_failed};
+use crate::mark::pass_mark;
+use crate::messages::{name_kind, notice_mark, tell_failed};
 use crate::operation::{Job, Operation};
 use crate::output::Output;
 use crate::progress::{Metered, Progress};
@@ -100,8 +101,22 @@ pub fn buffered<'a, R: Read + Drop>(
     }
 }
 
-/// What an input is, by its first bytes, if it has no rows in this form.
-pub fn kind_of<R: BufRead>(form: Form, reader: &mut R) -> Option<InputKind> {
+/// What an input is, by its first bytes, if it has no rows in this form. A byte order mark before
+/// lines is passed over, which is said.
+pub fn kind_after_mark<R: BufRead>(
+    rt: &HostRuntime,
+    name: &str,
+    form: Form,
+    reader: &mut R,
+) -> Option<InputKind> {
+    if matches!(form, Form::Lines(_)) && pass_mark(reader) {
+        notice_mark(rt, name);
+    }
+    kind_of(form, reader)
+}
+
+// What an input is, by its first bytes, if it has no rows in this form.
+fn kind_of<R: BufRead>(form: Form, reader: &mut R) -> Option<InputKind> {
     match reader.fill_buf() {
         Ok(start) => input_kind(form, start),
         Err(_) => None,
@@ -156,7 +171,10 @@ fn run_reader<R: Read + Drop, W: Write, E: Write>(
 ) -> Result<Summary, Halt> {
     let progress = job.watch.progress;
     let mut reader = buffered(rt, progress, reader)?;
-    let kind = kind_of(plan.form, &mut reader);
+    let kind = match job.operation {
+        Operation::Check => kind_of(plan.form, &mut reader),
+        _ => kind_after_mark(rt, plan.name, plan.form, &mut reader),
+    };
     let outcome = run::run(rt.alloc(), &job, &plan, &mut reader, writer, errors);
     progress.clear();
     let summary = outcome?;

@@ -14,6 +14,7 @@ mod halt;
 mod input;
 mod key;
 mod kind;
+mod mark;
 mod merge;
 mod merge_command;
 mod messages;

@@ -1,7 +1,7 @@
 //! The command that merges files whose rows are sorted.
 
 use crate::arguments::words_in;
-use crate::files::{BUFFER_LEN, buffered, closed, kind_of, open_files, output_of};
+use crate::files::{BUFFER_LEN, buffered, closed, kind_after_mark, open_files, output_of};
 use crate::halt::Halt;
 use crate::kind::InputKind;
 use crate::merge::{self, InputFault, MergeEnd};
@@ -53,8 +53,11 @@ fn merge_readers<R: BufRead>(
     output: Output<'_>,
 ) -> u8 {
     let mut kinds = Vec::new(rt.alloc());
-    for reader in readers.iter_mut() {
-        if kinds.push(kind_of(job.form, reader)).is_err() {
+    for (reader, name) in readers.iter_mut().zip(names) {
+        if kinds
+            .push(kind_after_mark(rt, *name, job.form, reader))
+            .is_err()
+        {
             return not_written(rt, output, Halt::Memory);
         }
     }

@@ -134,6 +134,12 @@ pub fn notice_missed(rt: &HostRuntime, watch: &Watch<'_>, texts: &[&str], are_na
     }
 }
 
+/// Says that the byte order mark of an input is passed over.
+pub fn notice_mark(rt: &HostRuntime, name: &str) {
+    let what = "the byte order mark at the start is passed over";
+    tell(rt, format!(in rt.alloc(); "{name}: {what}"));
+}
+
 /// Says what an input is that has no rows.
 pub fn name_kind(rt: &HostRuntime, name: &str, kind: Option<InputKind>) {
     if let Some(kind) = kind {

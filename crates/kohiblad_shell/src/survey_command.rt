@@ -2,7 +2,7 @@
 
 use crate::arguments::{form_in, is_quiet_in, operand_in, output_in, stops_in, words_in};
 use crate::commands::End;
-use crate::files::{buffered, closed, kind_of, open_file, progress_of};
+use crate::files::{buffered, closed, kind_after_mark, open_file, progress_of};
 use crate::halt::Halt;
 use crate::messages::{ended, name_kind, notice, reports};
 use crate::output::Output;
@@ -98,7 +98,7 @@ fn survey_reader<R: Read + Drop>(
     survey: &mut Survey,
 ) -> Result<Summary, Halt> {
     let mut reader = buffered(rt, progress, reader)?;
-    let kind = kind_of(plan.form, &mut reader);
+    let kind = kind_after_mark(rt, plan.name, plan.form, &mut reader);
     let mut errors = reports(rt, progress);
     let outcome = survey_rows(rt.alloc(), path, &plan, &mut reader, survey, &mut errors);
     progress.clear();
