@@ -14,7 +14,10 @@ use Rattle.kohiblad_shell.specs.declared.input.Reading.{Reading}
 use Rattle.kohiblad_shell.specs.declared.operation.TextLayout.{TextLayout}
 use Rattle.kohiblad_shell.specs.declared.operation.TextLayout.TheVariants.{Compact, Pretty}
 use Rattle.kohiblad_shell.specs.declared.operation.Style.{Style}
-use Rattle.kohiblad_shell.specs.declared.operation.Style.TheVariants.{Json, Raw}
+use Rattle.kohiblad_shell.specs.declared.operation.Style.TheVariants.{Raw}
+use Rattle.kohiblad_shell.specs.declared.operation.Style.TheVariants as styles
+use Rattle.kohiblad_shell.specs.declared.operand_kind.ValueKind.{ValueKind}
+use Rattle.kohiblad_shell.specs.declared.operand_kind.ValueKind.TheVariants.{Json, Text}
 
 -- A text, or the empty one if there is none.
 abbrev pub text_or_empty : Option (List ℕ) → List ℕ
@@ -84,7 +87,12 @@ IsFlag arguments id flag = IsFlagText (one_text (found_of arguments) id) flag
 -- Whether strings are written without quotes.
 abbrev pub is_raw : Style → Bool
 is_raw Raw = true
-is_raw Json = false
+is_raw styles.Json = false
+
+-- Whether the values among the operands are texts.
+abbrev pub are_texts : ValueKind → Bool
+are_texts Text = true
+are_texts Json = false
 
 -- Whether numbers of lines may have exponents, by the word for it, or if there is none they may.
 abbrev pub exponents_of : Option (List ℕ) → Exponents

@@ -23,7 +23,8 @@ pub use Rattle.jsonb.specs.Owned.{owned_bytes, result_bytes}
 pub use Rattle.jsonb.specs.Parsing.{ParsesUnderWithin}
 pub use Rattle.jsonb_functions.specs.MadeWithMemory.{MadeWithMemory}
 pub use Rattle.clap.specs.Matches.{first_value, found_of}
-pub use Rattle.kohiblad_shell.specs.Arguments.{IsFlag, are_documents, is_pretty, is_raw}
+pub use Rattle.kohiblad_shell.specs.Arguments.{IsFlag, are_documents, are_texts, is_pretty}
+pub use Rattle.kohiblad_shell.specs.Arguments.{is_raw}
 pub use Rattle.kohiblad_shell.specs.Arguments.{IsCount, IsMemory, IsScaled, IsSize, colors_of}
 pub use Rattle.kohiblad_shell.specs.Arguments.{digits_value, exponents_of, form_of, shows_of}
 pub use Rattle.kohiblad_shell.specs.Arguments.{stops_of, text_or}

@@ -1,12 +1,13 @@
 //! What the arguments of a command say.
 
 ghost use Rattle.std.specs.Prelude.{◌≡◌, IfSome, codes, map, option_map};
-ghost use Rattle.kohiblad_shell.specs.Words.{IsFlag, IsMemory, are_documents, colors_of};
+ghost use Rattle.kohiblad_shell.specs.Words.{IsFlag, IsMemory, are_documents, are_texts, colors_of};
 ghost use Rattle.kohiblad_shell.specs.Words.{exponents_of, first_value, form_of, found_of};
 ghost use Rattle.kohiblad_shell.specs.Words.{is_pretty, is_raw, shows_of, stops_of, text_or};
 ghost use Rattle.kohiblad_shell.specs.Words.{value_of, values_of};
 
 use crate::input::{Form, Reading};
+use crate::operand_kind::ValueKind;
 use crate::operation::{Style, TextLayout};
 use crate::part_lines::Look;
 use crate::size::size_of;
@@ -34,6 +35,17 @@ pub fn value_in<'a>(arguments: &ArgMatches<'a>) -> &'a str
     match arguments.get_str("value") {
         Some(value) => value,
         None => "",
+    }
+}
+
+/// What the values among the operands are: texts if the flag says so, or else JSON texts.
+pub fn value_kind_in(arguments: &ArgMatches<'_>) -> ValueKind
+    ensures { IsFlag arguments.now (codes "text") (are_texts result) }
+{
+    if has_flag(arguments, "text") {
+        ValueKind::Text
+    } else {
+        ValueKind::Json
     }
 }
 

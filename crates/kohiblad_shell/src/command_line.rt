@@ -45,6 +45,7 @@ fn operand_of<'a>(alloc: Global, operand: &Operand) -> Arg<'a> {
     Arg::new(alloc, operand.id)
         .value_name(operand.name)
         .help(operand.help)
+        .allow_negative_numbers(operand.is_value)
         .required(true)
 }
 
@@ -53,6 +54,10 @@ fn option_of<'a>(alloc: Global, option: CommandOption) -> Arg<'a> {
     match option {
         CommandOption::Raw => {
             flag(alloc, "raw", "Write strings without quotes and escapes").short('r')
+        }
+        CommandOption::Text => {
+            let help = "Take VALUE, or FROM and TO, as texts, and not as JSON texts";
+            flag(alloc, "text", help)
         }
         CommandOption::Pretty => {
             flag(
@@ -175,7 +180,7 @@ fn color<'a>(alloc: Global) -> Arg<'a> {
 fn files<'a>(alloc: Global) -> Arg<'a> {
     Arg::new(alloc, "file")
         .value_name("FILE")
-        .help("Files to read; standard input if none is named")
+        .help("Files to read; standard input if none is named, or where one is -")
         .action(ArgAction::Append)
         .num_args(0..)
 }

@@ -27,6 +27,7 @@ impl CommandRow {
 #[derive(Clone, Copy)]
 pub enum CommandOption {
     Raw,
+    Text,
     Pretty,
     By,
     ByOne,
@@ -177,7 +178,11 @@ pub static COMMANDS: [CommandRow; 22] = [
         name: "contains",
         about: "Write the rows whose value contains another",
         operands: OperandKind::Value,
-        options: &[CommandOption::Documents, CommandOption::OnError],
+        options: &[
+            CommandOption::Documents,
+            CommandOption::Text,
+            CommandOption::OnError,
+        ],
         end: End::Rows,
     },
     CommandRow {
@@ -187,6 +192,7 @@ pub static COMMANDS: [CommandRow; 22] = [
         operands: OperandKind::Steps,
         options: &[
             CommandOption::Documents,
+            CommandOption::Text,
             CommandOption::Quiet,
             CommandOption::OnError,
         ],
@@ -209,7 +215,11 @@ pub static COMMANDS: [CommandRow; 22] = [
         name: "merge",
         about: "Apply a JSON Merge Patch to each row",
         operands: OperandKind::Value,
-        options: &[CommandOption::Documents, CommandOption::OnError],
+        options: &[
+            CommandOption::Documents,
+            CommandOption::Text,
+            CommandOption::OnError,
+        ],
         end: End::Rows,
     },
     CommandRow {
@@ -239,6 +249,7 @@ pub static COMMANDS: [CommandRow; 22] = [
         operands: OperandKind::Bounds,
         options: &[
             CommandOption::Documents,
+            CommandOption::Text,
             CommandOption::ByOne,
             CommandOption::Quiet,
             CommandOption::OnError,

@@ -7,7 +7,7 @@ use crate::halt::Halt;
 use crate::input::Form;
 use crate::kind::{InputKind, input_kind};
 use crate::mark::pass_mark;
-use crate::messages::{name_kind, notice_mark, tell_failed};
+use crate::messages::{misuse, name_kind, notice_mark, tell_failed};
 use crate::operation::{Job, Operation};
 use crate::output::Output;
 use crate::progress::{Metered, Progress};
@@ -15,10 +15,28 @@ use crate::removal::path_count;
 use crate::run::{self, Plan, Summary};
 use clap::ArgMatches;
 use std::fs::{self, File};
-use std::io::{BufRead, BufReader, IsTerminal, Read, Write};
+use std::io::{self, BufRead, BufReader, IsTerminal, Read, Stdin, Write};
 
 /// How many bytes are read, and written, at a time.
 pub const BUFFER_LEN: usize = 1 << 16;
+
+/// The names of the inputs, where none stands for standard input.
+pub fn inputs_of<'m, 'a>(files: &'m [&'a str]) -> &'m [&'a str] {
+    if files.is_empty() { &["-"] } else { files }
+}
+
+/// Refuses files of which several are standard input, which can be read once, and returns the status
+/// after the report.
+pub fn expect_input_once(rt: &HostRuntime, files: &[&str]) -> Result<(), u8> {
+    let mut is_read = false;
+    for name in files {
+        if *name == "-" && is_read {
+            return Err(misuse(rt, "standard input, -, can be read only once"));
+        }
+        is_read = is_read || *name == "-";
+    }
+    Ok(())
+}
 
 /// The files among the words after an operand.
 pub fn files_of<'m, 'a>(operation: Operation<'_>, words: &'m [&'a str]) -> &'m [&'a str] {
@@ -29,12 +47,14 @@ pub fn files_of<'m, 'a>(operation: Operation<'_>, words: &'m [&'a str]) -> &'m [
     }
 }
 
-// How many bytes these files have, if there are some and all of them are files on a disk.
+// How many bytes these inputs have, if all of them are files on a disk.
 fn size_of(rt: &HostRuntime, names: &[&str]) -> Option<u64> {
-    let mut size = if names.is_empty() { None } else { Some(0) };
+    let mut size = Some(0);
     for name in names {
         size = match (size, fs::metadata(rt, *name)) {
-            (Some(size), Ok(data)) if data.is_file() => data.len().checked_add(size),
+            (Some(size), Ok(data)) if data.is_file() && *name != "-" => {
+                data.len().checked_add(size)
+            }
             _ => None,
         };
     }
@@ -57,14 +77,36 @@ pub fn progress_of<'a>(
     Progress::new(
         rt,
         shows_progress_in(arguments, is_usual),
-        size_of(rt, files),
+        size_of(rt, inputs_of(files)),
     )
 }
 
-/// A file, which is reported if it cannot be opened.
-pub fn open_file(rt: &HostRuntime, name: &str) -> Result<File, Halt> {
+/// Where rows come from.
+#[derive(Drop)]
+pub enum Source {
+    /// Standard input.
+    Standard(Stdin),
+    /// A file.
+    File(File),
+}
+
+impl Read for Source {
+    fn read(&mut self, bytes: &mut [u8]) -> io::Result<usize> {
+        match self {
+            Source::Standard(stdin) => stdin.read(bytes),
+            Source::File(file) => file.read(bytes),
+        }
+    }
+}
+
+/// The input of this name: standard input if it is `-`, or else a file, which is reported if it
+/// cannot be opened.
+pub fn open_source(rt: &HostRuntime, name: &str) -> Result<Source, Halt> {
+    if name == "-" {
+        return Ok(Source::Standard(rt.stdin()));
+    }
     match File::open(rt, name) {
-        Ok(file) => Ok(file),
+        Ok(file) => Ok(Source::File(file)),
         Err(error) => {
             tell_failed(rt, "cannot open", name, &error);
             Err(Halt::Read)
@@ -72,15 +114,15 @@ pub fn open_file(rt: &HostRuntime, name: &str) -> Result<File, Halt> {
     }
 }
 
-/// The files of these names. One that cannot be opened is reported.
-pub fn open_files<'a>(
+/// The inputs of these names. A file that cannot be opened is reported.
+pub fn open_sources<'a>(
     rt: &HostRuntime,
     progress: &'a Progress<'a>,
     names: &[&str],
-) -> Result<Vec<BufReader<Metered<'a, File>>>, Halt> {
+) -> Result<Vec<BufReader<Metered<'a, Source>>>, Halt> {
     let mut readers = Vec::new(rt.alloc());
     for name in names {
-        let reader = buffered(rt, progress, open_file(rt, *name)?)?;
+        let reader = buffered(rt, progress, open_source(rt, *name)?)?;
         if readers.push(reader).is_err() {
             return Err(Halt::Memory);
         }
@@ -144,14 +186,11 @@ pub fn run_files<W: Write, E: Write>(
         stops_at_faults,
     };
     let goes_on = !stops_at_faults && matches!(job.operation, Operation::Check);
-    let names = files_of(job.operation, words_in(arguments).unwrap_or(&[]));
-    if names.is_empty() {
-        total = run_reader(rt, job, plan, rt.reader(), writer, errors)?;
-    }
-    for name in names {
+    let files = files_of(job.operation, words_in(arguments).unwrap_or(&[]));
+    for name in inputs_of(files) {
         plan.name = name;
-        let file = open_file(rt, *name)?;
-        total = total.with(run_reader(rt, job, plan, file, writer, errors)?);
+        let source = open_source(rt, *name)?;
+        total = total.with(run_source(rt, job, plan, source, writer, errors)?);
         if total.is_stopped && !goes_on {
             break;
         }
@@ -160,17 +199,17 @@ pub fn run_files<W: Write, E: Write>(
     Ok(total)
 }
 
-// Runs a job on the rows of a reader.
-fn run_reader<R: Read + Drop, W: Write, E: Write>(
+// Runs a job on the rows of an input.
+fn run_source<W: Write, E: Write>(
     rt: &HostRuntime,
     job: Job<'_, '_>,
     plan: Plan<'_>,
-    reader: R,
+    source: Source,
     writer: &mut W,
     errors: &mut E,
 ) -> Result<Summary, Halt> {
     let progress = job.watch.progress;
-    let mut reader = buffered(rt, progress, reader)?;
+    let mut reader = buffered(rt, progress, source)?;
     let kind = match job.operation {
         Operation::Check => kind_of(plan.form, &mut reader),
         _ => kind_after_mark(rt, plan.name, plan.form, &mut reader),

@@ -47,14 +47,15 @@ mod watch;
 mod write;
 
 use arguments::{
-    form_in, is_quiet_in, layout_in, look_in, operand_in, style_in, value_in, words_in,
+    form_in, is_quiet_in, layout_in, look_in, operand_in, style_in, value_in, value_kind_in,
+    words_in,
 };
 use clap::ArgMatches;
 use command::{Command, Operands, operation_of};
 use command_line::program;
 use commands::{CommandRow, End, row_named};
 use extract::column_words;
-use files::{files_of, goes_to_terminal, progress_of};
+use files::{expect_input_once, files_of, goes_to_terminal, progress_of};
 use halt::{Halt, halt_of_write};
 use input::Form;
 use jsonb::Document;
@@ -162,6 +163,9 @@ fn run_operands(
         Form::Documents
     };
     let files = files_of(operation, words_in(arguments).unwrap_or(&[]));
+    if let Err(status) = expect_input_once(rt, files) {
+        return status;
+    }
     let progress = progress_of(rt, row.end, files, arguments);
     let Ok(texts) = watched_texts(rt, row.command, arguments) else {
         return failure(rt, Halt::Memory);
@@ -233,7 +237,7 @@ fn watched_texts<'a>(
 
 // Runs a command whose operand is a JSON text.
 fn with_value(rt: &HostRuntime, row: &CommandRow, arguments: &ArgMatches<'_>) -> u8 {
-    match document_of(rt, operand_in(arguments)) {
+    match document_of(rt, operand_in(arguments), value_kind_in(arguments)) {
         Ok(owned) => {
             let value = Document::new_unchecked(owned.as_bytes());
             run_operands(rt, row, Operands::Value(value), arguments)
@@ -286,7 +290,7 @@ fn with_steps(rt: &HostRuntime, row: &CommandRow, arguments: &ArgMatches<'_>) ->
         Ok(steps) => steps,
         Err(status) => return status,
     };
-    match document_of(rt, value_in(arguments)) {
+    match document_of(rt, value_in(arguments), value_kind_in(arguments)) {
         Ok(owned) => {
             let value = Document::new_unchecked(owned.as_bytes());
             run_operands(rt, row, Operands::Steps(&steps, value), arguments)
@@ -337,11 +341,12 @@ fn with_bounds(rt: &HostRuntime, row: &CommandRow, arguments: &ArgMatches<'_>) -
         Ok(path) => path,
         Err(status) => return status,
     };
-    let from = match document_of(rt, operand_in(arguments)) {
+    let kind = value_kind_in(arguments);
+    let from = match document_of(rt, operand_in(arguments), kind) {
         Ok(from) => from,
         Err(status) => return status,
     };
-    match document_of(rt, value_in(arguments)) {
+    match document_of(rt, value_in(arguments), kind) {
         Ok(to) => {
             let range = ValueRange {
                 path: &path,

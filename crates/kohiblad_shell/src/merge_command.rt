@@ -1,7 +1,7 @@
 //! The command that merges files whose rows are sorted.
 
 use crate::arguments::words_in;
-use crate::files::{BUFFER_LEN, buffered, closed, kind_after_mark, open_files, output_of};
+use crate::files::{BUFFER_LEN, closed, inputs_of, kind_after_mark, open_sources, output_of};
 use crate::halt::Halt;
 use crate::kind::InputKind;
 use crate::merge::{self, InputFault, MergeEnd};
@@ -19,7 +19,7 @@ const MAX_MERGED: usize = 64;
 
 /// Merges files whose rows are sorted, or checks that those of standard input are.
 pub fn write_merged(rt: &HostRuntime, job: Job<'_, '_>, arguments: &ArgMatches<'_>) -> u8 {
-    let names = words_in(arguments).unwrap_or(&[]);
+    let names = inputs_of(words_in(arguments).unwrap_or(&[]));
     if names.len() > MAX_MERGED {
         return misuse(rt, "at most 64 files can be merged at a time");
     }
@@ -27,13 +27,7 @@ pub fn write_merged(rt: &HostRuntime, job: Job<'_, '_>, arguments: &ArgMatches<'
         Ok(output) => output,
         Err(status) => return status,
     };
-    if names.is_empty() {
-        return match buffered(rt, job.watch.progress, rt.reader()) {
-            Ok(reader) => merge_readers(rt, job, &mut [reader], &["-"], output),
-            Err(halt) => not_written(rt, output, halt),
-        };
-    }
-    match open_files(rt, job.watch.progress, names) {
+    match open_sources(rt, job.watch.progress, names) {
         Ok(mut readers) => merge_readers(rt, job, &mut readers, names, output),
         Err(halt) => not_written(rt, output, halt),
     }

@@ -47,66 +47,86 @@ impl OperandKind {
     }
 }
 
-/// An operand as the arguments and the help name it.
+/// What the values among the operands are.
+#[derive(Clone, Copy, Debug, PartialEq, Eq)]
+pub enum ValueKind {
+    /// JSON texts.
+    Json,
+    /// The texts of strings, without quotes and escapes.
+    Text,
+}
+
+/// An operand as the arguments and the help name it, and whether it is a value, which may be a
+/// negative number.
 #[derive(Clone, Copy)]
 pub struct Operand {
     pub id: &'static str,
     pub name: &'static str,
     pub help: &'static str,
+    pub is_value: bool,
 }
 
 const PATH: Operand = Operand {
     id: "operand",
     name: "PATH",
     help: "A path, such as '$.lines[*].price'",
+    is_value: false,
 };
 
 const CONDITION: Operand = Operand {
     id: "operand",
     name: "PATH",
     help: "A path, such as '$.lines[*]?(@.price < 3)'",
+    is_value: false,
 };
 
 const VALUE: Operand = Operand {
     id: "operand",
     name: "VALUE",
-    help: "A JSON text",
+    help: "A JSON text, such as 5 or '\"Oslo\"'; with --text any text",
+    is_value: true,
 };
 
 const NEW_VALUE: Operand = Operand {
     id: "value",
     name: "VALUE",
-    help: "A JSON text",
+    help: "A JSON text, such as 5 or '\"Oslo\"'; with --text any text",
+    is_value: true,
 };
 
 const FROM: Operand = Operand {
     id: "operand",
     name: "FROM",
-    help: "A JSON text, the first value of the range",
+    help: "A JSON text, the first value of the range; with --text any text",
+    is_value: true,
 };
 
 const TO: Operand = Operand {
     id: "value",
     name: "TO",
-    help: "A JSON text, the first value after the range",
+    help: "A JSON text, the first value after the range; with --text any text",
+    is_value: true,
 };
 
 const STEPS: Operand = Operand {
     id: "operand",
     name: "PATH",
     help: "A path without wildcards, such as '$.lines[0].price'",
+    is_value: false,
 };
 
 const REMOVED: Operand = Operand {
     id: "operand",
     name: "PATH",
     help: "A path without wildcards; words after it that begin with '$' are paths too",
+    is_value: false,
 };
 
 const COLUMN: Operand = Operand {
     id: "operand",
     name: "PATH",
     help: "A path, such as '$.price'; after TYPE more paths may come, each with its type",
+    is_value: false,
 };
 
 const TYPE: Operand = Operand {
@@ -114,10 +134,12 @@ const TYPE: Operand = Operand {
     name: "TYPE",
     help: "boolean, int64, uint64, 'decimal 2', text, date, timestamp, timestamp_tz, interval, \
         binary, nothing or mixed",
+    is_value: false,
 };
 
 const NAMES: Operand = Operand {
     id: "operand",
     name: "NAMES",
     help: "Names with commas between them, such as id,who",
+    is_value: false,
 };

@@ -7,11 +7,11 @@ use crate::extract::TypedPath;
 use crate::halt::Halt;
 use crate::input::Reading;
 use crate::messages::{failure, misuse};
-use crate::outcome::Unanswered;
+use crate::operand_kind::ValueKind;
+use crate::outcome::{LineFault, Unanswered};
 use crate::row::parse_line;
-use crate::status::MISUSE;
 use clap::ArgMatches;
-use jsonb::{Exponents, OwnedJsonb};
+use jsonb::{Exponents, Node, OwnedJsonb};
 use jsonb_functions::{Selector, Step, read_path_text, steps_of_path};
 use jsonb_typed::{LeastType, parse_type};
 
@@ -21,22 +21,55 @@ const OPERAND: Reading = Reading {
     is_explained: false,
 };
 
-/// The document of an operand, or the status after its fault is reported.
-pub fn document_of(rt: &HostRuntime, text: &str) -> Result<OwnedJsonb, u8>
+/// The document of an operand, which is a JSON text or a text, or the status after its fault is
+/// reported.
+pub fn document_of(rt: &HostRuntime, text: &str, kind: ValueKind) -> Result<OwnedJsonb, u8>
+    ensures { IfOk result (λ owned. IsDocument (owned_bytes owned)) }
+{
+    match kind {
+        ValueKind::Json => document_of_json(rt, text),
+        ValueKind::Text => match Node::String(text).to_string(rt.alloc()) {
+            Ok(quoted) => document_of_json(rt, quoted.as_str()),
+            Err(_) => Err(failure(rt, Halt::Memory)),
+        },
+    }
+}
+
+// The document of a JSON text, or the status after its fault is reported.
+fn document_of_json(rt: &HostRuntime, text: &str) -> Result<OwnedJsonb, u8>
     ensures { IfOk result (λ owned. IsDocument (owned_bytes owned)) }
 {
     match parse_line(rt.alloc(), text.as_bytes(), OPERAND) {
         Ok(owned) => Ok(owned),
-        Err(Unanswered::Wrong(fault)) => {
-            let byte = fault.offset as u128 + 1;
-            let _ = eprintln!(rt;
-                "kohiblad: the operand is wrong at byte {byte}: {}",
-                fault.reason.name()
-            );
-            Err(MISUSE)
-        }
+        Err(Unanswered::Wrong(fault)) => Err(refused_value(rt, text, fault)),
         Err(Unanswered::OutOfMemory) => Err(failure(rt, Halt::Memory)),
     }
+}
+
+// Reports the fault of an operand that is no JSON text, and what to write if a text is meant.
+fn refused_value(rt: &HostRuntime, text: &str, fault: LineFault) -> u8 {
+    let alloc = rt.alloc();
+    let byte = fault.offset as u128 + 1;
+    let reason = fault.reason.name();
+    let Ok(wrong) = format!(in alloc; "the operand is wrong at byte {byte}: {reason}") else {
+        return failure(rt, Halt::Memory);
+    };
+    if begins_json(text) {
+        return misuse(rt, wrong.as_str());
+    }
+    let Ok(quoted) = Node::String(text).to_string(alloc) else {
+        return failure(rt, Halt::Memory);
+    };
+    let advice = "for this text write --text, or the JSON text";
+    let Ok(words) = format!(in alloc; "{wrong}; {advice}: '{quoted}'") else {
+        return failure(rt, Halt::Memory);
+    };
+    misuse(rt, words.as_str())
+}
+
+// Whether a text begins as an array, an object or a string of JSON does.
+fn begins_json(text: &str) -> bool {
+    matches!(text.as_bytes(), [b'[' | b'{' | b'"', ..])
 }
 
 /// An operand as a path, or the status after its fault is reported.

@@ -17,8 +17,8 @@ enum Place {
 }
 
 /// Refuses an output that is one of these inputs, by name, by link or as a device, and returns the
-/// status after the report. `-` is standard output, and no inputs are standard input. No file is
-/// opened.
+/// status after the report. `-` is standard output, or as an input standard input, and so are no
+/// inputs. No file is opened.
 pub fn expect_other_file(rt: &HostRuntime, output: &str, inputs: &[&str]) -> Result<(), u8> {
     let place = if output == "-" {
         stream_place(rt, "/proc/self/fd/1")
@@ -44,7 +44,12 @@ fn is_read(rt: &HostRuntime, place: Option<Place>, inputs: &[&str]) -> bool {
         return stream_place(rt, "/proc/self/fd/0") == place;
     }
     for input in inputs {
-        if place_of(rt, *input) == place {
+        let input_place = if *input == "-" {
+            stream_place(rt, "/proc/self/fd/0")
+        } else {
+            place_of(rt, *input)
+        };
+        if input_place == place {
             return true;
         }
     }

@@ -2,7 +2,10 @@
 
 use crate::arguments::{form_in, is_quiet_in, operand_in, output_in, stops_in, words_in};
 use crate::commands::End;
-use crate::files::{buffered, closed, kind_after_mark, open_file, progress_of};
+use crate::files::{
+    Source, buffered, closed, expect_input_once, inputs_of, kind_after_mark, open_source,
+    progress_of,
+};
 use crate::halt::Halt;
 use crate::messages::{ended, name_kind, notice, reports};
 use crate::output::Output;
@@ -14,12 +17,14 @@ use crate::write::write_bytes;
 use clap::ArgMatches;
 use jsonb_functions::Selector;
 use jsonb_typed::Survey;
-use std::io::Read;
 
 /// Counts what the values are to which a path leads. After a wrong row at which the run stops
 /// nothing is written.
 pub fn write_survey(rt: &HostRuntime, path: &[Selector<'_>], arguments: &ArgMatches<'_>) -> u8 {
     let words = words_in(arguments).unwrap_or(&[]);
+    if let Err(status) = expect_input_once(rt, words) {
+        return status;
+    }
     let mut output = match Output::open(rt, output_in(arguments), words) {
         Ok(output) => output,
         Err(status) => return status,
@@ -73,14 +78,10 @@ fn survey_files(
         form: form_in(arguments, false),
         stops_at_faults: stops_in(arguments, true),
     };
-    let names = words_in(arguments).unwrap_or(&[]);
-    if names.is_empty() {
-        return survey_reader(rt, path, plan, progress, rt.reader(), survey);
-    }
-    for name in names {
+    for name in inputs_of(words_in(arguments).unwrap_or(&[])) {
         plan.name = name;
-        let file = open_file(rt, *name)?;
-        total = total.with(survey_reader(rt, path, plan, progress, file, survey)?);
+        let source = open_source(rt, *name)?;
+        total = total.with(survey_source(rt, path, plan, progress, source, survey)?);
         if total.is_stopped {
             break;
         }
@@ -88,16 +89,16 @@ fn survey_files(
     Ok(total)
 }
 
-// Counts the values of the rows of a reader.
-fn survey_reader<R: Read + Drop>(
+// Counts the values of the rows of an input.
+fn survey_source(
     rt: &HostRuntime,
     path: &[Selector<'_>],
     plan: Plan<'_>,
     progress: &Progress<'_>,
-    reader: R,
+    source: Source,
     survey: &mut Survey,
 ) -> Result<Summary, Halt> {
-    let mut reader = buffered(rt, progress, reader)?;
+    let mut reader = buffered(rt, progress, source)?;
     let kind = kind_after_mark(rt, plan.name, plan.form, &mut reader);
     let mut errors = reports(rt, progress);
     let outcome = survey_rows(rt.alloc(), path, &plan, &mut reader, survey, &mut errors);
