@@ -6,6 +6,7 @@ pub mod EscapeLaws
 pub mod SortLaws
 pub mod KeyLaws
 pub mod RemovalLaws
+pub mod DatedLaws
 pub mod ExtractLaws
 pub mod ArgumentLaws
 pub mod MergeLaws

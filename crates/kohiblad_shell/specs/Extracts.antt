@@ -1,6 +1,6 @@
 -- Lines of CSV with the values at paths, each as a value of a type.
 use Rattle.std.specs.Prelude.{◌≡◌, ◌==◌, ◌||◌, ◌+◌, ℕ, Bool, List, [], ◌∷◌, ◌++◌, Any, Option}
-use Rattle.std.specs.Prelude.{None, Some, Result, Ok, Err, cond, decimal, flat_map, length}
+use Rattle.std.specs.Prelude.{None, Some, Result, Ok, Err, cond, decimal, flat_map, length, true}
 use Rattle.std.specs.Borrow.{Bor}
 use Rattle.std.specs.Fmt.{signed_decimal}
 use Rattle.std.specs.List.{AllZip, join_with_byte, list_any}
@@ -9,6 +9,9 @@ use Rattle.std.specs.declared.vec.Vec.{Vec}
 use Rattle.jsonb_value.specs.Text.{compact, decimal_text, extension_text}
 use Rattle.jsonb_value.specs.Tree as trees
 use Rattle.jsonb_value.specs.Tree.{Tree}
+use Rattle.jsonb_value.specs.declared.extension.Date.{Date}
+use Rattle.jsonb_value.specs.declared.extension.Timestamp.{Timestamp}
+use Rattle.jsonb_value.specs.declared.extension.TimestampTz.{TimestampTz}
 use Rattle.jsonb_functions.specs.Selected.{selected, first_tree}
 use Rattle.jsonb_typed.specs.Scalars.{ScalarOf, Stands}
 use Rattle.jsonb_typed.specs.declared.lattice.LeastType.{LeastType}
@@ -22,6 +25,7 @@ use Rattle.kohiblad_shell.specs.declared.outcome.LineFault.{LineFault}
 use Rattle.kohiblad_shell.specs.declared.outcome.Unanswered.{Unanswered}
 use Rattle.kohiblad_shell.specs.declared.outcome.Unanswered.TheVariants.{Wrong}
 use Rattle.kohiblad_shell.specs.Faults.{plain_fault}
+use Rattle.kohiblad_shell.specs.IsoTexts.{SaysDate, SaysTimestamp, SaysZoned}
 use Rattle.kohiblad_shell.specs.Outcomes.{Outcome}
 use Rattle.kohiblad_shell.specs.Removals.{begins_path}
 
@@ -60,28 +64,50 @@ abbrev pub IsFieldBy : {V : Type 0} → (V → Tree → Type 0) → (V → List 
 IsFieldBy {V = V} Stands text t None = (v : V) → Stands v t → ⊥
 IsFieldBy {V = V} Stands text t (Some field) = (v : V) × (Stands v t × (field ≡ text v))
 
+-- The field is the text of a value that a text says; there is none if it says no value.
+abbrev pub IsSaidField : {V : Type 0} → (V → List ℕ → Type 0) → (V → List ℕ) → List ℕ
+    → Option (List ℕ) → Type 0
+IsSaidField {V = V} Says text s None = (v : V) → Says v s → ⊥
+IsSaidField {V = V} Says text s (Some field) = (v : V) × (Says v s × (field ≡ text v))
+
+-- The field of a value that stands for the tree, or if dates are read of one that its text says.
+abbrev pub IsDatedField : {V : Type 0} → Bool → (V → Tree → Type 0) → (V → List ℕ → Type 0)
+    → (V → List ℕ) → Tree → Option (List ℕ) → Type 0
+IsDatedField {V = V} true Stands Says text (trees.text s) field =
+    IsSaidField {V = V} Says text s field
+IsDatedField {V = V} reads_dates Stands Says text t field = IsFieldBy {V = V} Stands text t field
+
 -- The same for a type, in whose columns numbers stand by their values.
-abbrev pub IsScalarField : ScalarType → Tree → Option (List ℕ) → Type 0
-IsScalarField type t field =
+abbrev pub IsScalarField : Bool → ScalarType → Tree → Option (List ℕ) → Type 0
+IsScalarField reads_dates scalars.Date t field =
+    IsDatedField {V = Date} reads_dates (Stands ByValue scalars.Date) SaysDate
+    (value_text scalars.Date) t field
+IsScalarField reads_dates scalars.Timestamp t field =
+    IsDatedField {V = Timestamp} reads_dates (Stands ByValue scalars.Timestamp) SaysTimestamp
+    (value_text scalars.Timestamp) t field
+IsScalarField reads_dates scalars.ZonedTimestamp t field =
+    IsDatedField {V = TimestampTz} reads_dates (Stands ByValue scalars.ZonedTimestamp) SaysZoned
+    (value_text scalars.ZonedTimestamp) t field
+IsScalarField reads_dates type t field =
     IsFieldBy {V = ScalarOf type} (Stands ByValue type) (value_text type) t field
 
 -- The same for the type of a column. Of the first type nothing is a value. Each tree is of mixed
 -- type, and its field is its compact text.
-abbrev pub IsFieldOf : LeastType → Tree → Option (List ℕ) → Type 0
-IsFieldOf types.Nothing t field = field ≡ None
-IsFieldOf (types.Of type) t field = IsScalarField type t field
-IsFieldOf types.Mixed t field = field ≡ Some (csv_text (compact t))
+abbrev pub IsFieldOf : Bool → LeastType → Tree → Option (List ℕ) → Type 0
+IsFieldOf reads_dates types.Nothing t field = field ≡ None
+IsFieldOf reads_dates (types.Of type) t field = IsScalarField reads_dates type t field
+IsFieldOf reads_dates types.Mixed t field = field ≡ Some (csv_text (compact t))
 
 -- The same of what a path leads to: the field is empty if that is nothing, or null.
-abbrev pub IsField : LeastType → Option Tree → Option (List ℕ) → Type 0
-IsField type None field = field ≡ Some []
-IsField type (Some trees.null) field = field ≡ Some []
-IsField type (Some t) field = IsFieldOf type t field
+abbrev pub IsField : Bool → LeastType → Option Tree → Option (List ℕ) → Type 0
+IsField reads_dates type None field = field ≡ Some []
+IsField reads_dates type (Some trees.null) field = field ≡ Some []
+IsField reads_dates type (Some t) field = IsFieldOf reads_dates type t field
 
 -- The same of the first value to which the path leads in a row.
 abbrev pub IsFieldAt : Tree → TypedPath → Option (List ℕ) → Type 0
-IsFieldAt t column field =
-    IsField column.value_type (first_tree (selected column.path.items t)) field
+IsFieldAt t column field = IsField column.reads_dates column.value_type
+    (first_tree (selected column.path.items t)) field
 
 -- The line of a row has a field for each column, with commas between them and a line feed at the
 -- end. There is none if a value is not of the type of its column.

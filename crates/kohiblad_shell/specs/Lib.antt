@@ -15,6 +15,7 @@ pub mod SortedRuns
 pub mod Rows
 pub mod Removals
 pub mod Ranges
+pub mod IsoTexts
 pub mod Extracts
 pub mod Operations
 pub mod Surveys

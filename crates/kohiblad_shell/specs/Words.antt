@@ -48,6 +48,13 @@ pub use Rattle.kohiblad_shell.specs.Extracts.{IsCsvLine, IsField, IsFieldAt, IsF
 pub use Rattle.kohiblad_shell.specs.Extracts.{IsFieldOf, IsScalarField, IsTypedLine}
 pub use Rattle.kohiblad_shell.specs.Extracts.{column_words, csv_text}
 pub use Rattle.kohiblad_shell.specs.Extracts.{doubled, ends_field, is_quoted, value_text}
+pub use Rattle.kohiblad_shell.specs.Extracts.{IsDatedField, IsSaidField}
+pub use Rattle.kohiblad_shell.specs.IsoTexts.{SaysDate, SaysTimestamp, SaysZoned, begins_time}
+pub use Rattle.kohiblad_shell.specs.IsoTexts.{calendar_day, clock_second, digit_or_zero}
+pub use Rattle.kohiblad_shell.specs.IsoTexts.{digit_pair, digits_millionths, is_utc, iso_day}
+pub use Rattle.kohiblad_shell.specs.IsoTexts.{iso_millionths, iso_offset, iso_second, iso_wall}
+pub use Rattle.kohiblad_shell.specs.IsoTexts.{iso_zoned, offset_of_parts, wall_micros, wall_of_parts}
+pub use Rattle.kohiblad_shell.specs.IsoTexts.{wall_said}
 pub use Rattle.kohiblad_shell.specs.Ranges.{is_in_range, is_tree_in}
 pub use Rattle.kohiblad_shell.specs.Removals.{IsRemoved, begins_path, path_count, without}
 pub use Rattle.kohiblad_shell.specs.Runs.{BeginsRun, IsRun}

@@ -38,6 +38,13 @@ pub fn value_in<'a>(arguments: &ArgMatches<'a>) -> &'a str
     }
 }
 
+/// Whether texts are read as dates and timestamps.
+pub fn reads_dates_in(arguments: &ArgMatches<'_>) -> bool
+    ensures { IsFlag arguments.now (codes "iso-dates") result }
+{
+    has_flag(arguments, "iso-dates")
+}
+
 /// What the values among the operands are: texts if the flag says so, or else JSON texts.
 pub fn value_kind_in(arguments: &ArgMatches<'_>) -> ValueKind
     ensures { IsFlag arguments.now (codes "text") (are_texts result) }

@@ -55,6 +55,11 @@ fn option_of<'a>(alloc: Global, option: CommandOption) -> Arg<'a> {
         CommandOption::Raw => {
             flag(alloc, "raw", "Write strings without quotes and escapes").short('r')
         }
+        CommandOption::IsoDates => {
+            let help =
+                "Read texts of RFC 3339 as dates and timestamps where a type of these is named";
+            flag(alloc, "iso-dates", help)
+        }
         CommandOption::Text => {
             let help = "Take VALUE, or FROM and TO, as texts, and not as JSON texts";
             flag(alloc, "text", help)

@@ -27,6 +27,7 @@ impl CommandRow {
 #[derive(Clone, Copy)]
 pub enum CommandOption {
     Raw,
+    IsoDates,
     Text,
     Pretty,
     By,
@@ -168,6 +169,7 @@ pub static COMMANDS: [CommandRow; 22] = [
         operands: OperandKind::Columns,
         options: &[
             CommandOption::Documents,
+            CommandOption::IsoDates,
             CommandOption::Quiet,
             CommandOption::OnError,
         ],

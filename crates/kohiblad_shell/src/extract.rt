@@ -10,6 +10,7 @@ ghost use Rattle.kohiblad_shell.specs.Words.{column_words, compact, csv_text, do
 ghost use Rattle.kohiblad_shell.specs.Words.{doubled, ends_field, extension_of, extension_text};
 ghost use Rattle.kohiblad_shell.specs.Words.{is_quoted, node_tree, number_text, value_text};
 
+use crate::dated::dated_field;
 use crate::first::first_value;
 use crate::removal::begins_path;
 use jsonb::{
@@ -23,11 +24,13 @@ use jsonb_typed::{
 };
 use std::alloc::Global;
 
-/// A path, and the type of the values to which it leads.
+/// A path, the type of the values to which it leads, and whether texts are read as dates and
+/// timestamps.
 #[derive(Drop)]
 pub struct TypedPath<'a> {
     pub path: Vec<Selector<'a>>,
     pub value_type: LeastType,
+    pub reads_dates: bool,
 }
 
 /// The line of CSV, as RFC 4180 lays it out but with a line feed alone at its end, of the first
@@ -83,6 +86,7 @@ fn field_in(
         alloc,
         first_value(document, &column.path),
         column.value_type,
+        column.reads_dates,
     )
 }
 
@@ -92,8 +96,9 @@ fn field_of(
     alloc: Global,
     value: Option<Node<'_>>,
     value_type: LeastType,
+    reads_dates: bool,
 ) -> Result<Option<Vec<u8>>, Error>
-    ensures ok { IfOk result (λ field. IsField value_type (option_map node_tree value.entry)
+    ensures ok { IfOk result (λ field. IsField reads_dates value_type (option_map node_tree value.entry)
         (option_map (λ field. field.items) field)) }
     ensures memory { IfErr result (λ e. e ≡ Error.OutOfMemory) }
 {
@@ -102,7 +107,7 @@ fn field_of(
     };
     match opened(value) {
         Node::Null => Ok(Some(Vec::new(alloc))),
-        other => field_of_known(alloc, other, value_type),
+        other => field_of_known(alloc, other, value_type, reads_dates),
     }
 }
 
@@ -111,23 +116,29 @@ fn field_of_known(
     alloc: Global,
     value: Node<'_>,
     value_type: LeastType,
+    reads_dates: bool,
 ) -> Result<Option<Vec<u8>>, Error>
     requires { HoldsNoScalar value }
-    ensures ok { IfOk result (λ field. IsFieldOf value_type (node_tree value.entry)
+    ensures ok { IfOk result (λ field. IsFieldOf reads_dates value_type (node_tree value.entry)
         (option_map (λ field. field.items) field)) }
     ensures memory { IfErr result (λ e. e ≡ Error.OutOfMemory) }
 {
     match value_type {
         LeastType::Nothing => Ok(None),
-        LeastType::Of(of) => field_of_scalar(alloc, value, of),
+        LeastType::Of(of) => field_of_scalar(alloc, value, of, reads_dates),
         LeastType::Mixed => Ok(Some(csv_text(alloc, &value.to_string(alloc)?)?)),
     }
 }
 
 // The same of a value that is to be of this type. `None` if it is not.
-fn field_of_scalar(alloc: Global, value: Node<'_>, of: ScalarType) -> Result<Option<Vec<u8>>, Error>
+fn field_of_scalar(
+    alloc: Global,
+    value: Node<'_>,
+    of: ScalarType,
+    reads_dates: bool,
+) -> Result<Option<Vec<u8>>, Error>
     requires { HoldsNoScalar value }
-    ensures ok { IfOk result (λ field. IsScalarField of (node_tree value.entry)
+    ensures ok { IfOk result (λ field. IsScalarField reads_dates of (node_tree value.entry)
         (option_map (λ field. field.items) field)) }
     ensures memory { IfErr result (λ e. e ≡ Error.OutOfMemory) }
 {
@@ -138,16 +149,16 @@ fn field_of_scalar(alloc: Global, value: Node<'_>, of: ScalarType) -> Result<Opt
         ScalarType::UInt64 => field_by(alloc, value, &UInt64 { fit }),
         ScalarType::Decimal(scale) => field_by(alloc, value, &Decimal { scale, fit }),
         ScalarType::Text => field_of_text(alloc, value),
-        ScalarType::Date => field_by(alloc, value, &Dates),
-        ScalarType::Timestamp => field_by(alloc, value, &Timestamps),
-        ScalarType::ZonedTimestamp => field_by(alloc, value, &ZonedTimestamps),
+        ScalarType::Date => dated_field(alloc, value, &Dates, reads_dates),
+        ScalarType::Timestamp => dated_field(alloc, value, &Timestamps, reads_dates),
+        ScalarType::ZonedTimestamp => dated_field(alloc, value, &ZonedTimestamps, reads_dates),
         ScalarType::Interval => field_by(alloc, value, &Intervals),
         ScalarType::Binary => field_of_binary(alloc, value),
     }
 }
 
 /// A type whose values are written as fields.
-trait Written: ColumnType {
+pub trait Written: ColumnType {
     ghost text: { Self → Self.Value → List ℕ };
 
     /// The field of a value.
@@ -221,8 +232,8 @@ impl Written for Intervals {
     }
 }
 
-// The field of a value of this type. `None` if it is none.
-fn field_by<T: Written>(
+/// The field of a value of this type. `None` if it is none.
+pub fn field_by<T: Written>(
     alloc: Global,
     value: Node<'_>,
     value_type: &T,

@@ -5,6 +5,7 @@ mod arguments;
 mod command;
 mod command_line;
 mod commands;
+mod dated;
 mod escape;
 mod expected;
 mod extract;
@@ -12,6 +13,7 @@ mod files;
 mod first;
 mod halt;
 mod input;
+mod iso;
 mod key;
 mod kind;
 mod mark;
@@ -47,8 +49,8 @@ mod watch;
 mod write;
 
 use arguments::{
-    form_in, is_quiet_in, layout_in, look_in, operand_in, style_in, value_in, value_kind_in,
-    words_in,
+    form_in, is_quiet_in, layout_in, look_in, operand_in, reads_dates_in, style_in, value_in,
+    value_kind_in, words_in,
 };
 use clap::ArgMatches;
 use command::{Command, Operands, operation_of};
@@ -317,14 +319,16 @@ fn with_removals(rt: &HostRuntime, row: &CommandRow, arguments: &ArgMatches<'_>)
 // Runs the command whose operands are paths, each with a type, which come before the files.
 fn with_columns(rt: &HostRuntime, row: &CommandRow, arguments: &ArgMatches<'_>) -> u8 {
     let mut columns = Vec::new(rt.alloc());
-    if let Err(status) = push_column(rt, &mut columns, operand_in(arguments), value_in(arguments)) {
+    let reads_dates = reads_dates_in(arguments);
+    let (path, type_name) = (operand_in(arguments), value_in(arguments));
+    if let Err(status) = push_column(rt, &mut columns, path, type_name, reads_dates) {
         return status;
     }
     let words = words_in(arguments).unwrap_or(&[]);
     let (typed, files) = words.split_at(column_words(words));
     let mut left = typed;
     while let [path, type_name, rest @ ..] = left {
-        if let Err(status) = push_column(rt, &mut columns, *path, *type_name) {
+        if let Err(status) = push_column(rt, &mut columns, *path, *type_name, reads_dates) {
             return status;
         }
         left = rest;

@@ -146,10 +146,16 @@ pub fn push_column<'a>(
     columns: &mut Vec<TypedPath<'a>>,
     path: &'a str,
     type_name: &str,
+    reads_dates: bool,
 ) -> Result<(), u8> {
     let path = path_in(rt, path)?;
     let value_type = type_in(rt, type_name)?;
-    match columns.push(TypedPath { path, value_type }) {
+    let column = TypedPath {
+        path,
+        value_type,
+        reads_dates,
+    };
+    match columns.push(column) {
         Ok(()) => Ok(()),
         Err(_) => Err(failure(rt, Halt::Memory)),
     }

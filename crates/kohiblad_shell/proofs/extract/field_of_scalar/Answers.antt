@@ -17,13 +17,13 @@ pub returns-in-Text-clause-ok : goal.returns-in-Text-clause-ok
 returns-in-Text-clause-ok c = rw c.in-Text.is c.field_of_text.ensures.ok
 
 pub returns-in-Date-clause-ok : goal.returns-in-Date-clause-ok
-returns-in-Date-clause-ok c = rw c.in-Date.is c.field_by-in-Date.ensures.ok
+returns-in-Date-clause-ok c = rw c.in-Date.is c.dated_field.ensures.ok
 
 pub returns-in-Timestamp-clause-ok : goal.returns-in-Timestamp-clause-ok
-returns-in-Timestamp-clause-ok c = rw c.in-Timestamp.is c.field_by-in-Timestamp.ensures.ok
+returns-in-Timestamp-clause-ok c = rw c.in-Timestamp.is c.dated_field-in-Timestamp.ensures.ok
 
 pub returns-in-ZonedTimestamp-clause-ok : goal.returns-in-ZonedTimestamp-clause-ok
-returns-in-ZonedTimestamp-clause-ok c = rw c.in-ZonedTimestamp.is c.field_by-in-ZonedTimestamp.ensures.ok
+returns-in-ZonedTimestamp-clause-ok c = rw c.in-ZonedTimestamp.is c.dated_field-in-ZonedTimestamp.ensures.ok
 
 pub returns-in-Interval-clause-ok : goal.returns-in-Interval-clause-ok
 returns-in-Interval-clause-ok c = rw c.in-Interval.is c.field_by-in-Interval.ensures.ok
