@@ -1,8 +1,9 @@
 //! Members and items of a value.
 
 ghost use Rattle.std.specs.Prelude.{◌≡◌, map, option_map};
+ghost use Rattle.std.specs.Iterator.{YieldsFirstBy};
 ghost use Rattle.jsonb.specs.EntryTrees.{rest_pairs};
-ghost use Rattle.jsonb.specs.Node.{node_tree, value_of_key};
+ghost use Rattle.jsonb.specs.Node.{member_tree, node_tree, value_of_key};
 ghost use Rattle.jsonb.specs.Node as nodes;
 ghost use Rattle.jsonb_path.specs.Found.{Finds, left_of, name_tree, place_of, value_tree};
 ghost use Rattle.jsonb_path.specs.Meaning.{gives, member_of, members_of, of_each, of_items};
@@ -127,6 +128,13 @@ pub(crate) fn members_in<'a>(node: Node<'a>) -> Option<Members<'a>>
     }
 }
 
+// The next member.
+fn next_member<'a>(members: &mut Members<'a>) -> Option<(&'a str, Node<'a>)>
+    ensures { YieldsFirstBy member_tree rest_pairs members.old result members.new }
+{
+    members.next()
+}
+
 // Appends the values of members.
 #[tactic(auto, using(crate::proofs::FoundLaws::walks))]
 pub(crate) fn append_values<'a>(
@@ -137,7 +145,7 @@ pub(crate) fn append_values<'a>(
         (gives (map value_tree (rest_pairs members.entry))) }
 {
     let mut left = members;
-    while let Some((_, value)) = left.next() {
+    while let Some((_, value)) = next_member(&mut left) {
         append(value, found)?;
     }
     Ok(())
@@ -153,7 +161,7 @@ pub(crate) fn append_names<'a>(
         (gives (map name_tree (rest_pairs members.entry))) }
 {
     let mut left = members;
-    while let Some((name, _)) = left.next() {
+    while let Some((name, _)) = next_member(&mut left) {
         append(Node::String(name), found)?;
     }
     Ok(())
