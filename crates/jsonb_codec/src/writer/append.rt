@@ -24,13 +24,9 @@ use crate::constants::{
 };
 use crate::word::{read_word, tagged_word, word_bytes};
 use jsonb_value::Error;
-use std::mem;
 
 // The top levels are measured without limits: limits do not help wide, shallow documents.
 const UNLIMITED_LEVELS: usize = 4;
-
-// Fewer bytes than these are appended without a call.
-const SHORT_BYTES: usize = 32;
 
 /// Appends the document with a single growth of the buffer. `InvalidJsonb`, before any allocation,
 /// if the value does not fit the format; `OutOfMemory` if the buffer cannot grow. After an error
@@ -72,72 +68,9 @@ pub fn append_bytes(out: &mut Vec<u8>, bytes: &[u8])
     requires { HasRoom out.old bytes.now }
     ensures { AppendsBytes out.old out.new bytes.now }
 {
-    if bytes.len() < SHORT_BYTES {
-        let buffer = take_buffer(out);
-        *out = append_short(buffer, bytes);
-        return;
-    }
     let Ok(()) = out.extend_from_slice(bytes) else {
         unreachable!();
     };
-}
-
-// Takes the buffer out of its place. A loop keeps the buffer's length in a register, as it cannot
-// where the bytes that it writes may overwrite that length.
-#[inline(always)]
-fn take_buffer(out: &mut Vec<u8>) -> Vec<u8>
-    ensures { result ≡ out.old }
-{
-    let empty = Vec::new(*out.allocator());
-    mem::replace(out, empty)
-}
-
-// Appends few bytes without a call. The buffer must have the capacity.
-#[inline(always)]
-fn append_short(buffer: Vec<u8>, bytes: &[u8]) -> Vec<u8>
-    requires short { length bytes.now < 2 ^ 5 }
-    requires room { HasRoom buffer bytes.now }
-    ensures { AppendsBytes buffer result bytes.now }
-{
-    let (buffer, left) = append_first::<16>(buffer, bytes);
-    let (buffer, left) = append_first::<8>(buffer, left);
-    let (buffer, left) = append_first::<4>(buffer, left);
-    let (buffer, left) = append_first::<2>(buffer, left);
-    let (buffer, _) = append_first::<1>(buffer, left);
-    buffer
-}
-
-// Appends the first `N` bytes if there are as many; returns those that are left.
-#[inline(always)]
-fn append_first<'b, const N: usize>(buffer: Vec<u8>, bytes: &'b [u8]) -> (Vec<u8>, &'b [u8])
-    requires size { N ≤ 16 }
-    requires short { length bytes.now < N + N }
-    requires room { HasRoom buffer bytes.now }
-    ensures short { length result.1.now < N }
-    ensures room { HasRoom result.0 result.1.now }
-    ensures written { result.0.items ++ result.1.now ≡ buffer.items ++ bytes.now }
-    ensures capacity { vec_capacity buffer ≤ vec_capacity result.0 }
-{
-    match bytes.split_first_chunk::<N>() {
-        Some((chunk, left)) => (append_chunk(buffer, *chunk), left),
-        None => (buffer, bytes),
-    }
-}
-
-// Appends the bytes of an array, as one store if it has 2, 4, 8 or 16 of them. The buffer must have
-// the capacity.
-#[inline(always)]
-fn append_chunk<const N: usize>(buffer: Vec<u8>, chunk: [u8; N]) -> Vec<u8>
-    requires { HasRoom buffer chunk }
-    ensures { AppendsBytes buffer result chunk.entry }
-{
-    let mut written = buffer;
-    let mut left: &[u8] = &chunk;
-    'bytes: while let [byte, rest @ ..] = left {
-        written.push_reserved(*byte);
-        left = rest;
-    }
-    written
 }
 
 /// Appends one word. The buffer must have the capacity.
@@ -147,11 +80,7 @@ pub fn append_word(out: &mut Vec<u8>, number: u32)
     requires { HasRoom out.old (word number) }
     ensures { AppendsBytes out.old out.new (word number) }
 {
-    let [first, second, third, last] = word_bytes(number);
-    out.push_reserved(first);
-    out.push_reserved(second);
-    out.push_reserved(third);
-    out.push_reserved(last);
+    append_bytes(out, &word_bytes(number));
 }
 
 // The length in the container's entry word that was written at index `entry`.
@@ -224,20 +153,18 @@ fn append_item_entries<S: Source>(
     ensures { (ss : Shapes) → S.meaning.items items ss
         → AppendsBytes out.old out.new (entries ss) }
 {
-    let mut buffer = take_buffer(out);
     let mut left = items;
     let mut size_left = size;
     while let Some((item, others)) = S::split_item(left) {
         size_left -= match S::level(item) {
-            Level::Leaf(leaf) => append_leaf_entry(&mut buffer, leaf),
+            Level::Leaf(leaf) => append_leaf_entry(out, leaf),
             container => {
                 let size = item_size::<S>(item, container, others, size_left, unlimited_levels);
-                append_container_entry(&mut buffer, size)
+                append_container_entry(out, size)
             }
         };
         left = others;
     }
-    *out = buffer;
 }
 
 // Appends the entry words of values, whose payloads have `size` bytes in total, together with their
@@ -254,21 +181,19 @@ fn append_value_entries<S: Source>(
     ensures { (ss : Shapes) → S.meaning.members members ss
         → AppendsBytes out.old out.new (entries ss) }
 {
-    let mut buffer = take_buffer(out);
     let mut left = members;
     let mut size_left = size;
     while let Some((key, (value, others))) = S::split_member(left) {
         size_left -= key.len();
         size_left -= match S::level(value) {
-            Level::Leaf(leaf) => append_leaf_entry(&mut buffer, leaf),
+            Level::Leaf(leaf) => append_leaf_entry(out, leaf),
             container => {
                 let size = value_size::<S>(value, container, &others, size_left, unlimited_levels);
-                append_container_entry(&mut buffer, size)
+                append_container_entry(out, size)
             }
         };
         left = others;
     }
-    *out = buffer;
 }
 
 // Appends the entry word of a leaf; returns its payload length.
@@ -305,13 +230,11 @@ fn append_key_entries<S: Source>(out: &mut Vec<u8>, members: S::Members)
     ensures { (ss : Shapes) → S.meaning.members members ss
         → AppendsBytes out.old out.new (key_entries ss) }
 {
-    let mut buffer = take_buffer(out);
     let mut left = members;
     while let Some((key, (_, others))) = S::split_member(left) {
-        let _ = append_leaf_entry(&mut buffer, key);
+        let _ = append_leaf_entry(out, key);
         left = others;
     }
-    *out = buffer;
 }
 
 // Appends the keys.
@@ -322,31 +245,11 @@ fn append_keys<S: Source>(out: &mut Vec<u8>, members: S::Members)
     ensures { (ss : Shapes) → S.meaning.members members ss
         → AppendsBytes out.old out.new (key_payloads ss) }
 {
-    let mut buffer = take_buffer(out);
     let mut left = members;
     while let Some((key, (_, others))) = S::split_member(left) {
-        buffer = append_key(buffer, key);
+        key.append_to(out);
         left = others;
     }
-    *out = buffer;
-}
-
-// Appends a key. The buffer must have the capacity. Only a long key is appended by a call to which
-// the buffer is lent.
-#[inline(always)]
-fn append_key<L: Leaf>(buffer: Vec<u8>, key: L) -> Vec<u8>
-    requires short { length (L.code key).1 < 2 ^ 28 }
-    requires room { HasRoom buffer (L.code key).1 }
-    ensures { AppendsBytes buffer result (L.code key).1 }
-{
-    let mut written = buffer;
-    if key.len() < SHORT_BYTES {
-        key.append_to(&mut written);
-        return written;
-    }
-    let mut lent = written;
-    key.append_to(&mut lent);
-    lent
 }
 
 // Appends the payloads of items, whose entry words are at index `words`.

@@ -11,10 +11,7 @@ use Rattle.jsonb_codec.proofs.writer.append.append_item_entries.Goals as goal
 pub loop-item-init : goal.loop-item-init
 loop-item-init g c =
     let (ss, (are, (can, size))) = c.requires in
-    record {
-      going = rw c.take_buffer-buffer.ensures (going_start _ entries _ c.args.out.now ss are can);
-      size = size;
-    }
+    record { going = going_start _ entries _ c.args.out.now ss are can; size = size }
 
 pub item_size-size-requires : goal.item_size-size-requires
 item_size-size-requires g c =
@@ -31,18 +28,18 @@ loop-item-preserved g c =
     let f = first m.child m.items w.left (c.in-Some.ensures.split w.left w.are_left) in
     let is = c.level.ensures.is f.child f.is in
     let size = length (payload f.child) in
-    let put : AppendsBytes c.loop-item.buffer c.match-level.buffer (word (shape_type f.child + size))
+    let put : AppendsBytes c.loop-item.out c.match-level.out (word (shape_type f.child + size))
     × (c.match-level.size_left ≡ size) =
     elim c.match-level.branch [
       | in-Leaf b ↦
           let same = is_leaf code m f.child b.in-Leaf.is is in
           let entry = b.append_leaf_entry.ensures in
-          rw (b.buffer-is, b.size_left-is, same.0, same.1) (entry.written, entry.size)
+          rw (b.out-is, b.size_left-is, same.0, same.1) (entry.written, entry.size)
       | in_default-level b ↦
           let type = is_container code m c.level.result f.child b.in_default-level.not-Leaf is in
           let known = b.item_size-size.ensures f.child is in
           let entry = b.append_container_entry.ensures in
-          rw (b.buffer-is, b.size_left-is, type)
+          rw (b.out-is, b.size_left-is, type)
           (rw known at entry.written, rw known at entry.size)
     ] in record {
       going =

@@ -5,7 +5,7 @@ use Rattle.jsonb_codec.proofs.writer.append.append_item_entries.Given as goal
 
 abbrev pub invariant-loop-item : goal.invariant-loop-item
 invariant-loop-item g l = record {
-  going : Going g.S.Source.meaning.items entries l.fn.items l.fn.out l.buffer l.left;
+  going : Going g.S.Source.meaning.items entries l.fn.items l.fn.out l.out l.left;
   size : l.size_left ≡ body going.left;
 }
 

@@ -4,7 +4,7 @@ use Rattle.jsonb_codec.proofs.writer.append.append_key_entries.Given as goal
 
 abbrev pub invariant-loop-key : goal.invariant-loop-key
 invariant-loop-key g l =
-    Going g.S.Source.meaning.members key_entries l.fn.members l.fn.out l.buffer l.left
+    Going g.S.Source.meaning.members key_entries l.fn.members l.fn.out l.out l.left
 
 abbrev pub decreases-loop-key : goal.decreases-loop-key
 decreases-loop-key g l = g.S.Source.meaning.members_size l.left

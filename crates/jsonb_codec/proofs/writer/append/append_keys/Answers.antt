@@ -7,7 +7,7 @@ pub loop-key-preserved : goal.loop-key-preserved
 loop-key-preserved g c =
     let m = g.S.Source.meaning in let w = c.loop-key.invariant in
     let f = first m.child m.members w.left (c.in-Some.ensures.split w.left w.are_left) in
-    going_on w f (λ k s. k) (λ k s us. refl) _ (rw f.keyed at c.append_key-buffer.ensures)
+    going_on w f (λ k s. k) (λ k s us. refl) _ (rw f.keyed at c.append_to.ensures)
 
 pub returns : goal.returns
 returns g c =

@@ -11,10 +11,7 @@ use Rattle.jsonb_codec.proofs.writer.append.append_value_entries.Goals as goal
 pub loop-key-init : goal.loop-key-init
 loop-key-init g c =
     let (ss, (are, (can, size))) = c.requires in
-    record {
-      going = rw c.take_buffer-buffer.ensures (going_start _ entries _ c.args.out.now ss are can);
-      size = size;
-    }
+    record { going = going_start _ entries _ c.args.out.now ss are can; size = size }
 
 pub value_size-size-requires : goal.value_size-size-requires
 value_size-size-requires g c =
@@ -33,18 +30,18 @@ loop-key-preserved g c =
     let is = c.level.ensures.is f.child f.is in
     let size = length (payload f.child) in
     let key = ap (λ (x : ℕ × List ℕ). length x.1) f.keyed in
-    let put : AppendsBytes c.loop-key.buffer c.match-level.buffer (word (shape_type f.child + size))
+    let put : AppendsBytes c.loop-key.out c.match-level.out (word (shape_type f.child + size))
     × (c.match-level.size_left ≡ size) =
     elim c.match-level.branch [
       | in-Leaf b ↦
           let same = is_leaf code m f.child b.in-Leaf.is is in
           let entry = b.append_leaf_entry.ensures in
-          rw (b.buffer-is, b.size_left-is, same.0, same.1) (entry.written, entry.size)
+          rw (b.out-is, b.size_left-is, same.0, same.1) (entry.written, entry.size)
       | in_default-level b ↦
           let type = is_container code m c.level.result f.child b.in_default-level.not-Leaf is in
           let known = b.value_size-size.ensures f.child is in
           let entry = b.append_container_entry.ensures in
-          rw (b.buffer-is, b.size_left-is, type)
+          rw (b.out-is, b.size_left-is, type)
           (rw known at entry.written, rw known at entry.size)
     ] in record {
       going =

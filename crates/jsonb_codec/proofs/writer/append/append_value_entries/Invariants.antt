@@ -5,7 +5,7 @@ use Rattle.jsonb_codec.proofs.writer.append.append_value_entries.Given as goal
 
 abbrev pub invariant-loop-key : goal.invariant-loop-key
 invariant-loop-key g l = record {
-  going : Going g.S.Source.meaning.members entries l.fn.members l.fn.out l.buffer l.left;
+  going : Going g.S.Source.meaning.members entries l.fn.members l.fn.out l.out l.left;
   size : l.size_left ≡ body going.left;
 }
 
