@@ -222,7 +222,7 @@ def signed(sign, expression):
 
 
 def in_parentheses(expression, steps):
-    """An expression in parentheses, and accessors after it."""
-    if isinstance(expression, Chain) and not expression.steps:
-        return Chain(expression.primary, steps)
+    """An expression in parentheses, and accessors after it: a chain goes on."""
+    if isinstance(expression, Chain):
+        return Chain(expression.primary, expression.steps + steps)
     return Chain(Inner(expression), steps) if steps else expression
