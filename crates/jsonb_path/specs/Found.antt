@@ -124,5 +124,5 @@ filtered_by place p u =
 
 -- The items that subscripts name, of what has items.
 abbrev pub selected_in : meaning.Place → Subscripts → Option (List Tree) → meaning.Outcome
-selected_in place subscripts None = meaning.gives []
-selected_in place subscripts (Some ts) = meaning.select place subscripts ts
+selected_in place named None = meaning.gives []
+selected_in place named (Some ts) = meaning.select place named ts
