@@ -28,8 +28,3 @@ rtlib = rt.rtlib
 def lanes():
     """How many provers run side by side: one a processor, as far as the free memory goes."""
     return max(1, min(rt.processors(), rt.free() // MEMORY))
-
-
-def kept_archive(crate):
-    """Where the archive of the library for C is kept that is built of these very files."""
-    return f"{rt.STORE}/kohiblad-{rt.stamp_of(crate, {})}.a"
