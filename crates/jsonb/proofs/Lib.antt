@@ -43,3 +43,4 @@ pub mod KeyOrderLaws
 pub mod SortLaws
 pub mod GatheringLaws
 pub mod ExampleLaws
+pub mod CopyLaws

@@ -3,7 +3,7 @@ use Rattle.std.proofs.Common.{◌≡◌, ℕ, zero, suc, ◌+◌, ◌-◌, ◌*�
 use Rattle.std.proofs.Common.{if◌then◌else◌, Bool, true, false, List, [], ◌∷◌, ◌++◌, length, take}
 use Rattle.std.proofs.Common.{drop, Option, None, Some, Result, Ok, Err, refl, sym, ap}
 use Rattle.std.proofs.Common.{subst, ◌∙◌, arith, min, eqb-true, le-leb, length-append, length-drop}
-use Rattle.std.proofs.Common.{append-nil}
+use Rattle.std.proofs.Common.{append-nil, option_map, IsOkAnd}
 use Rattle.std.specs.Int.{w32, from_be_bytes}
 use Rattle.std.proofs.lemmas.Bool.{lt-ltb, le-ltb, ltb-true, ltb-false}
 use Rattle.std.proofs.lemmas.Bool.Decides.{leb_tells}
@@ -22,14 +22,15 @@ use Rattle.jsonb.specs.declared.lookup.ValueWord.{ValueWord}
 use Rattle.jsonb.specs.declared.lookup.prefix.Progress.{Progress}
 use Rattle.jsonb.specs.declared.lookup.prefix.Progress.TheVariants as progress
 use Rattle.jsonb.specs.Entries.{payloads_end}
-use Rattle.jsonb.specs.Entry.{part_at, placed_by, placed_within}
+use Rattle.jsonb.specs.Entry.{entry_there, part_at, placed_by, placed_within}
 use Rattle.jsonb.specs.Lookup.{FindsEntry, FindsWord}
 use Rattle.jsonb.specs.Parts.{length_in, part_length, length_before, part_start, key_of_size}
 use Rattle.jsonb.specs.Parts.{HasParts, PassedBefore, IsPlaceOf, key_unread, value_unread}
-use Rattle.jsonb.specs.Prefix.{is_name, FindsUnder, stops_under, key_stops, next_stop, progress_of}
-use Rattle.jsonb.specs.Prefix.{item_entry, item_stops, item_under, some_entry}
+use Rattle.jsonb.specs.Prefix.{is_name, FindsPlace, FindsUnder, stops_under, key_stops, next_stop}
+use Rattle.jsonb.specs.Prefix.{progress_of, item_entry, item_stops, item_below, some_entry}
 use Rattle.jsonb.specs.Prefix.{IsProgress, IsKeyProgress, IsFoundInDocument}
 use Rattle.jsonb.specs.Steps.{◌>>=◌}
+use Rattle.jsonb.specs.StoredEntries.{IsEntryAt}
 use Rattle.jsonb.specs.Walk.{count_if, count_under}
 use Rattle.jsonb.proofs.AnswerLaws.{passed_before, accepted}
 use Rattle.jsonb.proofs.DocumentWalks.{count_under-Doc}
@@ -454,7 +455,7 @@ module _ (b : List ℕ) (index n hand len : ℕ) where
 
   abbrev Comes_to : Result Progress Error → Type 0
   Comes_to result = IsProgress (next_stop hand len (item_stops index (Ok (Some n))))
-      (λ found. found ≡ item_under b index (Ok (Some n))) result
+      (λ found. found ≡ item_below b index (Ok (Some n))) result
 
   pub item_past : n ≤ index → Comes_to (Ok progress.Absent)
   item_past past =
@@ -479,15 +480,59 @@ module _ (b : List ℕ) (index n hand len : ℕ) where
       (λ found. found ≡ some_entry (item_entry b index n)) result) is
       (some_entry read, (ap some_entry (sym same), done)))
 
--- How far a look-up comes in a document.
-pub document_progress : (name b : List ℕ) (hand : ℕ) (result : Result Progress Error) (t : Tree)
-    → IsKeyProgress name b hand result → Doc b t → IsFoundInDocument name b t hand result
-document_progress name b hand result t h doc =
-    by (next_stop hand (length b) (key_stops b)) (next_past (length b) hand (key_stops b)) h where
+-- What a look-up finds, with the closure's results in another form.
+entry_weaker : (answers others : List ℕ → Bool → Type 0)
+    (imply : (key : List ℕ) (b : Bool) → answers key b → others key b) (size : ℕ) (b : List ℕ)
+    (n : ℕ) (r : Result (Option Entry) Error) (reads : ℕ)
+    → FindsEntry answers size b n r reads → FindsEntry others size b n r reads
+entry_weaker answers others imply size b n (Ok None) reads h = record {
+  none = passed_before answers others imply size b n n h.none;
+  cost = h.cost;
+}
+entry_weaker answers others imply size b n (Ok (Some entry)) reads h = (
+  record {
+    pair = h.0.pair;
+    key = accepted answers others imply size b n h.0.pair h.0.key;
+    there = h.0.there;
+    cost = h.0.cost;
+  },
+  h.1,
+)
+entry_weaker answers others imply size b n (Err e) reads (key_unread pair among before is) =
+    key_unread pair among (passed_before answers others imply size b n pair before) is
+entry_weaker answers others imply size b n (Err e) reads (value_unread pair key is) =
+    value_unread pair (accepted answers others imply size b n pair key) is
+
+-- What a look-up in any bytes finds, by the header that is read.
+module _ (name b : List ℕ) where
+  pub found_under : (count : Result (Option ℕ) Error) (found : Result (Option Entry) Error)
+      → count ≡ count_under b OBJECT_CONTAINER_TAG → FindsUnder name b count found
+      → FindsPlace name b found
+  found_under count found is h =
+      subst (λ (c : Result (Option ℕ) Error). FindsUnder name b c found) is h
+
+  pub found_among : (answers : List ℕ → Bool → Type 0)
+      → ((key : List ℕ) (x : Bool) → answers key x → x ≡ is_name name key)
+      → (n reads : ℕ) (found : Result (Option Entry) Error)
+      → Ok (Some n) ≡ count_under b OBJECT_CONTAINER_TAG
+      → FindsEntry answers (length name) b n found reads → FindsPlace name b found
+  found_among answers imply n reads found is h = found_under (Ok (Some n)) found is (
+    reads,
+    entry_weaker answers (λ key x. x ≡ is_name name key) imply (length name) b n found reads h,
+  )
+
+-- What a look-up finds in a document.
+pub found_in_document : (name b : List ℕ) (t : Tree) (found : Result (Option Entry) Error)
+    → FindsPlace name b found → Doc b t
+    → IsOkAnd found (λ (o : Option Entry).
+    IsEntryAt (is_name name) (length name) b t (option_map (entry_there b) o))
+found_in_document name b t found h doc =
+    under (count_under b OBJECT_CONTAINER_TAG) found refl h where
       found_by : (found : Result (Option Entry) Error) (n reads : ℕ)
           → Ok (Some n) ≡ count_under b OBJECT_CONTAINER_TAG
           → FindsEntry (λ key answer. answer ≡ is_name name key) (length name) b n found reads
-          → IsFoundInDocument name b t hand (progress_of found)
+          → IsOkAnd found (λ (o : Option Entry).
+          IsEntryAt (is_name name) (length name) b t (option_map (entry_there b) o))
       found_by (Ok None) n reads counted h = no_entry_by_entries _ (is_name name) (length name)
           (λ key x fits says. says) b n t reads doc counted h
       found_by (Ok (Some entry)) n reads counted h = entry_by_entry _ (is_name name) (length name)
@@ -497,16 +542,30 @@ document_progress name b hand result t h doc =
 
       under : (count : Result (Option ℕ) Error) (found : Result (Option Entry) Error)
           → count ≡ count_under b OBJECT_CONTAINER_TAG → FindsUnder name b count found
-          → IsFoundInDocument name b t hand (progress_of found)
+          → IsOkAnd found (λ (o : Option Entry).
+          IsEntryAt (is_name name) (length name) b t (option_map (entry_there b) o))
       under (Err e) found counted h =
           absurd (let known = count_under-Doc b t OBJECT_CONTAINER_TAG doc in cc)
       under (Ok None) found counted h =
           rw h (no_entry_by_header (is_name name) (length name) b t doc counted)
       under (Ok (Some n)) found counted h = found_by found n h.0 counted h.1
 
+-- How far a look-up comes in a document.
+pub document_progress : (name b : List ℕ) (hand : ℕ) (result : Result Progress Error) (t : Tree)
+    → IsKeyProgress name b hand result → Doc b t → IsFoundInDocument name b t hand result
+document_progress name b hand result t h doc =
+    by (next_stop hand (length b) (key_stops b)) (next_past (length b) hand (key_stops b)) h where
+      come : (found : Result (Option Entry) Error)
+          → IsOkAnd found (λ (o : Option Entry).
+          IsEntryAt (is_name name) (length name) b t (option_map (entry_there b) o))
+          → IsFoundInDocument name b t hand (progress_of found)
+      come (Ok None) h = h
+      come (Ok (Some entry)) h = h
+      come (Err e) h = h
+
       by : (next : Option ℕ)
           → ((end : ℕ) → next ≡ Some end → (hand < end) × (end ≤ length b))
           → IsProgress next (FindsUnder name b (count_under b OBJECT_CONTAINER_TAG)) result
           → IsFoundInDocument name b t hand result
       by (Some end) past h = rw h (past end refl)
-      by None past h = rw h.1.1 (under (count_under b OBJECT_CONTAINER_TAG) h.0 refl h.1.0)
+      by None past h = rw h.1.1 (come h.0 (found_in_document name b t h.0 h.1.0 doc))

@@ -1,6 +1,7 @@
 -- The texts of documents and of other bytes.
 use Rattle.std.proofs.Common.{◌≡◌, ℕ, List, [], ◌∷◌, codes, length, Result, Ok, Err, refl}
 use Rattle.std.proofs.Common.{arith, String, string_bytes, ◌++◌}
+use Rattle.std.proofs.lemmas.Fmt.{contents_after_writes}
 use Rattle.std.specs.declared.fmt.Formatter.{Formatter}
 use Rattle.std.specs.declared.alloc.Global.{Global}
 use Rattle.std.specs.declared.fmt.Error as fmt
@@ -9,13 +10,14 @@ use Rattle.jsonb_value.specs.declared.error.Error.{Error}
 use Rattle.std.specs.Fmt.{HasWrittenStyled, formatter_writer}
 use Rattle.jsonb_value.specs.Tree.{Tree}
 use Rattle.jsonb_value.specs.Text.{compact, pretty}
-use Rattle.jsonb_value.proofs.Writing.{string_bytes-written}
 use Rattle.jsonb_codec.specs.Doc.{Doc, IsDocument}
 use Rattle.jsonb_codec.proofs.ZeroLaws.{Doc-least}
 use Rattle.bstr.proofs.lemmas.EncodeLemmas.{lossy_chars-utf8}
 use Rattle.std.specs.Str.{IsUtf8}
 use Rattle.jsonb.specs.Texts.{lossy_text, other_text, display_text}
 use Rattle.jsonb.specs.Texts.{pretty_display_text}
+use Rattle.jsonb.specs.declared.written.Written.{Written}
+use Rattle.jsonb.specs.Written.{written_text}
 use Rattle.jsonb.proofs.ItemMeaningLaws.{meaning_of-document, meaning_of-other}
 
 pub display_text-Doc : (b : List ℕ) (t : Tree) → Doc b t → display_text b ≡ compact t
@@ -39,15 +41,18 @@ pub other_text-some : (b : List ℕ) → (length b ≡ 0 → ⊥) → other_text
 other_text-some [] some = absurd (some refl)
 other_text-some (x ∷ xs) some = refl
 
--- what was written to a formatter over an empty string is the whole returned string
-pub string_written : (empty : String Global) (f g : Formatter (String Global)) (bs : List ℕ)
+-- what was written to a formatter over no text is the whole returned string
+pub string_written : (empty : Written) (f g : Formatter Written) (bs : List ℕ)
     (answer : Result (Unit {0}) fmt.Error) (r : Result (String Global) Error)
-    → (IsOk answer → HasWrittenStyled (λ s xs t. string_bytes t ≡ string_bytes s ++ xs) f bs g)
-    → string_bytes empty ≡ [] → formatter_writer f ≡ empty
-    → OnOk r (IsOk answer) → IfOk r (λ text. text ≡ formatter_writer g)
+    → (IsOk answer → HasWrittenStyled (λ s xs t. written_text t ≡ written_text s ++ xs) f bs g)
+    → written_text empty ≡ [] → formatter_writer f ≡ empty → OnOk r (IsOk answer)
+    → IfOk r (λ text. string_bytes text ≡ written_text (formatter_writer g))
     → IfOk r (λ text. string_bytes text ≡ bs)
 string_written empty f g bs answer (Ok text) all none start on is =
-    cc (is, string_bytes-written f g bs (all on), start, none)
+    let appended =
+    contents_after_writes (λ s xs t. written_text t ≡ written_text s ++ xs) written_text
+    (λ s xs t h. h) (formatter_writer f) bs (formatter_writer g) (all on).wrote in
+    cc (is, appended, start, none)
 string_written empty f g bs answer (Err e) all none start on is = tt
 
 pub prints_as : (r : Result (String Global) Error) (a b : List ℕ)

@@ -38,4 +38,5 @@ pub mod Within
 pub mod SortKey
 pub mod KeyOrder
 pub mod Examples
+pub mod Written
 pub mod Words

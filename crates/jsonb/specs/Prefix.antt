@@ -98,10 +98,10 @@ item_entry b index n = payloads_end b index 4 (4 + 4 * n) >>= placed_at b (4 + 4
 
 -- The entry of the item at an index under this header; none if it is not that of an array, or has
 -- no such item.
-abbrev pub item_under : List ℕ → ℕ → Result (Option ℕ) Error → Result (Option Entry) Error
-item_under b index (Err e) = Err e
-item_under b index (Ok None) = Ok None
-item_under b index (Ok (Some n)) =
+abbrev pub item_below : List ℕ → ℕ → Result (Option ℕ) Error → Result (Option Entry) Error
+item_below b index (Err e) = Err e
+item_below b index (Ok None) = Ok None
+item_below b index (Ok (Some n)) =
     if nat_lt index n then some_entry (item_entry b index n) else Ok None
 
 -- Where the entry word of the item at an index ends, under this header.
@@ -117,4 +117,4 @@ index_stops index b = 4 ∷ item_stops index (count_under b ARRAY_CONTAINER_TAG)
 -- How far a look-up of the index in b comes with so many of its bytes at hand.
 abbrev pub IsIndexProgress : ℕ → List ℕ → ℕ → Result Progress Error → Type 0
 IsIndexProgress index b hand result = IsProgress (next_stop hand (length b) (index_stops index b))
-    (λ found. found ≡ item_under b index (count_under b ARRAY_CONTAINER_TAG)) result
+    (λ found. found ≡ item_below b index (count_under b ARRAY_CONTAINER_TAG)) result

@@ -6,9 +6,9 @@ use Rattle.jsonb.specs.declared.sort_key.SortKey.TheVariants as keys
 use Rattle.jsonb.specs.Document.{document_bytes, document_tree}
 
 -- The bytes of a key.
-abbrev pub key_bytes : SortKey → List ℕ
-key_bytes (keys.Document d) = document_bytes d
-key_bytes (keys.Other bytes) = bytes.now
+abbrev pub sort_bytes : SortKey → List ℕ
+sort_bytes (keys.Document d) = document_bytes d
+sort_bytes (keys.Other bytes) = bytes.now
 
 -- The meaning of a key: the tree of a document; other bytes mean themselves.
 abbrev pub key_meaning : SortKey → Meaning

@@ -78,6 +78,7 @@ pub use Rattle.jsonb.specs.Payloads.{extension_error}
 pub use Rattle.jsonb.specs.Prefix.{AsksAtMost, FindsPlace, IsFoundInDocument, IsKeyProgress}
 pub use Rattle.jsonb.specs.Prefix.{IsIndexProgress, index_stops, is_name, key_stops, next_stop}
 pub use Rattle.jsonb.specs.Raw.{raw_bytes}
+pub use Rattle.jsonb.specs.Written.{written_text}
 pub use Rattle.jsonb.specs.Results.{AllMean, AllMeanAt, AreWithinLimits, IsArrayOfDocuments}
 pub use Rattle.jsonb.specs.Results.{IsArrayOfInputs, IsArrayUpToZeros, IsObjectOfDocuments}
 pub use Rattle.jsonb.specs.Results.{IsObjectOfInputs, IsObjectUpToZeros, MakeNoObject}

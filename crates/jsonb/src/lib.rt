@@ -4,6 +4,7 @@
 
 mod builder;
 mod code;
+mod copies;
 mod document;
 mod entries;
 mod examples;
@@ -25,6 +26,7 @@ mod sorting;
 mod stored_row;
 mod text;
 mod text_len;
+mod written;
 
 pub use builder::{ArrayBuilder, ArrayDistinctBuilder, ObjectBuilder};
 pub use document::{Contents, Document};

@@ -4,12 +4,13 @@ mod prefix;
 mod reads;
 
 ghost use Rattle.std.specs.Prelude.{◌≡◌, ◌+◌, ◌-◌, ◌*◌, ◌<◌, ◌≤◌, ◌^◌, length, Ok, IfOk};
-ghost use Rattle.std.specs.Prelude.{IfErr, IfSome, IsOk, OnOk};
+ghost use Rattle.std.specs.Prelude.{IfErr, IfSome, IsOk, IsOkAnd, OnOk, option_map};
 ghost use Rattle.jsonb.specs.Words.{FnReturnsAtPair, OBJECT_CONTAINER_TAG, FindsEntry, FindsKey};
 ghost use Rattle.jsonb.specs.Words.{FindsWord};
 ghost use Rattle.jsonb.specs.Words.{jentry_at, count_under, part_length, part_start, IsEntryIn};
 ghost use Rattle.jsonb.specs.Words.{HasParts, IsRefusal, NoneOfSize, IsFirstUnread};
-ghost use Rattle.jsonb.specs.Words.{count_in_header};
+ghost use Rattle.jsonb.specs.Words.{count_in_header, Doc, FindsPlace, IsEntryAt, Tree};
+ghost use Rattle.jsonb.specs.Words.{entry_there, is_name};
 
 use crate::entries::Entry;
 use crate::item::JsonbItem;
@@ -227,4 +228,25 @@ pub fn find_value<F: Fn(&[u8], &[u8]) -> bool>(
         return Ok(None);
     };
     Ok(Some(Entry::of_word(bytes, value.start, value.jentry)?))
+}
+
+/// The entry of the value of a key, with the place of its payload, which is not read. `None` if the
+/// object has no such key, or the bytes are not an object. `InvalidEOF` if the header or an entry
+/// word that is read is cut off; `InvalidJsonb` if the header is of no kind, or if a key of the
+/// name's length or the value runs past the end.
+pub fn find_entry(bytes: &[u8], name: &str) -> Result<Option<Entry>, Error>
+    ensures bytes { FindsPlace name.now bytes.now result }
+    ensures inside { IfOk result (λ o. IfSome o (IsEntryIn bytes.now)) }
+
+    // In a document: the entry of the value that `get` returns.
+    ensures document { (t : Tree) → Doc bytes.now t
+        → IsOkAnd result (λ found. IsEntryAt (is_name name.now) (length name.now)
+        bytes.now t (option_map (entry_there bytes.now) found)) }
+{
+    let mut reads = Reads::new();
+    let Some(count) = count_pairs(bytes, &mut reads)? else {
+        return Ok(None);
+    };
+    let is_name = |name: &[u8], key: &[u8]| name == key;
+    find_value(bytes, count, name, &is_name, &mut reads)
 }

@@ -6,6 +6,7 @@ use crate::item_type::{JsonbItemType, kind_of};
 use crate::lookup::{FoundValue, MAX_READS, Reads, count_pairs, find_value};
 use crate::owned::OwnedJsonb;
 use crate::text::{finish_text, text_for, write_pretty, write_view};
+use crate::written::Written;
 use jsonb_codec::layer::append_canonical;
 use jsonb_codec::value_of;
 use jsonb_value::{Error, Value};
@@ -317,7 +318,7 @@ impl<'a> RawJsonb<'a> {
         ensures read_again { (t : Tree) → Doc (raw_bytes self.now) t → IsPlain t → Fits t
             → MeansAgain (chars (pretty t)) t }
     {
-        let mut f = fmt::Formatter::new(String::new(alloc));
+        let mut f = fmt::Formatter::new(Written::new(alloc));
         let answer = write_pretty(self.as_bytes(), &mut f);
         finish_text(answer, f)
     }

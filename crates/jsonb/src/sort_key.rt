@@ -14,12 +14,12 @@ pub enum SortKey<'a> {
 
 impl<'a> SortKey<'a> {
     ghost use Rattle.std.specs.Prelude.{◌≡◌};
-    ghost use Rattle.jsonb.specs.SortKey.{key_bytes};
+    ghost use Rattle.jsonb.specs.SortKey.{sort_bytes};
     ghost use Rattle.jsonb.specs.Words.{meaning_of, meaning_within, key_meaning};
 
     /// Checks the bytes and returns their key.
     pub fn new(bytes: &'a [u8]) -> Self
-        ensures bytes { key_bytes result ≡ bytes.now }
+        ensures bytes { sort_bytes result ≡ bytes.now }
         ensures meaning { key_meaning result ≡ meaning_of bytes.now }
     {
         match Document::new(bytes) {
@@ -33,7 +33,7 @@ impl<'a> SortKey<'a> {
     /// 0, an empty array or object 1, any other array or object one more than its deepest child.
     /// Levels beyond `depth` are not examined, so bytes from outside are safe.
     pub fn within(bytes: &'a [u8], depth: usize) -> Self
-        ensures bytes { key_bytes result ≡ bytes.now }
+        ensures bytes { sort_bytes result ≡ bytes.now }
         ensures meaning { key_meaning result ≡ meaning_within depth bytes.now }
     {
         match Document::within(bytes, depth) {
@@ -44,7 +44,7 @@ impl<'a> SortKey<'a> {
 
     /// The bytes of the key.
     pub fn as_bytes(&self) -> &'a [u8]
-        ensures { result.now ≡ key_bytes self.now }
+        ensures { result.now ≡ sort_bytes self.now }
     {
         match self {
             SortKey::Document(document) => document.as_bytes(),

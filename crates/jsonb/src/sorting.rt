@@ -2,7 +2,7 @@
 
 ghost use Rattle.std.specs.Prelude.{◌≡◌, ◌++◌, ◌≤◌, length, drop, map, IfErr, OnOk, OnErr};
 ghost use Rattle.std.specs.Prelude.{IsPermutation, IsSorted};
-ghost use Rattle.jsonb.specs.SortKey.{key_bytes};
+ghost use Rattle.jsonb.specs.SortKey.{sort_bytes};
 ghost use Rattle.jsonb.specs.Words.{IsStable, on, meaning_cmp, meaning_of, raw_meaning, raw_bytes};
 
 use crate::raw::RawJsonb;
@@ -34,7 +34,7 @@ pub fn sort_views(alloc: Global, views: &mut [RawJsonb<'_>]) -> Result<(), Error
 fn put_views<'a>(keys: &[SortKey<'a>], views: &mut [RawJsonb<'a>])
     requires { length keys.now ≤ length views.old }
     ensures { map raw_bytes views.new
-        ≡ map key_bytes keys.now ++ drop (length keys.now) (map raw_bytes views.old) }
+        ≡ map sort_bytes keys.now ++ drop (length keys.now) (map raw_bytes views.old) }
 {
     for number in 0..keys.len() {
         views[number] = RawJsonb::new(keys[number].as_bytes());

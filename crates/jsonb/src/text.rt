@@ -9,11 +9,12 @@ ghost use Rattle.jsonb.specs.Words.{quoted_text, extension_text, depth, Doc, doc
 ghost use Rattle.jsonb.specs.Words.{part_tree, rest_trees, rest_pairs, node_tree, array_of};
 ghost use Rattle.jsonb.specs.Words.{object_of, IsContainer, HoldsNoScalar, layout_of, lossy_text};
 ghost use Rattle.jsonb.specs.Words.{display_text, pretty_display_text, pair_text};
-ghost use Rattle.jsonb.specs.Words.{HasIndentRoom, length_64};
+ghost use Rattle.jsonb.specs.Words.{HasIndentRoom, length_64, written_text};
 
 use crate::document::{Contents, Document};
 use crate::node::Node;
 use crate::nodes::{Items, Members};
+use crate::written::Written;
 use bstr::ByteSlice;
 use jsonb_codec::parts::Part;
 use jsonb_value::layer::{write_content, write_number, write_string};
@@ -28,26 +29,26 @@ pub fn text_laws()
     ensures pretty { (t : Tree) → pretty (norm t) ≡ pretty t }
 {}
 
-/// A string without text, with room for about the text of the bytes. `OutOfMemory` is the only
-/// error.
-pub fn text_for(alloc: Global, bytes: &[u8]) -> Result<String, Error>
-    ensures empty { IfOk result (λ text. string_bytes text ≡ []) }
+/// No text yet, with memory for about the text of the bytes. `OutOfMemory` is the only error.
+pub fn text_for(alloc: Global, bytes: &[u8]) -> Result<Written, Error>
+    ensures empty { IfOk result (λ written. written_text written ≡ []) }
     ensures tree { (t : Tree) → Doc bytes.now t → IsTree t }
     ensures memory { IfErr result (λ e. e ≡ Error.OutOfMemory) }
 {
     // The text is usually about as long as the bytes.
-    Ok(String::with_capacity(alloc, bytes.len())?)
+    Ok(Written::with_capacity(alloc, bytes.len())?)
 }
 
-/// The text that was written. Writing to a `String` fails only for lack of memory, so a failed
-/// write is `OutOfMemory`.
-pub fn finish_text(answer: fmt::Result, f: fmt::Formatter<String>) -> Result<String, Error>
+/// The text that was written. Writing to memory fails only for lack of it, so a failed write is
+/// `OutOfMemory`.
+pub fn finish_text(answer: fmt::Result, f: fmt::Formatter<Written>) -> Result<String, Error>
     ensures ok { OnOk result (IsOk answer) }
-    ensures text { IfOk result (λ text. text ≡ formatter_writer f) }
+    ensures text { IfOk result
+        (λ text. string_bytes text ≡ written_text (formatter_writer f)) }
     ensures memory { IfErr result (λ e. e ≡ Error.OutOfMemory) }
 {
     match answer {
-        Ok(()) => Ok(f.into_inner()),
+        Ok(()) => Ok(f.into_inner().finish()),
         Err(_) => Err(Error::OutOfMemory),
     }
 }
@@ -171,7 +172,7 @@ pub fn document_text(
         ≡ laid_out (layout_of layout) (document_tree document.entry)) }
     ensures memory { IfErr result (λ e. e ≡ Error.OutOfMemory) }
 {
-    let text = String::with_capacity(alloc, capacity)?;
+    let text = Written::with_capacity(alloc, capacity)?;
     let mut f = fmt::Formatter::new(text);
     let answer = write_document(document, layout, &mut f);
     finish_text(answer, f)
@@ -196,7 +197,7 @@ pub fn node_text(alloc: Global, node: Node) -> Result<String, Error>
     ensures text { IfOk result (λ text. string_bytes text ≡ compact (node_tree node.entry)) }
     ensures memory { IfErr result (λ e. e ≡ Error.OutOfMemory) }
 {
-    let mut f = fmt::Formatter::new(String::new(alloc));
+    let mut f = fmt::Formatter::new(Written::new(alloc));
     let answer = write_value(node, &mut f);
     finish_text(answer, f)
 }

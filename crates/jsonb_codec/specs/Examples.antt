@@ -4,7 +4,7 @@ use Rattle.jsonb_value.specs.declared.error.Error.TheVariants.{InvalidEOF, Inval
 use Rattle.jsonb_value.specs.declared.number.Number.TheVariants.{Int64, UInt64}
 use Rattle.jsonb_value.specs.Tree.{null, boolean, number, extension, binary, date}
 use Rattle.jsonb_value.specs.Tree.{timestamp_tz, interval, opaque}
-use Rattle.jsonb_value.specs.Notation.{hex, minus, whole, scaled, wide, string, items, members}
+use Rattle.jsonb_value.specs.Notation.{hex, neg, whole, scaled, wide, string, items, members}
 use Rattle.jsonb_codec.specs.WordBytes.{word, word_at, header_at}
 use Rattle.jsonb_codec.specs.JEntry.{jentry_of}
 use Rattle.jsonb_codec.specs.Doc.{Doc, IsDocument}
@@ -17,7 +17,7 @@ pub record ScalarDocuments : Type 0 where
   pub of_false : Doc (hex "20000000 30000000") (boolean false)
   pub of_string : Doc (hex "20000000 10000003 617364") (string "asd")
   pub of_no_characters : Doc (hex "20000000 10000000") (string "")
-  pub of_signed : Doc (hex "20000000 20000002 409c") (number (Int64 (minus 100)))
+  pub of_signed : Doc (hex "20000000 20000002 409c") (number (Int64 (neg 100)))
   pub of_unsigned : Doc (hex "20000000 20000003 50ffff") (number (UInt64 65535))
   pub of_zero : Doc (hex "20000000 20000001 00") (whole 0)
   pub of_signed_zero : Doc (hex "20000000 20000002 4000") (number (Int64 (pos 0)))
@@ -27,7 +27,7 @@ pub record ScalarDocuments : Type 0 where
       (number (wide (pos 1234) 2))
   pub of_bytes : Doc (hex "20000000 60000004 00 010203") (extension (binary (hex "010203")))
   pub of_date : Doc (hex "20000000 60000005 10 ffffffff")
-      (extension (date record { value = minus 1 }))
+      (extension (date record { value = neg 1 }))
   pub of_zone_in_hours : Doc (hex "20000000 6000000a 30 000640d6b7238000 08")
       (extension (timestamp_tz record { offset = pos 28800; value = pos 1760140800000000 }))
 
@@ -87,8 +87,8 @@ pub record WordExamples : Type 0 where
 -- What is written for trees.
 pub record CanonicalDocuments : Type 0 where
   pub of_signed_zero : canon (number (Int64 (pos 0))) ≡ hex "20000000 20000001 00"
-  pub of_least_in_one_byte : canon (number (Int64 (minus 128))) ≡ hex "20000000 20000002 4080"
-  pub of_two_bytes : canon (number (Int64 (minus 32768))) ≡ hex "20000000 20000003 408000"
+  pub of_least_in_one_byte : canon (number (Int64 (neg 128))) ≡ hex "20000000 20000002 4080"
+  pub of_two_bytes : canon (number (Int64 (neg 32768))) ≡ hex "20000000 20000003 408000"
   pub of_wide_decimal : canon (number (wide (pos 1234) 2))
       ≡ hex "20000000 20000012 70 000000000000000000000000000004d2 02"
   pub of_zone :
@@ -101,5 +101,5 @@ pub record CanonicalDocuments : Type 0 where
   pub of_nested : canon (items (boolean false ∷ whole 10 ∷ members (("k", string "v") ∷ []) ∷ []))
       ≡ hex "80000003 30000000 20000002 5000000e 500a 40000001 10000001 10000001 6b 76"
   pub of_decimals :
-      canon (members (("a", number (Int64 (minus 7))) ∷ ("b", number (scaled (pos 150) 2)) ∷ []))
+      canon (members (("a", number (Int64 (neg 7))) ∷ ("b", number (scaled (pos 150) 2)) ∷ []))
       ≡ hex "40000002 10000001 10000001 20000002 2000000a 61 62 40f9 70 0000000000000096 02"

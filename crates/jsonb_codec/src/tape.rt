@@ -47,8 +47,9 @@ use storage::Storage;
 use write::write_document;
 
 /// What was read of a text: what is stored; the places of containers; the entry words of items and
-/// the members of open containers, those of the innermost last; its frame; and the whole value once
-/// it is read, `None` if something inside it does not fit.
+/// the members of open containers, those of the innermost last; the order of the members of the
+/// object that was put in order last, whose memory the next one takes; the innermost container's
+/// frame; and the whole value once it is read, `None` if something inside it does not fit.
 #[derive(Drop)]
 pub struct Tape<'a> {
     alloc: Global,
@@ -56,6 +57,7 @@ pub struct Tape<'a> {
     places: Vec<Place>,
     words: Vec<u8>,
     members: Vec<Member<'a>>,
+    order: Vec<usize>,
     inner: Frame,
     whole: Option<Entry>,
 }
@@ -71,6 +73,7 @@ impl<'a> Tape<'a> {
             places: Vec::new(alloc),
             words: Vec::new(alloc),
             members: Vec::new(alloc),
+            order: Vec::new(alloc),
             inner: Frame {
                 kind: Kind::Whole,
                 place: 0,
@@ -365,9 +368,14 @@ impl<'a> Tape<'a> {
         ensures memory { IfErr result (λ e. e ≡ OutOfMemory) }
     {
         let first = self.inner.members;
-        let order = order_of(self.alloc, &self.members[first..], &self.storage)?;
+        order_of(
+            self.alloc,
+            &mut self.order,
+            &self.members[first..],
+            &self.storage,
+        )?;
         let sorted = self.members.len();
-        append_in_order(&mut self.members, first, &order)?;
+        append_in_order(&mut self.members, first, &self.order)?;
         let start = self.storage.heads.len();
         let size = self.storage.push_object_head(&self.members[sorted..])?;
         if size.is_none() {

@@ -23,6 +23,7 @@ pub mod BigEndian
 pub mod PayloadLaws
 pub mod PayloadDecision
 mod PayloadLengths
+mod ShortLaws
 pub mod Output
 pub mod NormTexts
 pub mod ScanLaws

@@ -2,11 +2,9 @@
 use Rattle.std.proofs.Common.{arith}
 use Rattle.std.proofs.Common.{◌≡◌, ℕ, List, ◌++◌}
 use Rattle.std.proofs.Output.{has_written_styled_append, has_written_styled_of_eq}
-use Rattle.std.proofs.lemmas.Fmt.{contents_after_writes}
 use Rattle.std.proofs.lemmas.Str.{encode_ascii}
 use Rattle.std.specs.declared.fmt.Formatter.{Formatter}
-use Rattle.std.specs.Prelude.{String, string_bytes}
-use Rattle.std.specs.Fmt.{HasWrittenStyled, formatter_writer}
+use Rattle.std.specs.Fmt.{HasWrittenStyled}
 
 module _ {W : Type 0} (took : W → List ℕ → W → Type 0) where
   pub joins_two : (f g h : Formatter W) (a b all : List ℕ) → HasWrittenStyled took f a g
@@ -25,13 +23,5 @@ module _ {W : Type 0} (took : W → List ℕ → W → Type 0) where
       → a ++ (b ++ (c ++ (d ++ e))) ≡ all → HasWrittenStyled took f all k
   joins_five f g h i j k a b c d e all p q r s t is =
       grind (arith, joins_three, has_written_styled_append)
-
--- writing to a string appends
-pub string_bytes-written : {A : Type 0} (f g : Formatter (String A)) (bs : List ℕ)
-    → HasWrittenStyled (λ s xs t. string_bytes t ≡ string_bytes s ++ xs) f bs g
-    → string_bytes (formatter_writer g) ≡ string_bytes (formatter_writer f) ++ bs
-string_bytes-written f g bs all =
-    contents_after_writes (λ s xs t. string_bytes t ≡ string_bytes s ++ xs) string_bytes
-    (λ s xs t h. h) (formatter_writer f) bs (formatter_writer g) all.wrote
 
 pub ruleset joins = (joins_two, joins_three, joins_five, encode_ascii)

@@ -3,7 +3,7 @@ use Rattle.std.specs.Prelude.{◌≡◌, pos, true, false, [], ◌∷◌, ◌++�
 use Rattle.std.specs.declared.cmp.Ordering.TheVariants.{Less, Equal, Greater}
 use Rattle.jsonb_value.specs.declared.number.Number.{Number}
 use Rattle.jsonb_value.specs.declared.number.Number.TheVariants.{Int64, UInt64}
-use Rattle.jsonb_value.specs.Notation.{hex, minus, whole, scaled, wide, string, items, pairs}
+use Rattle.jsonb_value.specs.Notation.{hex, neg, whole, scaled, wide, string, items, fields}
 use Rattle.jsonb_value.specs.Notation.{members}
 use Rattle.jsonb_value.specs.Opaque.{IsOpaqueTag}
 use Rattle.jsonb_value.specs.Tree.{Extension, binary, date, timestamp, timestamp_tz, interval}
@@ -24,8 +24,8 @@ use Rattle.jsonb_value.specs.Json.Syntax.{Json, JsonWithExponents}
 pub record NumberPayloads : Type 0 where
   pub zero : NumCode (hex "00") (UInt64 0)
   pub signed_zero : NumCode (hex "40 00") (Int64 (pos 0))
-  pub one_byte : NumCode (hex "40 9c") (Int64 (minus 100))
-  pub two_bytes : NumCode (hex "40 ff7f") (Int64 (minus 129))
+  pub one_byte : NumCode (hex "40 9c") (Int64 (neg 100))
+  pub two_bytes : NumCode (hex "40 ff7f") (Int64 (neg 129))
   pub more_than_needed : NumCode (hex "40 00000080") (Int64 (pos 128))
   pub unsigned : NumCode (hex "50 ffff") (UInt64 65535)
   pub greatest : NumCode (hex "50 ffffffffffffffff") (UInt64 18446744073709551615)
@@ -41,13 +41,13 @@ pub record NumberPayloads : Type 0 where
 -- The payloads that are written for numbers.
 pub record WrittenNumbers : Type 0 where
   pub signed_zero : number_payload (Int64 (pos 0)) ≡ hex "00"
-  pub least_in_one_byte : number_payload (Int64 (minus 128)) ≡ hex "40 80"
-  pub negative_in_two_bytes : number_payload (Int64 (minus 129)) ≡ hex "40 ff7f"
+  pub least_in_one_byte : number_payload (Int64 (neg 128)) ≡ hex "40 80"
+  pub negative_in_two_bytes : number_payload (Int64 (neg 129)) ≡ hex "40 ff7f"
   pub positive_in_two_bytes : number_payload (Int64 (pos 128)) ≡ hex "40 0080"
   pub unsigned_in_one_byte : number_payload (UInt64 255) ≡ hex "50 ff"
   pub unsigned_in_two_bytes : number_payload (UInt64 256) ≡ hex "50 0100"
   pub in_eight_bytes : number_payload (UInt64 18446744073709551615) ≡ hex "50 ffffffffffffffff"
-  pub decimal : number_payload (scaled (minus 5) 1) ≡ hex "70 fffffffffffffffb 01"
+  pub decimal : number_payload (scaled (neg 5) 1) ≡ hex "70 fffffffffffffffb 01"
   pub zeros_are_one : norm (number (Int64 (pos 0))) ≡ whole 0
   pub others_are_kept : norm (number (Int64 (pos 5))) ≡ number (Int64 (pos 5))
 
@@ -61,7 +61,7 @@ span = interval record { months = pos 10; days = pos 20; micros = pos 300 }
 -- What payloads mean as extension values, and payloads that mean none.
 pub record ExtensionPayloads : Type 0 where
   pub of_bytes : ExtCode (hex "00 010203") (binary (hex "010203"))
-  pub of_date : ExtCode (hex "10 ffffffff") (date record { value = minus 1 })
+  pub of_date : ExtCode (hex "10 ffffffff") (date record { value = neg 1 })
   pub of_timestamp : ExtCode (hex "20 0000000000000001") (timestamp record { value = pos 1 })
   pub of_zone : ExtCode (hex "30 000640d6b7238000 00007080") in_zone
   pub of_zone_in_hours : ExtCode (hex "30 000640d6b7238000 08") in_zone
@@ -78,10 +78,10 @@ pub record ExtensionPayloads : Type 0 where
 -- Trees: their counts and depths, keys that ascend, and trees that no value has.
 pub record TreeExamples : Type 0 where
   pub two_items : count (tree null (tree null no_trees)) ≡ 2
-  pub one_pair : pair_count (pairs (("a", null) ∷ [])) ≡ 1
-  pub ascending : Ascend (pairs (("", null) ∷ ("a", null) ∷ ("aa", null) ∷ ("b", null) ∷ []))
-  pub descending : Ascend (pairs (("b", null) ∷ ("a", null) ∷ [])) → ⊥
-  pub repeated : Ascend (pairs (("a", null) ∷ ("a", null) ∷ [])) → ⊥
+  pub one_pair : pair_count (fields (("a", null) ∷ [])) ≡ 1
+  pub ascending : Ascend (fields (("", null) ∷ ("a", null) ∷ ("aa", null) ∷ ("b", null) ∷ []))
+  pub descending : Ascend (fields (("b", null) ∷ ("a", null) ∷ [])) → ⊥
+  pub repeated : Ascend (fields (("a", null) ∷ ("a", null) ∷ [])) → ⊥
   pub depth_of_scalar : depth (whole 1) ≡ 0
   pub depth_of_empty : depth (items []) ≡ 1
   pub depth_of_nested : depth (members (("a", items (whole 1 ∷ [])) ∷ [])) ≡ 2
@@ -94,9 +94,9 @@ pub record NumberOrder : Type 0 where
   pub of_other_kind : number_cmp (UInt64 5) (Int64 (pos 5)) ≡ Equal
   pub of_other_scale : number_cmp (UInt64 5) (wide (pos 50) 1) ≡ Equal
   pub one_below_two : number_cmp (Int64 (pos 1)) (UInt64 2) ≡ Less
-  pub minus_one_below_two_tenths : number_cmp (Int64 (minus 1)) (scaled (minus 2) 1) ≡ Less
+  pub minus_one_below_two_tenths : number_cmp (Int64 (neg 1)) (scaled (neg 2) 1) ≡ Less
   pub least_of_great_scale :
-      number_cmp (Int64 (minus 1)) (wide (minus 170141183460469231731687303715884105728) 255) ≡ Less
+      number_cmp (Int64 (neg 1)) (wide (neg 170141183460469231731687303715884105728) 255) ≡ Less
   pub greatest :
       number_cmp (wide (pos 170141183460469231731687303715884105727) 0) (scaled (pos 1) 255)
       ≡ Greater
@@ -117,7 +117,7 @@ pub record TreeOrderExamples : Type 0 where
   pub first_item : tree_cmp (items (whole 2 ∷ [])) (items (whole 1 ∷ whole 0 ∷ [])) ≡ Greater
   pub key_first : tree_cmp (members (("a", whole 1) ∷ [])) (members (("b", whole 0) ∷ [])) ≡ Less
   pub then_value : tree_cmp (members (("a", whole 0) ∷ [])) (members (("a", whole 1) ∷ [])) ≡ Less
-  pub bytes_before_date : extension_cmp (binary (hex "ff")) (date record { value = minus 1 }) ≡ Less
+  pub bytes_before_date : extension_cmp (binary (hex "ff")) (date record { value = neg 1 }) ≡ Less
   pub interval_after_zone : extension_cmp span in_zone ≡ Greater
   pub document_before_others : meaning_cmp (document null) (other_bytes []) ≡ Less
   pub other_bytes_by_bytes : meaning_cmp (other_bytes []) (other_bytes (hex "01020304")) ≡ Less
@@ -125,10 +125,10 @@ pub record TreeOrderExamples : Type 0 where
 -- The texts of trees.
 pub record TreeTexts : Type 0 where
   pub of_decimal : compact (number (scaled (pos 1234) 2)) ≡ codes "12.34"
-  pub of_negative : compact (number (scaled (minus 5) 1)) ≡ codes "-0.5"
+  pub of_negative : compact (number (scaled (neg 5) 1)) ≡ codes "-0.5"
   pub of_small : compact (number (scaled (pos 5) 2)) ≡ codes "0.05"
   pub of_zero : compact (number (scaled (pos 0) 2)) ≡ codes "0.00"
-  pub of_no_scale : compact (number (scaled (minus 7) 0)) ≡ codes "-7"
+  pub of_no_scale : compact (number (scaled (neg 7) 0)) ≡ codes "-7"
   pub of_escapes :
       compact (text (hex "61 22 5c 0a 01 7f 2f c3a9"))
       ≡ codes "\"a\\\"\\\\\\n\\u0001" ++ hex "7f 2f c3a9 22"
@@ -149,7 +149,7 @@ pub record JsonTexts : Type 0 where
   pub decimal : Json (codes "1.50") (number (scaled (pos 150) 2))
   pub negative_zero : Json (codes "-0") (whole 0)
   pub negative_decimal_zero : Json (codes "-0.0") (number (scaled (pos 0) 1))
-  pub negative : Json (codes "-7") (number (Int64 (minus 7)))
+  pub negative : Json (codes "-7") (number (Int64 (neg 7)))
   pub past_64_bits : Json (codes "18446744073709551616")
       (number (wide (pos 18446744073709551616) 0))
   pub escapes : Json (codes "\"\\u00e9\\n\\/\\ud83d\\ude00\"") (text (hex "c3a9 0a 2f f09f9880"))
@@ -170,7 +170,7 @@ pub record JsonExponents : Type 0 where
   pub positive : JsonWithExponents (codes "1.0e5") (whole 100000)
   pub negative : JsonWithExponents (codes "25e-1") (number (scaled (pos 25) 1))
   pub within_scale : JsonWithExponents (codes "1.50e1") (number (scaled (pos 150) 1))
-  pub with_signs : JsonWithExponents (codes "-3E+2") (number (Int64 (minus 300)))
+  pub with_signs : JsonWithExponents (codes "-3E+2") (number (Int64 (neg 300)))
   pub past_64_bits : JsonWithExponents (codes "6.02e23")
       (number (wide (pos 602000000000000000000000) 0))
   pub of_zero : JsonWithExponents (codes "0e99") (whole 0)

@@ -25,9 +25,9 @@ abbrev pub hex : String → List ℕ
 hex s = spelled (without_spaces (codes s))
 
 -- The integer -n.
-abbrev pub minus : ℕ → ℤ
-minus (suc n) = negsuc n
-minus n = pos 0
+abbrev pub neg : ℕ → ℤ
+neg (suc n) = negsuc n
+neg n = pos 0
 
 -- An integer without a sign.
 abbrev pub whole : ℕ → Tree
@@ -49,10 +49,10 @@ abbrev pub items : List Tree → Tree
 items ts = array (trees_of ts)
 
 -- The pairs of these keys and values.
-abbrev pub pairs : List (String × Tree) → Pairs
-pairs [] = no_pairs
-pairs (m ∷ ms) = pair (codes m.0) m.1 (pairs ms)
+abbrev pub fields : List (String × Tree) → Pairs
+fields [] = no_pairs
+fields (m ∷ ms) = pair (codes m.0) m.1 (fields ms)
 
 -- The object of these keys and values.
 abbrev pub members : List (String × Tree) → Tree
-members ms = object (pairs ms)
+members ms = object (fields ms)

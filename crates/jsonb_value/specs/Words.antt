@@ -5,7 +5,7 @@ pub use Rattle.std.specs.Char.{digit_value, is_ascii_digit}
 pub use Rattle.std.specs.Cmp.{IsTotalOrder}
 pub use Rattle.std.specs.Cmp.Lexicographic.{slice_cmp}
 pub use Rattle.std.specs.Fmt.{WritesStyledOnOk, digit_glyph}
-pub use Rattle.std.specs.Int.{w128, w32, w64}
+pub use Rattle.std.specs.Int.{to_be_bytes, w128, w32, w64}
 pub use Rattle.std.specs.List.{list_all, prefix_len}
 pub use Rattle.std.specs.Ordering.{int_cmp, nat_cmp}
 pub use Rattle.std.specs.Simd.Lanes.{mask_l}

@@ -2,15 +2,16 @@
 
 ghost use Rattle.std.specs.Prelude.{◌≡◌, ◌↔◌, ◌≤◌, ◌∷◌, ◌++◌, ℕ, ℤ, List, IsTrue, IfSome, IfNone};
 ghost use Rattle.std.specs.Prelude.{IfOk, IfErr, OnOk, OnErr, length, IsOk, vec_len, ◌+◌};
-ghost use Rattle.std.specs.Prelude.{vec_capacity, Some};
+ghost use Rattle.std.specs.Prelude.{vec_capacity, take, Some};
 ghost use Rattle.jsonb_value.specs.Words.{w64, w128, Appends, Number, IsSignedNumber, NumCode};
 ghost use Rattle.jsonb_value.specs.Words.{IsUnsignedNumber, IsWholeLength, IsDecimalLength};
 ghost use Rattle.jsonb_value.specs.Words.{number_payload, int_payload, uint_payload, number_of};
 ghost use Rattle.jsonb_value.specs.Words.{decimal_payload, whole_number, decimal_number};
+ghost use Rattle.jsonb_value.specs.Words.{to_be_bytes};
 
 use crate::constants::{NUMBER_DECIMAL, NUMBER_INT, NUMBER_UINT, NUMBER_ZERO};
 use crate::error::Error;
-use crate::payload::append;
+use crate::payload::{Short, append, append_short, word_of};
 use byteorder::{BigEndian, ByteOrder};
 
 /// A decimal of 64 bits, equal to `value` / 10^`scale`.
@@ -268,22 +269,42 @@ fn uint_len(value: u64) -> usize
 fn append_int(buf: &mut Vec<u8>, value: i64) -> Result<usize, Error>
     ensures { Appends (int_payload value) buf.old buf.new result }
 {
+    if let Ok(value) = i32::try_from(value) {
+        return append_short(buf, short_int(value));
+    }
+    let mut payload = [NUMBER_INT, 0, 0, 0, 0, 0, 0, 0, 0];
+    BigEndian::write_i64(&mut payload[1..], value);
+    append(buf, &payload)
+}
+
+// The payload of an integer of 32 bits.
+#[inline(always)]
+fn short_int(value: i32) -> Short
+    ensures { take result.size (to_be_bytes w64 result.word) ≡ int_payload value }
+{
     if value == 0 {
-        append(buf, &[NUMBER_ZERO])
-    } else if let Ok(short) = i8::try_from(value) {
-        append(buf, &[NUMBER_INT, short.cast_unsigned()])
-    } else if let Ok(short) = i16::try_from(value) {
-        let mut payload = [NUMBER_INT, 0, 0];
-        BigEndian::write_i16(&mut payload[1..], short);
-        append(buf, &payload)
-    } else if let Ok(short) = i32::try_from(value) {
-        let mut payload = [NUMBER_INT, 0, 0, 0, 0];
-        BigEndian::write_i32(&mut payload[1..], short);
-        append(buf, &payload)
-    } else {
-        let mut payload = [NUMBER_INT, 0, 0, 0, 0, 0, 0, 0, 0];
-        BigEndian::write_i64(&mut payload[1..], value);
-        append(buf, &payload)
+        return Short {
+            word: word_of(NUMBER_ZERO, 0, 0, 0, 0),
+            size: 1,
+        };
+    }
+    if let Ok(byte) = i8::try_from(value) {
+        return Short {
+            word: word_of(NUMBER_INT, byte.cast_unsigned(), 0, 0, 0),
+            size: 2,
+        };
+    }
+    if let Ok(short) = i16::try_from(value) {
+        let [high, low] = short.to_be_bytes();
+        return Short {
+            word: word_of(NUMBER_INT, high, low, 0, 0),
+            size: 3,
+        };
+    }
+    let [first, second, third, fourth] = value.to_be_bytes();
+    Short {
+        word: word_of(NUMBER_INT, first, second, third, fourth),
+        size: 5,
     }
 }
 
@@ -291,22 +312,42 @@ fn append_int(buf: &mut Vec<u8>, value: i64) -> Result<usize, Error>
 fn append_uint(buf: &mut Vec<u8>, value: u64) -> Result<usize, Error>
     ensures { Appends (uint_payload value) buf.old buf.new result }
 {
+    if let Ok(value) = u32::try_from(value) {
+        return append_short(buf, short_uint(value));
+    }
+    let mut payload = [NUMBER_UINT, 0, 0, 0, 0, 0, 0, 0, 0];
+    BigEndian::write_u64(&mut payload[1..], value);
+    append(buf, &payload)
+}
+
+// The payload of an unsigned integer of 32 bits.
+#[inline(always)]
+fn short_uint(value: u32) -> Short
+    ensures { take result.size (to_be_bytes w64 result.word) ≡ uint_payload value }
+{
     if value == 0 {
-        append(buf, &[NUMBER_ZERO])
-    } else if let Ok(short) = u8::try_from(value) {
-        append(buf, &[NUMBER_UINT, short])
-    } else if let Ok(short) = u16::try_from(value) {
-        let mut payload = [NUMBER_UINT, 0, 0];
-        BigEndian::write_u16(&mut payload[1..], short);
-        append(buf, &payload)
-    } else if let Ok(short) = u32::try_from(value) {
-        let mut payload = [NUMBER_UINT, 0, 0, 0, 0];
-        BigEndian::write_u32(&mut payload[1..], short);
-        append(buf, &payload)
-    } else {
-        let mut payload = [NUMBER_UINT, 0, 0, 0, 0, 0, 0, 0, 0];
-        BigEndian::write_u64(&mut payload[1..], value);
-        append(buf, &payload)
+        return Short {
+            word: word_of(NUMBER_ZERO, 0, 0, 0, 0),
+            size: 1,
+        };
+    }
+    if let Ok(byte) = u8::try_from(value) {
+        return Short {
+            word: word_of(NUMBER_UINT, byte, 0, 0, 0),
+            size: 2,
+        };
+    }
+    if let Ok(short) = u16::try_from(value) {
+        let [high, low] = short.to_be_bytes();
+        return Short {
+            word: word_of(NUMBER_UINT, high, low, 0, 0),
+            size: 3,
+        };
+    }
+    let [first, second, third, fourth] = value.to_be_bytes();
+    Short {
+        word: word_of(NUMBER_UINT, first, second, third, fourth),
+        size: 5,
     }
 }
 

@@ -1,7 +1,7 @@
 //! Sorts a column of byte strings, each checked once.
 
 ghost use Rattle.std.specs.Prelude.{◌≡◌, All, map, IfOk, IsPermutation, IsSorted};
-ghost use Rattle.jsonb.specs.SortKey.{key_bytes};
+ghost use Rattle.jsonb.specs.SortKey.{sort_bytes};
 ghost use Rattle.jsonb.specs.Words.{on, meaning_cmp, meaning_of, key_meaning};
 
 use jsonb::{Error, SortKey};
@@ -12,9 +12,9 @@ use std::alloc::Global;
 pub fn column_order<'a>(alloc: Global, column: &[&'a [u8]]) -> Result<Vec<SortKey<'a>>, Error>
     ensures sorted { IfOk result (λ keys. IsSorted (on key_meaning meaning_cmp) keys.items) }
     ensures all { IfOk result (λ keys. IsPermutation (map (λ b. b.now) column.now)
-        (map key_bytes keys.items)) }
+        (map sort_bytes keys.items)) }
     ensures meaning { IfOk result
-        (λ keys. All (λ key. key_meaning key ≡ meaning_of (key_bytes key)) keys.items) }
+        (λ keys. All (λ key. key_meaning key ≡ meaning_of (sort_bytes key)) keys.items) }
 {
     let mut keys = Vec::new(alloc);
     for &bytes in column {

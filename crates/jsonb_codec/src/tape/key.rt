@@ -1,12 +1,13 @@
 //! The keys of members, compared by their first eight bytes.
 
-ghost use Rattle.std.specs.Prelude.{◌≡◌};
+ghost use Rattle.std.specs.Prelude.{◌≡◌, ◌++◌, OnOk};
 ghost use Rattle.std.specs.Ordering.{nat_cmp};
 ghost use Rattle.std.specs.Cmp.Lexicographic.{slice_cmp};
 ghost use Rattle.byteorder.specs.Endian.{big_number};
 ghost use Rattle.jsonb_codec.specs.Keys.{key_bytes, IsKey};
 
 use byteorder::{BigEndian, ByteOrder};
+use std::alloc::AllocError;
 use std::cmp::Ordering;
 
 /// A key: a part of the text, or, of a key that is spelled with escapes, where its bytes are among
@@ -56,6 +57,23 @@ fn first_four(bytes: &[u8]) -> u32
         [first, second, third] => u32::from_be_bytes([*first, *second, *third, 0]),
         _ => BigEndian::read_u32(bytes),
     }
+}
+
+/// Appends a key, of which the number is the first eight bytes. Where there is room for eight, a
+/// short key is stored as that number and cut off, which takes no call.
+#[inline(always)]
+pub fn append_key(buf: &mut Vec<u8>, prefix: u64, key: &[u8]) -> Result<(), AllocError>
+    requires { prefix ≡ big_number 8 key.now }
+    ensures { OnOk result (buf.new.items ≡ buf.old.items ++ key.now) }
+{
+    let word = prefix.to_be_bytes();
+    if key.len() > word.len() || buf.capacity() - buf.len() < word.len() {
+        return buf.extend_from_slice(key);
+    }
+    let end = buf.len() + key.len();
+    buf.extend_from_slice(&word)?;
+    buf.truncate(end);
+    Ok(())
 }
 
 /// The order of two keys by their bytes, of which the numbers are the first eight.

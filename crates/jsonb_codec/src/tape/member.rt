@@ -34,48 +34,69 @@ pub struct Member<'a> {
     pub part: Part,
 }
 
-/// The numbers of the members in the order of their keys; of equal keys the last.
+/// Makes `order` the numbers of the members in the order of their keys; of equal keys the last. Its
+/// memory is kept.
 pub fn order_of(
     alloc: Global,
+    order: &mut Vec<usize>,
     members: &[Member<'_>],
     storage: &Storage,
-) -> Result<Vec<usize>, Error>
+) -> Result<(), Error>
     requires { (base : ℕ) × ((ps : List Place) × ((read : Entries)
         × MembersAre storage.now base ps members.now read)) }
-    ensures ok { IfOk result (λ order. (base : ℕ) (ps : List Place) (read : Entries)
+    ensures ok { OnOk result ((base : ℕ) (ps : List Place) (read : Entries)
         → MembersAre storage.now base ps members.now read
-        → Picks read order.items (insert_all [] read)) }
+        → Picks read order.new.items (insert_all [] read)) }
     ensures memory { IfErr result (λ e. e ≡ OutOfMemory) }
 {
+    order.clear();
     if members.len() <= FEW_MEMBERS {
-        return few_in_order(alloc, members, storage);
+        return few_in_order(order, members, storage);
     }
-    let mut order = Vec::new(alloc);
-    for (_, number) in by_key(alloc, members, storage)? {
-        order.push(number)?;
-    }
-    Ok(order)
+    many_in_order(alloc, order, members, storage)
 }
 
 // The same of few members, one after another.
 fn few_in_order(
-    alloc: Global,
+    order: &mut Vec<usize>,
     members: &[Member<'_>],
     storage: &Storage,
-) -> Result<Vec<usize>, Error>
-    requires { (base : ℕ) × ((ps : List Place) × ((read : Entries)
+) -> Result<(), Error>
+    requires none { order.old.items ≡ [] }
+    requires members { (base : ℕ) × ((ps : List Place) × ((read : Entries)
         × MembersAre storage.now base ps members.now read)) }
-    ensures ok { IfOk result (λ order. (base : ℕ) (ps : List Place) (read : Entries)
+    ensures ok { OnOk result ((base : ℕ) (ps : List Place) (read : Entries)
         → MembersAre storage.now base ps members.now read
-        → Picks read order.items (insert_all [] read)) }
+        → Picks read order.new.items (insert_all [] read)) }
     ensures memory { IfErr result (λ e. e ≡ OutOfMemory) }
 {
-    let mut order = Vec::new(alloc);
     order.reserve(members.len())?;
     for number in 0..members.len() {
-        insert(&mut order, members, storage, number)?;
+        insert(order, members, storage, number)?;
     }
-    Ok(order)
+    Ok(())
+}
+
+// The same of many members, by a map.
+#[inline(never)]
+fn many_in_order(
+    alloc: Global,
+    order: &mut Vec<usize>,
+    members: &[Member<'_>],
+    storage: &Storage,
+) -> Result<(), Error>
+    requires none { order.old.items ≡ [] }
+    requires members { (base : ℕ) × ((ps : List Place) × ((read : Entries)
+        × MembersAre storage.now base ps members.now read)) }
+    ensures ok { OnOk result ((base : ℕ) (ps : List Place) (read : Entries)
+        → MembersAre storage.now base ps members.now read
+        → Picks read order.new.items (insert_all [] read)) }
+    ensures memory { IfErr result (λ e. e ≡ OutOfMemory) }
+{
+    for (_, number) in by_key(alloc, members, storage)? {
+        order.push(number)?;
+    }
+    Ok(())
 }
 
 // Puts the number of a member in its place among those in the order of their keys, or in that of
@@ -187,7 +208,7 @@ pub fn append_in_order(
     members.reserve(order.len())?;
     for index in order {
         let member = members[first + *index];
-        members.push(member)?;
+        members.push_reserved(member);
     }
     Ok(())
 }

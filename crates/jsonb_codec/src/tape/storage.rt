@@ -14,7 +14,7 @@ ghost use Rattle.jsonb_codec.specs.Keys.{IsKey, key_bytes};
 ghost use Rattle.jsonb_codec.specs.Tape.{AreKeyWordsIfFit, Grows, IsHeadIfFit, MembersAre};
 ghost use Rattle.jsonb_codec.specs.Tape.{StoresHead, shapes_of, values_of};
 
-use super::key::{Key, bytes_of};
+use super::key::{Key, append_key, bytes_of};
 use super::member::Member;
 use super::place::Place;
 use crate::constants::{ARRAY_CONTAINER_TAG, OBJECT_CONTAINER_TAG, STRING_TAG};
@@ -157,8 +157,8 @@ impl Storage {
         ensures memory { IfErr result (λ e. e ≡ OutOfMemory) }
     {
         for member in members {
-            self.heads
-                .extend_from_slice(bytes_of(member.key, &self.spelled))?;
+            let key = bytes_of(member.key, &self.spelled);
+            append_key(&mut self.heads, member.prefix, key)?;
         }
         Ok(())
     }

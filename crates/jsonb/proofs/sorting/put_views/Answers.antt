@@ -1,7 +1,7 @@
 use Rattle.std.proofs.Common.{◌≤◌, List, ℕ, length, map, slice_set, ap, ◌∙◌, arith}
 use Rattle.std.proofs.lemmas.List.{map-set, length-map}
 use Rattle.jsonb.specs.Raw.{raw_bytes}
-use Rattle.jsonb.specs.SortKey.{key_bytes}
+use Rattle.jsonb.specs.SortKey.{sort_bytes}
 use Rattle.jsonb.proofs.PutLaws.{one_more_put}
 use Rattle.jsonb.proofs.sorting.put_views.Goals as goal
 
@@ -12,7 +12,7 @@ loop-number-preserved c =
     omega (arith, c.requires, length-map c.args.views.now raw_bytes) in
     map-set raw_bytes walk.views walk.number c.new.result
     ∙ ap (λ (b : List ℕ). slice_set (map raw_bytes walk.views) walk.number b)
-    (c.new.ensures ∙ c.as_bytes.ensures ∙ ap key_bytes c.index-keys-number.is)
-    ∙ one_more_put key_bytes c.args.keys.now (map raw_bytes c.args.views.now)
+    (c.new.ensures ∙ c.as_bytes.ensures ∙ ap sort_bytes c.index-keys-number.is)
+    ∙ one_more_put sort_bytes c.args.keys.now (map raw_bytes c.args.views.now)
     (map raw_bytes walk.views) walk.number c.index-keys-number.result c.loop-number-test.true fits
     walk.invariant

@@ -5,15 +5,15 @@ use Rattle.std.specs.Ordering.{on}
 use Rattle.jsonb_value.specs.Meaning.{meaning_cmp}
 use Rattle.jsonb.specs.ItemMeaning.{meaning_of}
 use Rattle.jsonb.specs.Raw.{raw_bytes}
-use Rattle.jsonb.specs.SortKey.{key_bytes}
+use Rattle.jsonb.specs.SortKey.{sort_bytes}
 use Rattle.jsonb.proofs.SortLaws.{MeansItsBytes, stable_bytes, sorted_views, all_put}
 use Rattle.jsonb.proofs.sorting.sort_views.Goals.{After-put_views}
 use Rattle.jsonb.proofs.sorting.sort_views.Goals as goal
 
 -- the views that were written are the sorted keys
 written : (c : After-put_views)
-    → (map key_bytes c.loop-view.keys.items ≡ map raw_bytes c.args.views.now)
-    × (map raw_bytes c.put_views.new.views ≡ map key_bytes c.sort.new.self.items)
+    → (map sort_bytes c.loop-view.keys.items ≡ map raw_bytes c.args.views.now)
+    × (map raw_bytes c.put_views.new.views ≡ map sort_bytes c.sort.new.self.items)
 written c = all_put c.loop-view.keys.items c.sort.new.self.items _ c.args.views.now
     c.put_views.new.views _ (search rules) c.loop-view.invariant.bytes c.sort.ensures.permutation
     c.deref.ensures.value c.put_views.ensures
@@ -24,8 +24,8 @@ returns-clause-permutation c =
     let sorted = c.sort.new.self.items in
     let (all, put) = written (goal.at.returns-clause-permutation c).After-put_views in
     subst (λ (bs : List (List ℕ)). IsPermutation (map raw_bytes c.args.views.now) bs) (sym put)
-    (subst (λ (bs : List (List ℕ)). IsPermutation bs (map key_bytes sorted)) all
-    (IsPermutation-map key_bytes ks sorted c.sort.ensures.permutation))
+    (subst (λ (bs : List (List ℕ)). IsPermutation bs (map sort_bytes sorted)) all
+    (IsPermutation-map sort_bytes ks sorted c.sort.ensures.permutation))
 
 pub returns-clause-order : goal.returns-clause-order
 returns-clause-order c =
@@ -44,6 +44,6 @@ returns-clause-stable c =
     subst (λ (bs : List (List ℕ)). IsStable (on meaning_of meaning_cmp)
     (map raw_bytes c.args.views.now) bs) (sym put)
     (subst (λ (bs : List (List ℕ)). IsStable (on meaning_of meaning_cmp) bs
-    (map key_bytes sorted)) all
+    (map sort_bytes sorted)) all
     (stable_bytes ks sorted c.loop-view.invariant.mean c.sort.ensures.permutation
     c.sort.ensures.stable))

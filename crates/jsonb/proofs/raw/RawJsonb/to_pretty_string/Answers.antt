@@ -9,7 +9,7 @@ pub returns-clause-display : goal.returns-clause-display
 returns-clause-display c =
     prints_as _ _ _
     (string_written c.new.result _ _ _ _ _
-    (c.write_pretty-answer.ensures.text c.new-f.ensures.plain.flush) c.new.ensures.bytes
+    (c.write_pretty-answer.ensures.text c.new-f.ensures.plain.flush) c.new.ensures
     c.new-f.ensures.writer c.finish_text.ensures.ok c.finish_text.ensures.text)
     (cc c.as_bytes.ensures)
 

@@ -40,7 +40,7 @@ picks c read are =
     let slice : cut f.members (length d) d ≡ drop f.members old.members.items =
     cut_rest f.members d ∙ ap (drop f.members) c.deref.ensures.value in
     subst (λ xs. Picks read xs (insert_all [] read)) (sym c.deref-2.ensures.value)
-    (c.in_ok-order.ensures.ok (f.place + 1) old.places.items read
+    (c.in_ok-order_of.ensures.ok (f.place + 1) old.places.items read
     (subst (λ ms. AreInside old ms read) (sym slice) are))
 
 sorted : (c : In_ok-append_in_order) (front : Entries) (cs : List Content)
@@ -106,6 +106,7 @@ abbrev headed : In_ok-size → Tape
 headed c = record c.args.self.now {
   storage = c.push_object_head.new.self;
   members = c.append_in_order.new.members;
+  order = c.order_of.new.order;
 }
 
 around_headed : (c : In_ok-size) (front : Entries) (cs : List Content)

@@ -1,4 +1,4 @@
-use Rattle.std.proofs.Common.{rules, sym, ap, subst, ◌∙◌, ◌≡◌, ◌<◌, ◌+◌, ◌++◌, ◌∷◌, [], arith}
+use Rattle.std.proofs.Common.{sym, ap, subst, ◌∙◌, ◌≡◌, ◌<◌, ◌+◌, ◌++◌, ◌∷◌, [], arith}
 use Rattle.std.proofs.Common.{get_or, length, length-append, take}
 use Rattle.std.proofs.lemmas.List.{append_assoc, take_all, take_more}
 use Rattle.jsonb_codec.specs.Tape.{ArePicked}
@@ -27,7 +27,7 @@ overflow_add-first c = omega (
 
 pub index-member-requires : goal.index-member-requires
 index-member-requires c =
-    let (picked, (grown, are)) = c.loop-index.invariant in
+    let (picked, (grown, (are, room))) = c.loop-index.invariant in
     omega (
       arith,
       low (goal.at.index-member-requires c).At-loop-index c.loop-index-test.true,
@@ -36,9 +36,14 @@ index-member-requires c =
       c.loop-index.members.ok,
     )
 
+pub push_reserved-requires : goal.push_reserved-requires
+push_reserved-requires c =
+    let (picked, (grown, (are, room))) = c.loop-index.invariant in
+    omega (arith, room, c.loop-index-test.true)
+
 pub loop-index-preserved : goal.loop-index-preserved
 loop-index-preserved c =
-    let (picked, (grown, are)) = c.loop-index.invariant in
+    let (picked, (grown, (are, room))) = c.loop-index.invariant in
     let order = c.args.order.now in
     let j = c.loop-index.index-index in
     let i = get_or order j 0 in
@@ -48,19 +53,22 @@ loop-index-preserved c =
     c.index-member.ensures ∙ ap (λ xs. get_or xs (c.args.first + i) m) grown
     ∙ at_front old picked (c.args.first + i) m
     (low (goal.at.loop-index-preserved c).At-loop-index c.loop-index-test.true) in
-    let more : c.push.new.self.items ≡ c.loop-index.members.items ++ m ∷ [] = search rules in (
+    let pushed = c.push_reserved.ensures in (
       picked ++ m ∷ [],
       (
-        more ∙ ap (λ xs. xs ++ m ∷ []) grown ∙ append_assoc old picked (m ∷ []),
-        subst (λ xs. ArePicked old c.args.first xs (picked ++ m ∷ []))
-            (sym (take_more order j 0 c.loop-index-test.true))
-            (picked_snoc old c.args.first (take j order) picked i m are at),
+        pushed.items ∙ ap (λ xs. xs ++ m ∷ []) grown ∙ append_assoc old picked (m ∷ []),
+        (
+          subst (λ xs. ArePicked old c.args.first xs (picked ++ m ∷ []))
+              (sym (take_more order j 0 c.loop-index-test.true))
+              (picked_snoc old c.args.first (take j order) picked i m are at),
+          omega (arith, room, pushed.len, pushed.capacity),
+        ),
       ),
     )
 
 pub returns-clause-ok : goal.returns-clause-ok
 returns-clause-ok c =
-    let (picked, (grown, are)) = c.loop-index.invariant in (
+    let (picked, (grown, (are, room))) = c.loop-index.invariant in (
       picked,
       (
         grown,

@@ -8,7 +8,7 @@ use Rattle.jsonb_codec.proofs.tape.member.few_in_order.Goals as goal
 
 pub insert-requires-clause-members : goal.insert-requires-clause-members
 insert-requires-clause-members c =
-    let (base, (ps, (read, h))) = c.requires in
+    let (base, (ps, (read, h))) = c.requires.members in
     (base, (ps, (read, (_, (h, c.loop-number.invariant base ps read h)))))
 
 pub loop-number-preserved : goal.loop-number-preserved

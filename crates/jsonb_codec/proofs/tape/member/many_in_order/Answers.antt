@@ -2,7 +2,7 @@ use Rattle.std.proofs.Common.{rules, sym, subst, ◌≡◌, [], map}
 use Rattle.jsonb_value.specs.Json.Syntax.{insert_all}
 use Rattle.jsonb_codec.specs.Keys.{Picks}
 use Rattle.jsonb_codec.proofs.OnTape.Ordering.{number_of, picks_numbers}
-use Rattle.jsonb_codec.proofs.tape.member.order_of.Goals as goal
+use Rattle.jsonb_codec.proofs.tape.member.many_in_order.Goals as goal
 
 pub returns-clause-ok : goal.returns-clause-ok
 returns-clause-ok c = λ base ps read h.
