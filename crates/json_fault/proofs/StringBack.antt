@@ -15,7 +15,7 @@ use Rattle.json_fault.specs.declared.string.Place.{Place}
 use Rattle.json_fault.specs.declared.string.Place.TheVariants.{Inside, Escaped, Four, ThreeOfD}
 use Rattle.json_fault.specs.declared.string.Place.TheVariants.{Three, Two, One, HighTwo, HighOne}
 use Rattle.json_fault.specs.declared.string.Place.TheVariants.{Low, LowLetter, LowUnit, LowOfD}
-use Rattle.json_fault.specs.Scan.{after_digit, after_mark, string_continued}
+use Rattle.json_fault.specs.Scan.{after_digit, past_mark, string_continued}
 use Rattle.json_fault.proofs.Conditions.{less_from, less_test, most_from, is_some_found}
 use Rattle.json_fault.proofs.Conditions.{either_found}
 use Rattle.json_fault.proofs.Endings.{StringEnd, Digit, Mark, Letter, ThreeEnd}
@@ -223,7 +223,7 @@ module _ (P : List ℕ → Type 0) where
       let is = digit_known p q c low high w e end in
       digit_first (PlaceEnd p P) c low high w is.0 is.1 is.2
 
-  back_mark : (p q : Place) (c k : ℕ) (w : List ℕ) → after_mark c k p ≡ Some q → PlaceEnd q P w
+  back_mark : (p q : Place) (c k : ℕ) (w : List ℕ) → past_mark c k p ≡ Some q → PlaceEnd q P w
       → Mark k (PlaceEnd p P) (c ∷ w)
   back_mark p q c k w e end =
       let both = cond_some _ _ _ e in

@@ -210,8 +210,8 @@ after_digit c low high place =
     cond (nat_le low (digit_value c) && nat_lt (digit_value c) high) (Some place) None
 
 -- `place`, if the character is `mark`.
-abbrev pub after_mark : ℕ → ℕ → Place → Option Place
-after_mark c mark place = cond (c == mark) (Some place) None
+abbrev pub past_mark : ℕ → ℕ → Place → Option Place
+past_mark c mark place = cond (c == mark) (Some place) None
 
 -- The place after the first digit of a unit.
 abbrev pub after_first_digit : ℕ → Option Place
@@ -232,8 +232,8 @@ string_continued Two c = after_digit c 0 16 One
 string_continued One c = after_digit c 0 16 Inside
 string_continued HighTwo c = after_digit c 0 16 HighOne
 string_continued HighOne c = after_digit c 0 16 Low
-string_continued Low c = after_mark c backslash LowLetter
-string_continued LowLetter c = after_mark c letter_u LowUnit
+string_continued Low c = past_mark c backslash LowLetter
+string_continued LowLetter c = past_mark c letter_u LowUnit
 string_continued LowUnit c = after_digit c 13 14 LowOfD
 string_continued LowOfD c = after_digit c 12 16 Two
 

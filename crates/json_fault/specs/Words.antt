@@ -8,7 +8,7 @@ pub use Rattle.json_fault.specs.Classes.{outside, string_bits, structure_bits, v
 pub use Rattle.json_fault.specs.Fault.{IsFaultAt, IsFaultAtWithExponents, IsFaultUnder, IsJson}
 pub use Rattle.json_fault.specs.Fault.{IsJsonUnder, IsJsonWithExponents}
 pub use Rattle.json_fault.specs.Scan.{after_backslash, after_digit, after_digit_of_d}
-pub use Rattle.json_fault.specs.Scan.{after_first_digit, after_inside, after_mark, at_most, changed}
+pub use Rattle.json_fault.specs.Scan.{after_first_digit, after_inside, past_mark, at_most, changed}
 pub use Rattle.json_fault.specs.Scan.{closed_or, exponent_begun, exponent_continued, followed}
 pub use Rattle.json_fault.specs.Scan.{has_scale, in_content, in_exponent, in_name, in_number}
 pub use Rattle.json_fault.specs.Scan.{innermost_bracket, is_closed, is_complete, is_end, is_final}

@@ -2,7 +2,7 @@
 
 ghost use Rattle.std.specs.Prelude.{◌≡◌, ◌≤◌, is_some};
 ghost use Rattle.json_fault.specs.Words.{escape_value, after_inside, after_backslash, after_digit};
-ghost use Rattle.json_fault.specs.Words.{after_mark, string_continued, after_first_digit};
+ghost use Rattle.json_fault.specs.Words.{past_mark, string_continued, after_first_digit};
 ghost use Rattle.json_fault.specs.Words.{after_digit_of_d, is_closed};
 
 /// What a string expects next.
@@ -76,7 +76,7 @@ fn after_digit(character: char, low: u32, high: u32, place: Place) -> Option<Pla
 
 // `place`, if the character is `mark`.
 fn after_mark(character: char, mark: char, place: Place) -> Option<Place>
-    ensures { result ≡ after_mark character mark place }
+    ensures { result ≡ past_mark character mark place }
 {
     if character == mark { Some(place) } else { None }
 }

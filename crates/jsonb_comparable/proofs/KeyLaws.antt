@@ -29,7 +29,7 @@ use Rattle.jsonb.specs.Within.{limited, meaning_within}
 use Rattle.jsonb.specs.declared.sort_key.SortKey.{SortKey}
 use Rattle.jsonb.specs.declared.sort_key.SortKey.TheVariants as keys
 use Rattle.jsonb.specs.Document.{document_bytes, document_tree}
-use Rattle.jsonb.specs.SortKey.{key_bytes, key_meaning}
+use Rattle.jsonb.specs.SortKey.{sort_bytes, key_meaning}
 use Rattle.jsonb.proofs.DocumentLaws.{tree_of_bytes}
 use Rattle.jsonb_comparable.specs.TreeKey.{tree_key, trees_key, pairs_key, member_key, meaning_key}
 use Rattle.jsonb_comparable.specs.KeyLaws.{IsKeyOf, IsMeaning, KeyLaws, key_by, cmp_by}
@@ -204,10 +204,10 @@ is_key_of m is = record {
 }
 
 -- A key that is appended is that of a tree that a document has, or of other bytes.
-pub key_of_sorted : (key : SortKey) → ((t : Tree) → Doc (key_bytes key) t → IsTree t)
+pub key_of_sorted : (key : SortKey) → ((t : Tree) → Doc (sort_bytes key) t → IsTree t)
     → IsKeyOf (key_meaning key) (meaning_key (key_meaning key))
 key_of_sorted key trees = is_key_of (key_meaning key) (meant key trees) where
-  meant : (key : SortKey) → ((t : Tree) → Doc (key_bytes key) t → IsTree t)
+  meant : (key : SortKey) → ((t : Tree) → Doc (sort_bytes key) t → IsTree t)
       → IsMeaning (key_meaning key)
   meant (keys.Document d) trees =
       trees (document_tree d) (tree_of_bytes (document_bytes d) d refl)

@@ -4,7 +4,7 @@ use Rattle.std.specs.Ordering.{nat_cmp}
 use Rattle.std.specs.Cmp.Lexicographic.{slice_cmp}
 use Rattle.std.specs.declared.cmp.Ordering.TheVariants.{Less}
 use Rattle.jsonb_value.specs.declared.number.Number.TheVariants.{Int64}
-use Rattle.jsonb_value.specs.Notation.{hex, minus, whole, scaled, wide, string, items, members}
+use Rattle.jsonb_value.specs.Notation.{hex, neg, whole, scaled, wide, string, items, members}
 use Rattle.jsonb_value.specs.Tree.{null, boolean, number, text, extension, binary, date}
 use Rattle.jsonb_value.specs.Tree.{timestamp_tz, opaque}
 use Rattle.jsonb_value.specs.Meaning.{document, other_bytes}
@@ -21,7 +21,7 @@ pub record NumberKeys : Type 0 where
   pub of_hundred : tree_key (whole 100) ≡ hex "83 02"
   pub of_fraction : tree_key (number (scaled (pos 150) 2)) ≡ hex "82 03 64"
   pub of_hundredth : tree_key (number (scaled (pos 1) 2)) ≡ hex "81 80 02"
-  pub of_negative : tree_key (number (Int64 (minus 1))) ≡ hex "7d fd"
+  pub of_negative : tree_key (number (Int64 (neg 1))) ≡ hex "7d fd"
 
 -- The keys of other documents, and of bytes that are none.
 pub record TreeKeys : Type 0 where
@@ -36,7 +36,7 @@ pub record TreeKeys : Type 0 where
   pub of_members : tree_key (members (("id", whole 3) ∷ ("town", string "Oslo") ∷ []))
       ≡ hex "b0 6964 01 8206 746f776e 01 a0 4f736c6f 01 00"
   pub of_bytes : tree_key (extension (binary (hex "01ab"))) ≡ hex "10 0202 ab 01"
-  pub of_date : tree_key (extension (date record { value = minus 1 })) ≡ hex "11 7fffffff"
+  pub of_date : tree_key (extension (date record { value = neg 1 })) ≡ hex "11 7fffffff"
   pub of_zone : tree_key (extension (timestamp_tz record { offset = pos 0; value = pos 7 }))
       ≡ hex "13 8000000000000007 80000000"
   pub of_newer_kind : tree_key (extension (opaque 0x50 (hex "ab"))) ≡ hex "15 50 ab 01"

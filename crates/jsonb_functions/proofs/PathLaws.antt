@@ -9,7 +9,7 @@ use Rattle.std.proofs.lemmas.Bool.Decides.{nat_tests}
 use Rattle.jsonb_functions.specs.declared.path.Step.{Step}
 use Rattle.jsonb_functions.specs.declared.selection.Selector.{Selector}
 use Rattle.jsonb_functions.specs.PathText.{SelectorView, selector_view, AreFilterSteps, AreSteps}
-use Rattle.jsonb_functions.specs.PathText.{BeginsWith, BeginsWithStep, EndsName, IsFilter}
+use Rattle.jsonb_functions.specs.PathText.{StepBegins, BeginsWithStep, EndsName, IsFilter}
 use Rattle.jsonb_functions.specs.PathText.{IsFilterPath, PathText, Reads, ReadsStep, StepsText}
 use Rattle.jsonb_functions.specs.PathText.{StopsAt, after_spaces, ends_path, is_in_name}
 use Rattle.jsonb_functions.specs.PathText.{list_count, path_view, single_steps, steps_view}
@@ -140,7 +140,7 @@ module _ (Begins : List ℕ → SelectorView → List ℕ → Type 0) (in_filter
 
 -- A byte that begins a step.
 written_step_begins : (in_filter : Bool) (text : List ℕ) (s : SelectorView) (rest : List ℕ)
-    → BeginsWith in_filter text s rest
+    → StepBegins in_filter text s rest
     → EndsName in_filter text
 written_step_begins true text s rest h =
     elim (written_begins true text s rest h) [
@@ -160,7 +160,7 @@ no_bytes_begin : (c : ℕ) (text xs : List ℕ) → text ≡ c ∷ xs → text �
 no_bytes_begin c text xs x y = let both : c ∷ xs ≡ [] = sym x ∙ y in absurd (cc)
 
 pub path_begins : (text : List ℕ) (s : SelectorView) (rest : List ℕ)
-    → BeginsWith true text s rest
+    → StepBegins true text s rest
     → EndsName true text × (EndsAs true text → ⊥)
 path_begins text s rest h = (
   written_step_begins true text s rest h,
@@ -186,7 +186,7 @@ step_begins text s rest (inr (condition, e, is)) = (
 
 -- A filter was read, after spaces and a question mark, or a step that is no filter.
 not_written : (text condition : List ℕ) (s : SelectorView) (rest : List ℕ)
-    → after_spaces text ≡ 63 ∷ condition → BeginsWith false text s rest → ⊥
+    → after_spaces text ≡ 63 ∷ condition → StepBegins false text s rest → ⊥
 not_written text condition s rest e h =
     elim (written_begins false text s rest h) [
       | inl w ↦ let both : 63 ∷ condition ≡ 46 ∷ w.0 = sym e ∙ ap after_spaces w.1 in
@@ -221,20 +221,20 @@ if_filter text condition (Ok x) e h = record {
 if_filter text condition (Err x) e h = tt
 
 as_step : (text : List ℕ) (r : Option (Selector × Bor (List ℕ)))
-    → IfSome r (λ x. BeginsWith false text (selector_view x.0) x.1.now)
+    → IfSome r (λ x. StepBegins false text (selector_view x.0) x.1.now)
     → IfSome r (λ x. BeginsWithStep text (selector_view x.0) x.1.now)
 as_step text None h = h
 as_step text (Some x) h = inl h
 
 as_written : (text : List ℕ) (s : SelectorView) (rest : List ℕ)
     → ((later : List ℕ) → after_spaces text ≡ 63 ∷ later → ⊥) → BeginsWithStep text s rest
-    → BeginsWith false text s rest
+    → StepBegins false text s rest
 as_written text s rest other (inl h) = h
 as_written text s rest other (inr (condition, e, h)) = absurd (other condition e)
 
 pub no_filter : {E : Type 0} (text : List ℕ) (r : Result (Option (Selector × Bor (List ℕ))) E)
     → ((rest : List ℕ) → after_spaces text ≡ 63 ∷ rest → ⊥)
-    → IfOk r (ReadsStep (BeginsWith false) false text)
+    → IfOk r (ReadsStep (StepBegins false) false text)
     → IfOk r (ReadsStep BeginsWithStep false text)
 no_filter text (Ok x) other h = record {
   is = as_step text x h.is;
@@ -319,23 +319,23 @@ pub going_on : (left : List ℕ) → ends_path left ≡ false → EndsAs true le
 going_on left other ends = let both : false ≡ true = sym other ∙ ends in absurd (cc)
 
 pub filter_steps_read : (text : List ℕ) (left : Bor (List ℕ)) (read : Vec Selector)
-    → ends_path left.now ≡ true → IsRead (BeginsWith true) true text left.now read.items
+    → ends_path left.now ≡ true → IsRead (StepBegins true) true text left.now read.items
     → Reads path_view (AreFilterSteps text) (Some (read, left))
 filter_steps_read text left read ends h = record {
-  is = (all_steps (BeginsWith true) true path_begins text left.now read.items h, ends);
+  is = (all_steps (StepBegins true) true path_begins text left.now read.items h, ends);
   only = λ p later is.
-      read_only (BeginsWith true) true path_begins text left.now read.items ends h later is.1 p
+      read_only (StepBegins true) true path_begins text left.now read.items ends h later is.1 p
       is.0;
 }
 
 pub filter_steps_none : (text left : List ℕ) (read : List Selector) → ends_path left ≡ false
-    → ReadsStep (BeginsWith true) true left None
-    → IsRead (BeginsWith true) true text left read
+    → ReadsStep (StepBegins true) true left None
+    → IsRead (StepBegins true) true text left read
     → Reads {A = Vec Selector} path_view (AreFilterSteps text) None
 filter_steps_none text left read other step h = record {
   is = tt;
   only = λ p later is.
-      none_read (BeginsWith true) true path_begins text left read
+      none_read (StepBegins true) true path_begins text left read
       (going_on left other) step h later is.1 p is.0;
 }
 

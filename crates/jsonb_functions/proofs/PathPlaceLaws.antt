@@ -53,7 +53,7 @@ use Rattle.jsonb_functions.specs.Found.{child_at, found_at, if_there, item_there
 use Rattle.jsonb_functions.specs.Path.{item_place}
 use Rattle.jsonb_functions.specs.PathPlaces.{HoldTrees, HoldsFound, HoldsTree, IsPlaceWithin}
 use Rattle.jsonb_functions.specs.PathPlaces.{at_place, entries_after, first_entry, header_there}
-use Rattle.jsonb_functions.specs.PathPlaces.{item_entry, listed_places, member_entry, moved}
+use Rattle.jsonb_functions.specs.PathPlaces.{nth_entry, listed_places, member_entry, moved}
 use Rattle.jsonb_functions.specs.PathPlaces.{named_entry, path_place, place_from, places_at}
 use Rattle.jsonb_functions.specs.PathPlaces.{range_places, read_entries}
 use Rattle.jsonb_functions.specs.PathPlaces.{run_entries, selected_from}
@@ -245,7 +245,7 @@ array_placed b ts h =
     }
 
 item_held : (b : List ℕ) (ts : Trees) → Payload (array ts) b → (place : Option (ℕ × Bool))
-    → HeldFound b (item_entry place b (count ts)) (item_there place ts)
+    → HeldFound b (nth_entry place b (count ts)) (item_there place ts)
 item_held b ts h None = tt
 item_held b ts h (Some (m, false)) = tt
 item_held b ts h (Some (m, true)) =
@@ -453,7 +453,7 @@ module _ (bytes : List ℕ) (place : Entry) (inside : IsPlaceWithin bytes place)
       → HeldFound bytes (step_place s bytes place) (child_at s t)
   step_held s (array ts) h =
       let header = header_is (ARRAY_CONTAINER_TAG, count ts) h.0 (header_at-array payload ts h.1) in
-      rw header (found_moved (item_entry (item_place s (count ts)) payload (count ts))
+      rw header (found_moved (nth_entry (item_place s (count ts)) payload (count ts))
       (item_there (item_place s (count ts)) ts)
       (item_held payload ts h.1 (item_place s (count ts))))
   step_held s (object ps) h =

@@ -11,7 +11,7 @@ use Rattle.jsonb_functions.specs.declared.selection.Selector.TheVariants as sele
 use Rattle.jsonb_functions.specs.PathText.{SelectorView, step, selector_view, Written, plain}
 use Rattle.jsonb_functions.specs.PathText.{quoted, bracketed, written_bytes, all_are, is_in_name}
 use Rattle.jsonb_functions.specs.PathText.{is_not, is_unquoted_key, member_step, place_in}
-use Rattle.jsonb_functions.specs.PathText.{written_step, StopsAt, BeginsWith}
+use Rattle.jsonb_functions.specs.PathText.{written_step, StopsAt, StepBegins}
 use Rattle.jsonb_functions.specs.PathText.{EndsName, ReadsStep, ends_in_space}
 use Rattle.jsonb_functions.specs.StoredPath.{key}
 use Rattle.jsonb_functions.proofs.IndexLaws.{both}
@@ -48,7 +48,7 @@ not_true false e = refl
 
 -- A step that is no filter, as a text begins with it.
 pub written_from : (in_filter : Bool) (text : List ℕ) (s : SelectorView) (rest : List ℕ)
-    → BeginsWith in_filter text s rest
+    → StepBegins in_filter text s rest
     → (w : Written) × (text ≡ written_bytes w ++ rest) × (written_step in_filter w ≡ Some s)
 written_from in_filter text s rest (front, e, is) =
     (is.0, e ∙ ap (λ b. b ++ rest) is.1, is.2)
@@ -104,7 +104,7 @@ module _ (in_filter : Bool) where
   -- The first step was read: a key between quotes, a key as it is, or a place between brackets.
   pub quoted_read : (text : List ℕ) (name rest : Bor (List ℕ))
       → text ≡ name.now ++ (34 ∷ rest.now) → all_are (is_not 34) name.now ≡ true
-      → ReadsStep (BeginsWith in_filter) in_filter (46 ∷ (34 ∷ text))
+      → ReadsStep (StepBegins in_filter) in_filter (46 ∷ (34 ∷ text))
       (Some (selectors.Step (steps.Key name), rest))
   quoted_read text name rest e all = record {
     is = (
@@ -122,7 +122,7 @@ module _ (in_filter : Bool) where
   }
 
   pub quoted_none : (text : List ℕ) → all_are (is_not 34) text ≡ true
-      → ReadsStep (BeginsWith in_filter) in_filter (46 ∷ (34 ∷ text)) None
+      → ReadsStep (StepBegins in_filter) in_filter (46 ∷ (34 ∷ text)) None
   quoted_none text all = record {
     is = tt;
     only = λ s later h stops.
@@ -160,7 +160,7 @@ module _ (in_filter : Bool) where
       → all_are (is_in_name in_filter) name ≡ true → ends_in_space name ≡ false
       → EndsName in_filter rest.now → (name ≡ [] → ⊥)
       → selector_view selector ≡ member_step name
-      → ReadsStep (BeginsWith in_filter) in_filter (46 ∷ text) (Some (selector, rest))
+      → ReadsStep (StepBegins in_filter) in_filter (46 ∷ text) (Some (selector, rest))
   plain_read text name rest selector other e all last stops some view =
       let ok = is_plain_name text name rest.now other e some all last in record {
         is = (46 ∷ name, ap (λ xs. 46 ∷ xs) e, (plain name, refl, rw (ok, view) refl));
@@ -174,7 +174,7 @@ module _ (in_filter : Bool) where
 
   pub plain_none : (text rest : List ℕ) → ((later : List ℕ) → text ≡ 34 ∷ later → ⊥)
       → text ≡ rest → EndsName in_filter rest
-      → ReadsStep (BeginsWith in_filter) in_filter (46 ∷ text) None
+      → ReadsStep (StepBegins in_filter) in_filter (46 ∷ text) None
   plain_none text rest other e stops = record {
     is = tt;
     only = λ s later h goes.
@@ -190,7 +190,7 @@ module _ (in_filter : Bool) where
       (selector : Selector)
       → text ≡ place ++ (93 ∷ rest.now) → all_are (is_not 93) place ≡ true
       → Some (selector_view selector) ≡ place_in place
-      → ReadsStep (BeginsWith in_filter) in_filter (91 ∷ text) (Some (selector, rest))
+      → ReadsStep (StepBegins in_filter) in_filter (91 ∷ text) (Some (selector, rest))
   bracketed_read text place rest selector e all view = record {
     is = (
       written_bytes (bracketed place),
@@ -209,7 +209,7 @@ module _ (in_filter : Bool) where
   }
 
   pub bracketed_none : (text : List ℕ) → all_are (is_not 93) text ≡ true
-      → ReadsStep (BeginsWith in_filter) in_filter (91 ∷ text) None
+      → ReadsStep (StepBegins in_filter) in_filter (91 ∷ text) None
   bracketed_none text all = record {
     is = tt;
     only = λ s later h goes.
@@ -223,7 +223,7 @@ module _ (in_filter : Bool) where
 
   pub place_none : (text place rest : List ℕ) → text ≡ place ++ (93 ∷ rest)
       → all_are (is_not 93) place ≡ true → None ≡ place_in place
-      → ReadsStep (BeginsWith in_filter) in_filter (91 ∷ text) None
+      → ReadsStep (StepBegins in_filter) in_filter (91 ∷ text) None
   place_none text place rest e all view = record {
     is = tt;
     only = λ s later h goes.
@@ -243,14 +243,14 @@ module _ (in_filter : Bool) where
   begins text rest (bracketed place) spelled = inr ((place ++ (93 ∷ [])) ++ rest, spelled)
 
   pub written_begins : (text : List ℕ) (s : SelectorView) (rest : List ℕ)
-      → BeginsWith in_filter text s rest
+      → StepBegins in_filter text s rest
       → ((later : List ℕ) × (text ≡ 46 ∷ later)) ⊎ ((later : List ℕ) × (text ≡ 91 ∷ later))
   written_begins text s rest h =
       let t = written_from in_filter text s rest h in begins text rest t.0 t.1
 
   pub other_none : (text : List ℕ) → ((later : List ℕ) → text ≡ 46 ∷ later → ⊥)
       → ((later : List ℕ) → text ≡ 91 ∷ later → ⊥)
-      → ReadsStep (BeginsWith in_filter) in_filter text None
+      → ReadsStep (StepBegins in_filter) in_filter text None
   other_none text point bracket = record {
     is = tt;
     only = λ s later h goes.

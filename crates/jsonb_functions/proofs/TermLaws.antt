@@ -10,7 +10,7 @@ use Rattle.jsonb_value.specs.Tree.{Tree}
 use Rattle.jsonb_functions.specs.declared.filter.Term.{Term}
 use Rattle.jsonb_functions.specs.declared.selection.Selector.{Selector}
 use Rattle.jsonb_functions.specs.declared.selection.Selector.TheVariants as selectors
-use Rattle.jsonb_functions.specs.PathText.{AreSteps, AreTerms, BeginsWith, BeginsWithExists}
+use Rattle.jsonb_functions.specs.PathText.{AreSteps, AreTerms, StepBegins, BeginsWithExists}
 use Rattle.jsonb_functions.specs.PathText.{BeginsWithLiteral, BeginsWithStep, BeginsWithTerm}
 use Rattle.jsonb_functions.specs.PathText.{BeginsWithTest, IsExists, IsFilter, IsFilterPath}
 use Rattle.jsonb_functions.specs.PathText.{Reads, SelectorView, TermView, Written, after_spaces}
@@ -340,7 +340,7 @@ joined_shorter text front rest e =
     omega (arith, ap length e, length-append front rest)
 
 steps_shorter : (end text : List ℕ) (path : List SelectorView)
-    → AreSteps (BeginsWith true) end text path → length end ≤ length text
+    → AreSteps (StepBegins true) end text path → length end ≤ length text
 steps_shorter end text [] e = omega (arith, ap length e)
 steps_shorter end text (s ∷ path) (rest, (front, e, is), more) =
     omega (arith, joined_shorter text front rest e, steps_shorter end rest path more)

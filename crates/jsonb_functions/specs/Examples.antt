@@ -1,7 +1,7 @@
 -- Examples of paths and what they select, of containment, and of edited and joined trees.
 use Rattle.std.specs.Prelude.{◌≡◌, pos, true, false, List, [], ◌∷◌, codes, Some, None}
 use Rattle.jsonb_value.specs.declared.number.Number.TheVariants.{Int64}
-use Rattle.jsonb_value.specs.Notation.{minus, whole, scaled, string, items, members}
+use Rattle.jsonb_value.specs.Notation.{neg, whole, scaled, string, items, members}
 use Rattle.jsonb_value.specs.Tree.{Tree, null, number}
 use Rattle.jsonb_functions.specs.declared.path.Step.TheVariants.{Index, FromEnd, End}
 use Rattle.jsonb_functions.specs.declared.selection.Bound.TheVariants as bounds
@@ -59,7 +59,7 @@ pub record PathTexts : Type 0 where
       (range (bounds.FromStart 1) (bounds.FromEnd 0) ∷ [])
   pub empty_text : (path : List SelectorView) → PathText [] path → ⊥
   pub without_root : (path : List SelectorView) → PathText (codes "a") path → ⊥
-  pub of_document : path_in (items (string "a" ∷ whole 0 ∷ number (Int64 (minus 1)) ∷ []))
+  pub of_document : path_in (items (string "a" ∷ whole 0 ∷ number (Int64 (neg 1)) ∷ []))
       ≡ Some (key (codes "a") ∷ (index 0 ∷ (from_end 0 ∷ [])))
   pub of_no_array : path_in (string "a") ≡ None
   pub as_pointer : pointer_of (codes "a/b" ∷ codes "m~n" ∷ []) ≡ codes "/a~1b/m~0n"

@@ -78,11 +78,11 @@ header_there bytes place =
 
 -- The entry of an item of an array of n items, given before which one it is, and whether it is one
 -- of them.
-abbrev pub item_entry : Option (ℕ × Bool) → List ℕ → ℕ → Option Entry
-item_entry None bytes n = None
-item_entry (Some (before, true)) bytes n =
+abbrev pub nth_entry : Option (ℕ × Bool) → List ℕ → ℕ → Option Entry
+nth_entry None bytes n = None
+nth_entry (Some (before, true)) bytes n =
     first_entry (entries_after before (item_run bytes n).entries)
-item_entry (Some (before, false)) bytes n = None
+nth_entry (Some (before, false)) bytes n = None
 
 -- The entry of the value of a key of an object of n pairs.
 abbrev pub member_entry : Step → List ℕ → ℕ → Option Entry
@@ -94,7 +94,7 @@ member_entry s bytes n = None
 abbrev pub step_entry : Step → List ℕ → Option (ℕ × ℕ) → Option Entry
 step_entry s bytes None = None
 step_entry s bytes (Some header) =
-    if header.0 == ARRAY_CONTAINER_TAG then item_entry (item_place s header.1) bytes header.1
+    if header.0 == ARRAY_CONTAINER_TAG then nth_entry (item_place s header.1) bytes header.1
     else if header.0 == OBJECT_CONTAINER_TAG then member_entry s bytes header.1
     else None
 

@@ -271,8 +271,8 @@ IsWrittenStep in_filter bytes s =
     (w : Written) × (bytes ≡ written_bytes w) × (written_step in_filter w ≡ Some s)
 
 -- The text begins with this step, which is no filter, and goes on so.
-abbrev pub BeginsWith : Bool → List ℕ → SelectorView → List ℕ → Type 0
-BeginsWith in_filter text s rest =
+abbrev pub StepBegins : Bool → List ℕ → SelectorView → List ℕ → Type 0
+StepBegins in_filter text s rest =
     (front : List ℕ) × (text ≡ front ++ rest) × IsWrittenStep in_filter front s
 
 -- The text is these steps, each as `Begins` says, and then the end.
@@ -322,7 +322,7 @@ ends_path (c ∷ cs) = (c == 32) || (c == 41)
 -- The text begins with the steps of a filter's path, which ends there.
 abbrev pub AreFilterSteps : List ℕ → List SelectorView → List ℕ → Type 0
 AreFilterSteps text path rest =
-    AreSteps (BeginsWith true) rest text path × (ends_path rest ≡ true)
+    AreSteps (StepBegins true) rest text path × (ends_path rest ≡ true)
 
 -- The text begins with a filter's path. There are no wildcards, ranges, lists and filters in it.
 abbrev pub IsFilterPath : List ℕ → List StepView → List ℕ → Type 0
@@ -443,7 +443,7 @@ IsFilter text s rest = (inner : List ℕ) × (ts : List TermView)
 
 -- The text begins with this step: one that is no filter, or spaces, `?` and a filter.
 abbrev pub BeginsWithStep : List ℕ → SelectorView → List ℕ → Type 0
-BeginsWithStep text s rest = BeginsWith false text s rest
+BeginsWithStep text s rest = StepBegins false text s rest
     ⊎ ((condition : List ℕ) × (after_spaces text ≡ 63 ∷ condition) × IsFilter condition s rest)
 
 -- The text is `$` and these steps.

@@ -61,7 +61,7 @@ pub use Rattle.jsonb_functions.specs.PatchSource.{next_keys_size, next_size}
 pub use Rattle.jsonb_functions.specs.Patched.{pairs_or_none, pairs_patched, patched}
 pub use Rattle.jsonb_functions.specs.Path.{is_next, item_place, position_view}
 pub use Rattle.jsonb_functions.specs.PathDocument.{path_tree, step_tree, stored_step}
-pub use Rattle.jsonb_functions.specs.PathText.{AreTerms, BeginsWith, BeginsWithLiteral}
+pub use Rattle.jsonb_functions.specs.PathText.{AreTerms, StepBegins, BeginsWithLiteral}
 pub use Rattle.jsonb_functions.specs.PathText.{BeginsWithStep, BeginsWithTerm, BeginsWithTest}
 pub use Rattle.jsonb_functions.specs.PathText.{EndsName, IsComparison, IsFilter, IsFilterPath}
 pub use Rattle.jsonb_functions.specs.PathText.{IsLiteralWord, PathText, StepsText, list_count}

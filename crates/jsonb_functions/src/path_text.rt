@@ -3,7 +3,7 @@
 ghost use Rattle.std.specs.Prelude.{◌≡◌, ◌↔◌, ◌∷◌, ◌++◌, ◌<◌, ◌-◌, ◌^◌, ℕ, List, [], IfErr, IfOk};
 ghost use Rattle.std.specs.Prelude.{MatchOption, Some, codes, map, option_map, true, false};
 ghost use Rattle.std.specs.List.{prefix_len};
-ghost use Rattle.jsonb_functions.specs.Words.{AreTerms, BeginsWith, BeginsWithLiteral};
+ghost use Rattle.jsonb_functions.specs.Words.{AreTerms, StepBegins, BeginsWithLiteral};
 ghost use Rattle.jsonb_functions.specs.Words.{BeginsWithStep, BeginsWithTerm, BeginsWithTest};
 ghost use Rattle.jsonb_functions.specs.Words.{EndsName, IsComparison, IsFilter, IsFilterPath};
 ghost use Rattle.jsonb_functions.specs.Words.{IsLiteralWord, PathText, Reads, ReadsStep, StepsText};
@@ -167,7 +167,7 @@ fn read_written<'a>(
     text: &'a str,
     in_filter: bool,
 ) -> Result<Option<(Selector<'a>, &'a str)>, AllocError>
-    ensures { IfOk result (ReadsStep (BeginsWith in_filter) in_filter text.now) }
+    ensures { IfOk result (ReadsStep (StepBegins in_filter) in_filter text.now) }
 {
     if let Some(name) = after_char(text, '.') {
         return Ok(read_member(name, in_filter));
@@ -180,7 +180,7 @@ fn read_written<'a>(
 
 // A step after a point, and what is after it.
 fn read_member<'a>(text: &'a str, in_filter: bool) -> Option<(Selector<'a>, &'a str)>
-    ensures { ReadsStep (BeginsWith in_filter) in_filter (46 ∷ text.now) result }
+    ensures { ReadsStep (StepBegins in_filter) in_filter (46 ∷ text.now) result }
 {
     match after_char(text, '"') {
         Some(quoted) => read_quoted(quoted, in_filter),
@@ -190,7 +190,7 @@ fn read_member<'a>(text: &'a str, in_filter: bool) -> Option<(Selector<'a>, &'a 
 
 // A key up to a quote, and what is after that.
 fn read_quoted<'a>(text: &'a str, in_filter: bool) -> Option<(Selector<'a>, &'a str)>
-    ensures { ReadsStep (BeginsWith in_filter) in_filter (46 ∷ (34 ∷ text.now)) result }
+    ensures { ReadsStep (StepBegins in_filter) in_filter (46 ∷ (34 ∷ text.now)) result }
 {
     match split_at(text, '"') {
         Some((name, rest)) => Some((Selector::Step(Step::Key(name)), rest)),
@@ -201,7 +201,7 @@ fn read_quoted<'a>(text: &'a str, in_filter: bool) -> Option<(Selector<'a>, &'a 
 // A key as it is, or the step to each member, and what is after it.
 fn read_plain<'a>(text: &'a str, in_filter: bool) -> Option<(Selector<'a>, &'a str)>
     requires { (rest : List ℕ) → text.now ≡ 34 ∷ rest → ⊥ }
-    ensures { ReadsStep (BeginsWith in_filter) in_filter (46 ∷ text.now) result }
+    ensures { ReadsStep (StepBegins in_filter) in_filter (46 ∷ text.now) result }
 {
     let (name, rest) = split_name(text, in_filter);
     if name.is_empty() {
@@ -285,7 +285,7 @@ fn read_bracketed<'a>(
     text: &'a str,
     in_filter: bool,
 ) -> Result<Option<(Selector<'a>, &'a str)>, AllocError>
-    ensures { IfOk result (ReadsStep (BeginsWith in_filter) in_filter (91 ∷ text.now)) }
+    ensures { IfOk result (ReadsStep (StepBegins in_filter) in_filter (91 ∷ text.now)) }
 {
     match split_at(text, ']') {
         Some((place, rest)) => match read_place(alloc, place)? {

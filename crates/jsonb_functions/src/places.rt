@@ -8,7 +8,7 @@ ghost use Rattle.jsonb.specs.Node.{node_view};
 ghost use Rattle.jsonb.specs.StoredEntries.{entry_item};
 ghost use Rattle.jsonb.specs.declared.entries.Entry.{Entry};
 ghost use Rattle.jsonb_functions.specs.PathPlaces.{IsPlaceWithin, entries_after, header_there};
-ghost use Rattle.jsonb_functions.specs.PathPlaces.{item_entry, listed_places, member_entry, moved};
+ghost use Rattle.jsonb_functions.specs.PathPlaces.{nth_entry, listed_places, member_entry, moved};
 ghost use Rattle.jsonb_functions.specs.PathPlaces.{place_from, places_at};
 ghost use Rattle.jsonb_functions.specs.PathPlaces.{range_places, read_entries};
 ghost use Rattle.jsonb_functions.specs.PathPlaces.{step_entry, step_place, tree_there};
@@ -145,7 +145,7 @@ fn child_entry(bytes: &[u8], header: Option<(u32, usize)>, step: Step<'_>) -> Op
 // The entry of the item to which a step leads in an array of so many.
 fn item_entry(bytes: &[u8], count: usize, step: Step<'_>) -> Option<Entry>
     requires { count < 2 ^ 29 }
-    ensures value { result ≡ item_entry (item_place step.entry count) bytes.now count }
+    ensures value { result ≡ nth_entry (item_place step.entry count) bytes.now count }
     ensures inside { IfSome result (IsPlaceWithin bytes.now) }
 {
     let position = item_position(step, count)?;
