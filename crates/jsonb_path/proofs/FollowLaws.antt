@@ -149,6 +149,15 @@ chosen_slice place nodes items xs d any before found old x o whole is =
     chosen_stops place nodes (get_or xs 0 d) xs (later xs) items (front_of xs d any) before found
     old x o whole is
 
+pub listed_slice : (place : Place) (nodes : List PathNode) (ts : List Tree) (xs : List Subscript)
+    (d : Subscript) → 1 ≤ length xs → (before found old : List Node) (x : WalkError) (o : Outcome)
+    → found_then before (select place (subscripts_of nodes xs) ts) ≡ found_then old o
+    → Finds before found (Err x) (select place
+    (subscript_onto nodes (get_or xs 0 d).first (get_or xs 0 d).last no_subscripts) ts)
+    → Finds old found (Err x) o
+listed_slice place nodes ts xs d any before found old x o whole is =
+    chosen_slice place nodes (Some ts) xs d any before found old x o whole is
+
 nothing_selected : (place : Place) (nodes : List PathNode) (items : Option (List Tree))
     → selected_in place (subscripts_of nodes []) items ≡ gives []
 nothing_selected place nodes None = refl
@@ -176,6 +185,7 @@ pub ruleset parts_before_it = (
   step_stops,
   steps_end,
   chosen_slice,
+  listed_slice,
   chosen_end,
   each_end,
 )

@@ -264,6 +264,12 @@ walk_ends found a o end is =
     ap (λ (vs : List Tree). ended vs end) (v ∙ sym (append-nil o.values))
     ∙ ap (λ (x : Option PathError). before_end o.values x (ended [] end)) e
 
+-- what was found is the list
+pub listed_are : (found : List Node) (a : Unit {0}) (ts : List Tree)
+    → Finds [] found (Ok a) (gives ts) → map node_tree found ≡ ts
+listed_are found a ts is =
+    sym (append-nil (map node_tree found)) ∙ ap (λ (p : Outcome). p.values) is
+
 pub walk_fails : (found : List Node) (f : PathError) (o q : Outcome)
     → Finds [] found (Err (Failed f)) o
     → ended (map node_tree found) (Some f) ≡ joined o q

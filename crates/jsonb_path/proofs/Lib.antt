@@ -1,4 +1,5 @@
 pub mod CharacterLaws
+pub mod DirectLaws
 pub mod DottedLaws
 pub mod EscapeLaws
 pub mod ExampleLaws
@@ -7,6 +8,7 @@ pub mod FoundLaws
 pub mod GivenLaws
 pub mod GrammarLaws
 pub mod GrowthLaws
+pub mod HeightLaws
 pub mod LeftLaws
 pub mod NameLaws
 pub mod NumeralLaws
@@ -16,6 +18,7 @@ pub mod PathTextLaws
 pub mod PathTreeLaws
 pub mod RaisedLaws
 pub mod ReadLaws
+pub mod StepLaws
 pub mod TakenLaws
 pub mod TokenLaws
 pub mod TurnLaws

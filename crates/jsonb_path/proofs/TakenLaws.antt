@@ -1,11 +1,14 @@
 -- The items from an index to another, one after the other.
 use Rattle.std.proofs.Common.{◌≡◌, ℕ, suc, ℤ, pos, negsuc, ◌+◌, ◌<◌, Bool, true, false, List, []}
 use Rattle.std.proofs.Common.{◌∷◌, ◌++◌, ◌∙◌}
-use Rattle.std.proofs.Common.{ap, arith, refl, sym}
+use Rattle.std.proofs.Common.{ap, arith, drop, length, map, refl, sym, take, zero, ◌-◌, ◌≤◌}
 use Rattle.std.specs.Prelude.{◌&&◌, if◌then◌else◌, int_le, int_lt, Ok, Err}
+use Rattle.std.proofs.Math.Seq.{take-length}
+use Rattle.std.proofs.lemmas.List.{drop-map, length-drop}
 use Rattle.std.proofs.lemmas.Bool.{lt-leb, lt-ltb, ltb-true}
 use Rattle.jsonb_value.specs.Tree.{Tree}
 use Rattle.jsonb.specs.declared.node.Node.{Node}
+use Rattle.jsonb.specs.Node.{node_tree}
 use Rattle.jsonb_path.specs.declared.outcome.WalkError.{WalkError}
 use Rattle.jsonb_path.specs.Found.{Finds, found_then}
 use Rattle.jsonb_path.specs.Meaning.{Outcome, gives, joined, taken}
@@ -87,3 +90,43 @@ taken_past at first last all past found old a o whole =
     ap (λ ts. found_then found (gives ts)) (sym (none_past at first last all past)) ∙ whole
 
 pub ruleset takings = (taken_on, taken_stops, taken_end, taken_past)
+
+-- ---- from the first index on
+
+-- before the first index nothing is taken
+one_before : (n at : ℕ) (last : ℤ) (t : Tree) (ts : List Tree) → at < n
+    → taken at (pos n) last (t ∷ ts) ≡ taken (suc at) (pos n) last ts
+one_before n at last t ts h =
+    ap (λ b. if b && int_le (pos at) last then t ∷ taken (suc at) (pos n) last ts
+    else taken (suc at) (pos n) last ts) (lt-leb n at h)
+
+taken_on_from : (k at n : ℕ) (last : ℤ) (ts : List Tree) → at + k ≤ n
+    → taken (at + k) (pos n) last (drop k ts) ≡ taken at (pos n) last ts
+taken_on_from zero at n last ts h =
+    ap (λ i. taken i (pos n) last ts) (omega arith)
+taken_on_from (suc k) at n last [] h = refl
+taken_on_from (suc k) at n last (t ∷ ts) h =
+    let next : at + suc k ≡ suc at + k = omega arith in
+    ap (λ i. taken i (pos n) last (drop k ts)) next
+    ∙ taken_on_from k (suc at) n last ts (omega (arith, h, next))
+    ∙ sym (one_before n at last t ts (omega (arith, h)))
+
+pub taken_from_start : (k n : ℕ) (last : ℤ) (ts : List Tree) → k ≤ n
+    → taken k (pos n) last (drop k ts) ≡ taken 0 (pos n) last ts
+taken_from_start k n last ts h =
+    ap (λ i. taken i (pos n) last (drop k ts)) (omega arith)
+    ∙ taken_on_from k 0 n last ts (omega (arith, h))
+
+-- what is left of a list from an index on, as a slice takes it
+pub listed_from : (found : List Node) (k : ℕ) (first last : ℤ) (xs : List Node) → k ≤ length xs
+    → ((ts : List Tree) → taken k first last (drop k ts) ≡ taken 0 first last ts)
+    → found_then found
+    (gives (taken k first last (map node_tree (take (length xs - k) (drop k xs)))))
+    ≡ found_then found (gives (taken 0 first last (map node_tree xs)))
+listed_from found k first last xs h same =
+    let fewer : length xs - k ≡ length (drop k xs) = sym (length-drop k xs) in
+    let rest : take (length xs - k) (drop k xs) ≡ drop k xs =
+    ap (λ n. take n (drop k xs)) fewer ∙ take-length (drop k xs) in
+    ap (λ ys. found_then found (gives (taken k first last (map node_tree ys)))) rest
+    ∙ ap (λ ts. found_then found (gives (taken k first last ts))) (sym (drop-map node_tree k xs))
+    ∙ ap (λ ts. found_then found (gives ts)) (same (map node_tree xs))

@@ -1,7 +1,7 @@
 -- Paths of whole texts.
 use Rattle.std.proofs.Common.{◌≡◌, ◌<◌, ◌≤◌, ◌∙◌, ◌-◌, ◌+◌, ℕ, List, [], ◌∷◌, ◌++◌, ap, arith, length, map, refl, subst, sym}
 use Rattle.std.proofs.Common.{Some, None, Result, Ok}
-use Rattle.std.specs.Prelude.{IsTrue}
+use Rattle.std.specs.Prelude.{IsTrue, true, false, if◌then◌else◌}
 use Rattle.std.proofs.lemmas.List.{length-append}
 use Rattle.jsonb_path.specs.declared.path.Mode.{Mode}
 use Rattle.jsonb_path.specs.declared.path.Part.{Part}
@@ -11,11 +11,12 @@ use Rattle.jsonb_path.specs.declared.token.ReadError.{ReadError}
 use Rattle.jsonb_path.specs.declared.token.ReadError.TheVariants as read_errors
 use Rattle.jsonb_path.specs.Dotted.{lexeme_in, lexemes}
 use Rattle.jsonb_path.specs.Fault.{IsRefused}
-use Rattle.jsonb_path.specs.Grammar.{lexemes_of, path_of_lexemes, path_of_text, query_if_end}
+use Rattle.jsonb_path.specs.Grammar.{lexemes_of, path_of_lexemes, path_of_text, query_if_end, query_if_low}
+use Rattle.jsonb_path.specs.Height.{is_low}
 use Rattle.jsonb_path.specs.Meaning.{Query}
 use Rattle.jsonb_path.specs.PathParts.{are_parts, are_parts_after, is_part, is_some_part}
 use Rattle.jsonb_path.specs.PathTree.{PathNode, as_expression, expression_at, node_of, nodes_of}
-use Rattle.jsonb_path.specs.PathTree.{query_of}
+use Rattle.jsonb_path.specs.PathTree.{query_of, tree_of_parts}
 use Rattle.jsonb_path.specs.Syntax.{Expression}
 use Rattle.jsonb_path.proofs.GrowthLaws.{both_true, pushed_grows, pushed_node}
 use Rattle.jsonb_value.specs.Json.Bind.{◌>>=◌}
@@ -70,6 +71,23 @@ whole_query mode before after p e =
     ap as_expression (pushed_node before after p (length after - 1) e place) in
     query_with mode node
 
+-- that path, unless it is too high
+pub low_query : (mode : Mode) (before after : List Part) (p : Part) → after ≡ before ++ (p ∷ [])
+    → true ≡ is_low (tree_of_parts after)
+    → Some (query_of (record { mode = mode; parts = after }))
+    ≡ query_if_low (record { mode = mode; tree = as_expression (node_of (nodes_of before) p) })
+low_query mode before after p e low =
+    (λ i. if low i then Some (query_of (record { mode = mode; parts = after })) else None)
+    ∙ ap query_if_low (whole_query mode before after p e)
+
+pub high_query : (mode : Mode) (before after : List Part) (p : Part) → after ≡ before ++ (p ∷ [])
+    → false ≡ is_low (tree_of_parts after)
+    → None
+    ≡ query_if_low (record { mode = mode; tree = as_expression (node_of (nodes_of before) p) })
+high_query mode before after p e high =
+    (λ i. if high i then Some (query_of (record { mode = mode; parts = after })) else None)
+    ∙ ap query_if_low (whole_query mode before after p e)
+
 -- the end of a path
 pub query_ended : (mode : Mode) (n : PathNode) (rest : List PlacedToken) → length rest < 1
     → query_if_end mode (n, lexemes rest)
@@ -82,5 +100,12 @@ pub query_goes_on : (mode : Mode) (n : PathNode) (rest : List PlacedToken) → 1
 query_goes_on mode n [] h = absurd (omega arith)
 query_goes_on mode n (t ∷ rest) h = refl
 
-pub ruleset paths =
-    (tokens_read, tokens_refused, whole_parts, whole_query, query_ended, query_goes_on)
+pub ruleset paths = (
+  tokens_read,
+  tokens_refused,
+  whole_parts,
+  low_query,
+  high_query,
+  query_ended,
+  query_goes_on,
+)

@@ -2,7 +2,7 @@
 -- read.
 use Rattle.std.specs.Prelude.{◌≡◌, pos, List, [], ◌∷◌, codes, None, Some, true, false}
 use Prim.Native.String.{String}
-use Rattle.jsonb_value.specs.Notation.{whole, scaled, string, items, members, minus}
+use Rattle.jsonb_value.specs.Notation.{whole, scaled, string, items, members, neg}
 use Rattle.jsonb_value.specs.Tree.{Tree, null, boolean, number}
 use Rattle.jsonb_value.specs.declared.number.Number.TheVariants.{Int64}
 use Rattle.jsonb_path.specs.declared.compare.Comparison.TheVariants.{Equal, NotEqual, Greater}
@@ -112,9 +112,9 @@ pub record SubscriptExamples : Type 0 where
       (range (value (whole 0)) (value (whole 1)) no_subscripts))) ∷ [])) one_two_three
       ≡ gives (whole 3 ∷ whole 1 ∷ whole 1 ∷ whole 2 ∷ [])
   pub cut_towards_zero : lax (from_root (items_at (index (value (number (scaled (pos 19) 1)))
-      (index (value (number (scaled (minus 9) 1))) no_subscripts)) ∷ [])) one_two_three
+      (index (value (number (scaled (neg 9) 1))) no_subscripts)) ∷ [])) one_two_three
       ≡ gives (whole 2 ∷ whole 1 ∷ [])
-  pub below_zero : lax (from_root (item (value (number (Int64 (minus 1)))) ∷ [])) one_two_three
+  pub below_zero : lax (from_root (item (value (number (Int64 (neg 1)))) ∷ [])) one_two_three
       ≡ gives []
   pub text : lax (from_root (item (value (string "a")) ∷ [])) one_two_three
       ≡ ends [] errors.InvalidSubscript
@@ -228,7 +228,7 @@ pub record NumberExamples : Type 0 where
   pub array : strict (arithmetic Add (from_root []) (value (whole 1))) (items (whole 1 ∷ []))
       ≡ ends [] errors.SingletonRequired
   pub negative : lax (signed Minus (from_root [])) (items (whole 1 ∷ string "a" ∷ []))
-      ≡ ends (number (Int64 (minus 1)) ∷ []) errors.NumberNotFound
+      ≡ ends (number (Int64 (neg 1)) ∷ []) errors.NumberNotFound
   pub product : lax (arithmetic Multiply (from_root (item (value (whole 0)) ∷ []))
       (from_root (item (value (whole 1)) ∷ [])))
       (items (number (scaled (pos 150) 2) ∷ whole 2 ∷ []))
@@ -236,8 +236,8 @@ pub record NumberExamples : Type 0 where
   pub absolute : lax (from_root (all_items ∷ method methods.Abs ∷ []))
       (items (whole 1 ∷ string "a" ∷ [])) ≡ ends (whole 1 ∷ []) errors.NonNumericItem
   pub floor : lax (from_root (method methods.Floor ∷ []))
-      (items (number (scaled (minus 150) 2) ∷ number (scaled (pos 21) 1) ∷ []))
-      ≡ gives (number (Int64 (minus 2)) ∷ whole 2 ∷ [])
+      (items (number (scaled (neg 150) 2) ∷ number (scaled (pos 21) 1) ∷ []))
+      ≡ gives (number (Int64 (neg 2)) ∷ whole 2 ∷ [])
   pub sizes : lax (from_root (all_items ∷ method methods.Size ∷ []))
       (items (items (whole 1 ∷ whole 2 ∷ []) ∷ whole 3 ∷ [])) ≡ gives (whole 2 ∷ whole 1 ∷ [])
   pub size_of_number : strict (from_root (all_items ∷ method methods.Size ∷ []))
@@ -262,7 +262,7 @@ pub record TextExamples : Type 0 where
       (arithmetic Subtract (value (whole 1)) (value (whole 2))) (value (whole 3)))
   pub in_parentheses : reads "1 - (2 - 3)" (arithmetic Subtract (value (whole 1))
       (arithmetic Subtract (value (whole 2)) (value (whole 3))))
-  pub negative : reads "-1" (value (number (Int64 (minus 1))))
+  pub negative : reads "-1" (value (number (Int64 (neg 1))))
   pub twice_negative : reads "- -1" (value (whole 1))
   pub sign_of_a_chain : reads "-1.5.type()" (signed Minus
       (chain (literal (number (scaled (pos 15) 1))) (steps (method methods.Type ∷ []))))

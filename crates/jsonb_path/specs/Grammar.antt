@@ -19,6 +19,7 @@ use Rattle.jsonb_path.specs.declared.read.infix.Operation.{Operation}
 use Rattle.jsonb_path.specs.declared.read.infix.Operation.TheVariants as operations
 use Rattle.jsonb_path.specs.declared.read.literal.Scope.{Scope}
 use Rattle.jsonb_path.specs.Dotted.{Front, after_mark, after_word, dotted, is_word}
+use Rattle.jsonb_path.specs.Height.{is_low}
 use Rattle.jsonb_path.specs.Literal.{number_in_tree, prefix_at, primary_at, within_filter}
 use Rattle.jsonb_path.specs.Literal.{within_subscript}
 use Rattle.jsonb_path.specs.Meaning.{Query, signed_as}
@@ -379,10 +380,14 @@ abbrev pub query_if_end : Mode → PathNode × List Lexeme → Option Query
 query_if_end mode (n, []) = Some (record { mode = mode; tree = as_expression n })
 query_if_end mode (n, t ∷ ts) = None
 
--- The path of tokens, of 256 levels at most.
+abbrev pub query_if_low : Query → Option Query
+query_if_low query = if is_low query.tree then Some query else None
+
+-- The path of tokens, of 64 levels of parentheses, filters, subscripts and signs at most, and not
+-- higher than 400.
 unfoldable pub path_of_lexemes : List Lexeme → Option Query
-path_of_lexemes ts = ranked (deeper 256) 5 top_scope (mode_front ts).1
-    >>= query_if_end (mode_front ts).0
+path_of_lexemes ts = ranked (deeper 64) 5 top_scope (mode_front ts).1
+    >>= query_if_end (mode_front ts).0 >>= query_if_low
 
 abbrev pub lexemes_of : {E : Type 0} → Result (List Placed) E → Option (List Lexeme)
 lexemes_of (Ok ts) = Some (map (λ t. t.lexeme) ts)

@@ -9,6 +9,8 @@ pub mod Fault
 pub mod Found
 pub mod Grammar
 pub mod Growth
+pub mod Height
+pub mod Hint
 pub mod Literal
 pub mod Meaning
 pub mod Numeral
@@ -16,6 +18,7 @@ pub mod PathParts
 pub mod PathText
 pub mod PathTree
 pub mod Refusal
+pub mod Steps
 pub mod Syntax
 pub mod Token
 pub mod Turns

@@ -30,7 +30,7 @@ use Rattle.jsonb_path.specs.declared.path.Sign.TheVariants.{Plus, Minus}
 use Rattle.jsonb_path.specs.Arithmetic.{sum, difference, product, negated, unsigned, floor_of}
 use Rattle.jsonb_path.specs.Arithmetic.{ceiling_of, whole_part_of, number_within, remainder_within}
 use Rattle.jsonb_path.specs.Comparison.{both, either, negation, unknown, compares, starts_with}
-use Rattle.jsonb_path.specs.Comparison.{comparand_of}
+use Rattle.jsonb_path.specs.Comparison.{comparand_of, truth_of}
 use Rattle.jsonb_path.specs.Syntax.{Expression, Primary, Accessor, Accessors, Subscripts, Predicate}
 use Rattle.jsonb_path.specs.Syntax as syntax
 
@@ -370,6 +370,32 @@ exists_before Strict (Some e) (t ∷ ts) = Unknown
 -- Whether there is a value: in lax also one before an error.
 abbrev pub exists_in : Mode → Outcome → Truth
 exists_in mode o = exists_before mode o.error o.values
+
+-- The truth that a value is: null is unknown.
+abbrev pub truth_in : Tree → Option Truth
+truth_in (boolean b) = Some (truth_of b)
+truth_in null = Some Unknown
+truth_in t = None
+
+-- The truth of a list of one value.
+abbrev pub lone_truth : List Tree → Option Truth
+lone_truth [] = None
+lone_truth (t ∷ []) = truth_in t
+lone_truth (t ∷ u ∷ us) = None
+
+abbrev match_before : Option PathError → Option Truth → Result Truth PathError
+match_before (Some e) found = Err e
+match_before None (Some truth) = Ok truth
+match_before None None = Err errors.BooleanRequired
+
+-- The truth that is the one value, or the error by which there is none.
+abbrev pub match_in : Outcome → Result Truth PathError
+match_in o = match_before o.error (lone_truth o.values)
+
+-- A silent call hides all errors but that of a variable that is not given.
+abbrev pub is_hidden : PathError → Bool
+is_hidden errors.UndefinedVariable = false
+is_hidden e = true
 
 -- ---- the whole
 

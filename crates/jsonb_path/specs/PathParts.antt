@@ -1,6 +1,6 @@
 -- Which parts make a path: each names parts before it, tests and expressions where they are wanted.
 use Rattle.std.specs.Prelude.{ℕ, ◌∷◌, ◌++◌, ◌&&◌, Bool, true, false, nat_lt, length, List, []}
-use Rattle.std.specs.Prelude.{Option, None, Some, if◌then◌else◌, slice_get}
+use Rattle.std.specs.Prelude.{Option, None, Some, slice_get}
 use Rattle.std.specs.List.{list_all}
 use Rattle.jsonb_path.specs.declared.path.Accessor.{Accessor}
 use Rattle.jsonb_path.specs.declared.path.Accessor.TheVariants as accessors
@@ -93,7 +93,3 @@ is_some_part (p ∷ ps) = true
 -- There are parts, and each names parts before it.
 abbrev pub are_parts : List Part → Bool
 are_parts ps = are_parts_after [] ps && is_some_part ps
-
--- The path of these parts, if they make one.
-abbrev pub made_of : Mode → List Part → Option PathParts
-made_of mode ps = if are_parts ps then Some (record { mode = mode; parts = ps }) else None

@@ -1,6 +1,6 @@
 //! Members and items of a value.
 
-ghost use Rattle.std.specs.Prelude.{◌≡◌, map, option_map};
+ghost use Rattle.std.specs.Prelude.{◌≡◌, IfOk, map, option_map};
 ghost use Rattle.std.specs.Iterator.{YieldsFirstBy};
 ghost use Rattle.jsonb.specs.EntryTrees.{rest_pairs};
 ghost use Rattle.jsonb.specs.Node.{member_tree, node_tree, value_of_key};
@@ -12,6 +12,7 @@ use crate::outcome::{WalkError, append};
 use crate::path::PathError;
 use crate::place::{Place, Units};
 use jsonb::{Members, Node};
+use std::alloc::{AllocError, Global};
 
 // Appends the value of the member of this name: in lax of each item of an array.
 #[tactic(auto, using(crate::proofs::FoundLaws::walks))]
@@ -75,6 +76,18 @@ pub(crate) fn append_units<'a>(units: Units<'a>, found: &mut Vec<Node<'a>>) -> R
     Ok(())
 }
 
+// Values that are still to be asked, as a list.
+#[tactic(auto, using(crate::proofs::FoundLaws::listed_are))]
+pub(crate) fn listed<'a>(alloc: Global, units: Units<'a>) -> Result<Vec<Node<'a>>, AllocError>
+    ensures { IfOk result (λ items. map node_tree items.items ≡ left_of units.entry) }
+{
+    let mut items = Vec::new(alloc);
+    match append_units(units, &mut items) {
+        Ok(()) => Ok(items),
+        Err(_) => Err(AllocError),
+    }
+}
+
 // Appends the value of the member of this name.
 #[tactic(auto, using(crate::proofs::FoundLaws::named_values))]
 fn append_member<'a>(
@@ -93,7 +106,7 @@ fn append_member<'a>(
 }
 
 // The value of the member of this name. `None` if there is none, or the value is no object.
-fn value_named<'a>(name: &str, node: Node<'a>) -> Option<Node<'a>>
+pub(crate) fn value_named<'a>(name: &str, node: Node<'a>) -> Option<Node<'a>>
     ensures { option_map node_tree result ≡ value_of_key name.now (node_tree node.entry) }
 {
     match node {

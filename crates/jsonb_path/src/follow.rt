@@ -1,28 +1,32 @@
 //! A path, followed part by part.
 #![tactic(auto, using(crate::proofs::FollowLaws::parts_before_it))]
 
-ghost use Rattle.std.specs.Prelude.{◌≡◌, ◌<◌, [], IfOk, IsTrue, None, length, map};
+ghost use Rattle.std.specs.Prelude.{◌≡◌, ◌<◌, [], IfOk, IfSome, IsTrue, None, length, map};
+ghost use Rattle.std.specs.Prelude.{Some, option_map, option_to_list};
 ghost use Rattle.std.specs.List.{list_all};
 ghost use Rattle.jsonb.specs.Node.{node_tree};
-ghost use Rattle.jsonb_path.specs.Found.{Finds, filtered_by, outcome_of, place_of, selected_in};
-ghost use Rattle.jsonb_path.specs.Meaning.{access, along, begin, each, follow, items_of};
-ghost use Rattle.jsonb_path.specs.Meaning.{judge, through};
-ghost use Rattle.jsonb_path.specs.PathParts.{are_parts_after, is_accessor, is_part};
+ghost use Rattle.jsonb_path.specs.Found.{Finds, filtered_by, left_of, outcome_of, place_of};
+ghost use Rattle.jsonb_path.specs.Found.{selected_in};
+ghost use Rattle.jsonb_path.specs.Meaning.{access, along, begin, each, follow};
+ghost use Rattle.jsonb_path.specs.Meaning.{gives, in_lax_unwrapped, judge, through};
+ghost use Rattle.jsonb_path.specs.PathParts.{are_parts_after, is_accessor, is_expression};
+ghost use Rattle.jsonb_path.specs.PathParts.{is_part};
 ghost use Rattle.jsonb_path.specs.PathParts.{is_source, is_subscript, is_test, is_test_part};
 ghost use Rattle.jsonb_path.specs.PathTree.{accessor_of, accessors_of, as_expression};
 ghost use Rattle.jsonb_path.specs.PathTree.{expression_at, node_of, nodes_of, predicate_of};
 ghost use Rattle.jsonb_path.specs.PathTree.{primary_of, subscript_onto, subscripts_of, test_at};
 ghost use Rattle.jsonb_path.specs.Syntax as syntax;
 
-use crate::ask::{append_all_members, append_items, append_named};
-use crate::choose::{append_between, index_in};
-use crate::compare::Truth;
+use crate::ask::{append_all_members, append_items, append_named, listed};
+use crate::choose::{append_between, append_range, index_in};
+use crate::compare::{Comparison, Truth};
 use crate::compute::{compute, unwrapped, with_sign};
 use crate::descend::append_descendants;
+use crate::direct::{along_members, direct, is_unwrapped, value_of};
 use crate::given::given_as;
 use crate::method::append_called;
 use crate::outcome::{Outcome, WalkError, append};
-use crate::pairs::{Check, exists_in, some_pair};
+use crate::pairs::{Check, compare_direct, some_pair};
 use crate::path::{Accessor, Part, PathError, Source, Subscript, Test};
 use crate::place::{Place, Units};
 use crate::value::{last_node, literal_node, truth_node};
@@ -59,10 +63,17 @@ fn follow<'a>(
         ≡ follow (place_of place.now) (as_expression (node_of (nodes_of parts.now) part.now))) }
 {
     match part {
-        Part::Chain(source, accessors) => {
-            let start = begin(alloc, place, parts, source)?;
-            along(alloc, place, parts, accessors, start)
-        }
+        Part::Chain(source, accessors) => match value_of(place, source) {
+            Some(value) => {
+                let ahead = along_members(value, accessors);
+                let start = Outcome::one(alloc, ahead.node)?;
+                along(alloc, place, parts, ahead.left, start)
+            }
+            None => {
+                let start = begin(alloc, place, parts, source)?;
+                along(alloc, place, parts, accessors, start)
+            }
+        },
         Part::Sign(sign, operand) => {
             let outcome = follow_at(alloc, place, parts, *operand)?;
             with_sign(alloc, place.mode, *sign, outcome)
@@ -77,6 +88,16 @@ fn follow<'a>(
             Outcome::one(alloc, truth_node(truth))
         }
     }
+}
+
+// What the part of this index gives, as `direct` says it.
+fn direct_at<'a>(place: &Place<'a>, parts: &'a [Part], at: usize) -> Option<Option<Node<'a>>>
+    requires place { at < length parts.now }
+    ensures { IfSome result (λ found. in_lax_unwrapped place.now.mode
+        (follow (place_of place.now) (expression_at (nodes_of parts.now) at))
+        ≡ gives (option_to_list (option_map node_tree found))) }
+{
+    direct(place, &parts[at])
 }
 
 // What a chain begins with.
@@ -201,6 +222,7 @@ fn access<'a>(
 
 // Appends the values for which a test holds: in lax of the items of an array.
 #[cycle(follow)]
+#[tactic(auto, using(crate::proofs::FollowLaws::parts_before_it, crate::proofs::DirectLaws::filter_finds))]
 fn filter<'a>(
     alloc: Global,
     place: &Place<'a>,
@@ -214,6 +236,9 @@ fn filter<'a>(
     ensures { Finds found.old.items found.new.items result (access (place_of place.now)
         (syntax.filter (test_at (nodes_of parts.now) test)) (node_tree node.entry)) }
 {
+    if !is_unwrapped(place.mode, node) {
+        return append_if(alloc, place, parts, test, node, found);
+    }
     let mut units = Units::unwrapped(place.mode, node);
     while let Some(unit) = units.next_unit() {
         append_if(alloc, place, parts, test, unit, found)?;
@@ -269,31 +294,64 @@ fn select<'a>(
         count: items.len(),
         ..*place
     };
-    append_selected(alloc, &place, parts, subscripts, node, found)
+    match subscripts {
+        [subscript] => append_chosen(alloc, &place, parts, *subscript, items, found),
+        _ => {
+            let items = listed(alloc, items)?;
+            append_selected(alloc, &place, parts, subscripts, &items, found)
+        }
+    }
 }
 
-// Appends the items that subscripts name, of the value that they are asked of.
+// Appends the items of a list that subscripts name.
 #[cycle(follow)]
 fn append_selected<'a>(
     alloc: Global,
     place: &Place<'a>,
     parts: &'a [Part],
     subscripts: &'a [Subscript],
-    node: Node<'a>,
+    items: &[Node<'a>],
     found: &mut Vec<Node<'a>>,
 ) -> Result<(), WalkError>
     requires parts { IsTrue (are_parts_after [] parts.now) }
     requires subscripts { IsTrue (list_all (is_subscript parts.now) subscripts.now) }
     ensures { Finds found.old.items found.new.items result
         (selected_in (place_of place.now) (subscripts_of (nodes_of parts.now) subscripts.now)
-        (items_of place.now.mode (node_tree node.entry))) }
+        (Some (map node_tree items.now))) }
 {
     let mut left = subscripts;
     while let [subscript, rest @ ..] = left {
-        append_chosen(alloc, place, parts, *subscript, node, found)?;
+        append_named_in(alloc, place, parts, *subscript, items, found)?;
         left = rest;
     }
     Ok(())
+}
+
+// Appends the items of a list that one subscript names.
+#[cycle(follow)]
+fn append_named_in<'a>(
+    alloc: Global,
+    place: &Place<'a>,
+    parts: &'a [Part],
+    subscript: Subscript,
+    items: &[Node<'a>],
+    found: &mut Vec<Node<'a>>,
+) -> Result<(), WalkError>
+    requires parts { IsTrue (are_parts_after [] parts.now) }
+    requires subscript { IsTrue (is_subscript parts.now subscript) }
+    ensures { Finds found.old.items found.new.items result
+        (selected_in (place_of place.now) (subscript_onto (nodes_of parts.now) subscript.first
+        subscript.last syntax.no_subscripts) (Some (map node_tree items.now))) }
+{
+    let outcome = follow_at(alloc, place, parts, subscript.first)?;
+    let first = index_in(&outcome);
+    match subscript.last {
+        Some(last) => {
+            let outcome = follow_at(alloc, place, parts, last)?;
+            append_range(place.forgives, first, index_in(&outcome), items, found)
+        }
+        None => append_range(place.forgives, first, first, items, found),
+    }
 }
 
 // Appends the items that one subscript names.
@@ -303,18 +361,15 @@ fn append_chosen<'a>(
     place: &Place<'a>,
     parts: &'a [Part],
     subscript: Subscript,
-    node: Node<'a>,
+    items: Units<'a>,
     found: &mut Vec<Node<'a>>,
 ) -> Result<(), WalkError>
     requires parts { IsTrue (are_parts_after [] parts.now) }
     requires subscript { IsTrue (is_subscript parts.now subscript) }
     ensures { Finds found.old.items found.new.items result
         (selected_in (place_of place.now) (subscript_onto (nodes_of parts.now) subscript.first
-        subscript.last syntax.no_subscripts) (items_of place.now.mode (node_tree node.entry))) }
+        subscript.last syntax.no_subscripts) (Some (left_of items.entry))) }
 {
-    let Some(items) = Units::items_of(place.mode, node) else {
-        return Ok(());
-    };
     let outcome = follow_at(alloc, place, parts, subscript.first)?;
     let first = index_in(&outcome);
     match subscript.last {
@@ -378,12 +433,7 @@ fn judge<'a>(
             Ok(truth.is_unknown())
         }
         Test::Compare(comparison, left, right) => {
-            let left = follow_at(alloc, place, parts, *left)?;
-            let right = follow_at(alloc, place, parts, *right)?;
-            let left = unwrapped(alloc, place.mode, left)?;
-            let right = unwrapped(alloc, place.mode, right)?;
-            let check = Check::Compare(*comparison);
-            Ok(some_pair(place.mode, check, &left, &right))
+            compare_at(alloc, place, parts, *comparison, *left, *right)
         }
         Test::StartsWith(left, prefix) => {
             let left = follow_at(alloc, place, parts, *left)?;
@@ -393,7 +443,39 @@ fn judge<'a>(
         }
         Test::Exists(operand) => {
             let outcome = follow_at(alloc, place, parts, *operand)?;
-            Ok(exists_in(place.mode, &outcome))
+            Ok(outcome.exists(place.mode))
+        }
+    }
+}
+
+// Whether what two parts give compares so.
+#[cycle(follow)]
+fn compare_at<'a>(
+    alloc: Global,
+    place: &Place<'a>,
+    parts: &'a [Part],
+    comparison: Comparison,
+    left: usize,
+    right: usize,
+) -> Result<Truth, AllocError>
+    requires parts { IsTrue (are_parts_after [] parts.now) }
+    requires left { IsTrue (is_expression parts.now left) }
+    requires right { IsTrue (is_expression parts.now right) }
+    ensures { IfOk result (λ t. t ≡ judge (place_of place.now) (syntax.comparison comparison
+        (expression_at (nodes_of parts.now) left) (expression_at (nodes_of parts.now) right))) }
+{
+    match (
+        direct_at(place, parts, left),
+        direct_at(place, parts, right),
+    ) {
+        (Some(left), Some(right)) => Ok(compare_direct(comparison, left, right)),
+        _ => {
+            let left = follow_at(alloc, place, parts, left)?;
+            let right = follow_at(alloc, place, parts, right)?;
+            let left = unwrapped(alloc, place.mode, left)?;
+            let right = unwrapped(alloc, place.mode, right)?;
+            let check = Check::Compare(comparison);
+            Ok(some_pair(place.mode, check, &left, &right))
         }
     }
 }

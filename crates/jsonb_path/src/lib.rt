@@ -6,9 +6,12 @@ mod choose;
 pub mod compare;
 mod compute;
 mod descend;
+mod direct;
 mod examples;
 mod follow;
 mod given;
+mod height;
+pub mod hint;
 mod method;
 pub mod number;
 mod outcome;
@@ -18,10 +21,12 @@ mod place;
 mod print;
 mod query;
 mod read;
+mod steps;
 pub mod token;
 mod value;
 
 pub use compare::{Comparison, Scalar, Truth};
+pub use hint::{Hint, Report};
 pub use number::NumberError;
 pub use outcome::Outcome;
 pub use path::{
@@ -29,3 +34,4 @@ pub use path::{
     Subscript, Test,
 };
 pub use read::{Expected, LeftOut};
+pub use steps::steps_of;

@@ -1,12 +1,14 @@
 //! What a path gives.
 
-ghost use Rattle.std.specs.Prelude.{◌≡◌, [], ◌∷◌, IfOk};
+ghost use Rattle.std.specs.Prelude.{◌≡◌, [], ◌∷◌, IfOk, map};
 ghost use Rattle.jsonb.specs.Node.{node_tree};
 ghost use Rattle.jsonb_path.specs.Found.{Finds, ended, outcome_of};
 ghost use Rattle.jsonb_path.specs.Meaning as meaning;
-ghost use Rattle.jsonb_path.specs.Meaning.{fails, gives, joined};
+ghost use Rattle.jsonb_path.specs.Meaning.{exists_in, fails, gives, joined, lone_truth, match_in};
 
-use crate::path::PathError;
+use crate::compare::Truth;
+use crate::path::{Mode, PathError};
+use crate::value::truth_in;
 use jsonb::Node;
 use std::alloc::{AllocError, Global};
 
@@ -18,6 +20,43 @@ pub struct Outcome<'a> {
 }
 
 impl<'a> Outcome<'a> {
+    /// Whether there is a value, as `Path::exists` says it of a path of this mode: `Unknown` if
+    /// there is an error, unless the mode is lax and a value comes before it.
+    pub fn exists(&self, mode: Mode) -> Truth
+        ensures { result ≡ exists_in mode (outcome_of self.now) }
+    {
+        match (mode, self.error, self.values.as_slice()) {
+            (_, None, []) => Truth::False,
+            (_, None, [_, ..]) => Truth::True,
+            (_, Some(_), []) => Truth::Unknown,
+            (Mode::Lax, Some(_), [_, ..]) => Truth::True,
+            (Mode::Strict, Some(_), [_, ..]) => Truth::Unknown,
+        }
+    }
+
+    /// The truth that is the one value, as `Path::matches` says it: `Unknown` is null. The error if
+    /// there is one, and `BooleanRequired` if there is another number of values or another value.
+    pub fn matches(&self) -> Result<Truth, PathError>
+        ensures { result ≡ match_in (outcome_of self.now) }
+    {
+        match (self.error, self.truth()) {
+            (Some(error), _) => Err(error),
+            (None, Some(truth)) => Ok(truth),
+            (None, None) => Err(PathError::BooleanRequired),
+        }
+    }
+
+    /// The truth that is the one value, also before an error: `Unknown` is null. `None` if there is
+    /// another number of values or another value. So a silent match is this or unknown.
+    pub fn truth(&self) -> Option<Truth>
+        ensures { result ≡ lone_truth (map node_tree self.now.values.items) }
+    {
+        match self.values.as_slice() {
+            [value] => truth_in(*value),
+            _ => None,
+        }
+    }
+
     // This value alone.
     pub(crate) fn one(alloc: Global, value: Node<'a>) -> Result<Outcome<'a>, AllocError>
         ensures { IfOk result (λ o. outcome_of o ≡ gives (node_tree value.entry ∷ [])) }

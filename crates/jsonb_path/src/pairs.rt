@@ -1,10 +1,10 @@
 //! Tests over what expressions give.
 
-ghost use Rattle.std.specs.Prelude.{◌≡◌, map};
+ghost use Rattle.std.specs.Prelude.{◌≡◌, map, option_map, option_to_list};
 ghost use Rattle.jsonb.specs.Node.{node_tree};
 ghost use Rattle.jsonb_path.specs.Comparison.{comparand};
 ghost use Rattle.jsonb_path.specs.Found.{checked, checked_as, either_in, outcome_of, settles};
-ghost use Rattle.jsonb_path.specs.Meaning.{exists_in, row, some_pair, some_passes, table};
+ghost use Rattle.jsonb_path.specs.Meaning.{gives, row, some_pair, some_passes, table};
 
 use crate::compare::{Comparison, Scalar, Truth, compare, starts_with};
 use crate::outcome::Outcome;
@@ -26,6 +26,23 @@ impl Check {
             Check::Compare(comparison) => compare(comparison, left, right),
             Check::StartsWith => starts_with(left, right),
         }
+    }
+}
+
+// Whether two values compare so, of which each may be missing.
+#[tactic(auto, using(crate::proofs::DirectLaws::lone_pairs))]
+pub(crate) fn compare_direct(
+    comparison: Comparison,
+    left: Option<Node<'_>>,
+    right: Option<Node<'_>>,
+) -> Truth
+    ensures { (mode : Mode) → result ≡ some_pair mode (checked (Check.Compare comparison))
+        (gives (option_to_list (option_map node_tree left.entry)))
+        (gives (option_to_list (option_map node_tree right.entry))) }
+{
+    match (left, right) {
+        (Some(left), Some(right)) => compare(comparison, Scalar::of(left), Scalar::of(right)),
+        _ => Truth::False,
     }
 }
 
@@ -95,18 +112,5 @@ fn settles(mode: Mode, truth: Truth) -> bool
     match mode {
         Mode::Lax => matches!(truth, Truth::True),
         Mode::Strict => matches!(truth, Truth::Unknown),
-    }
-}
-
-// Whether there is a value: in lax also one before an error.
-pub(crate) fn exists_in(mode: Mode, outcome: &Outcome<'_>) -> Truth
-    ensures { result ≡ exists_in mode (outcome_of outcome.now) }
-{
-    match (mode, outcome.error, outcome.values.as_slice()) {
-        (_, None, []) => Truth::False,
-        (_, None, [_, ..]) => Truth::True,
-        (_, Some(_), []) => Truth::Unknown,
-        (Mode::Lax, Some(_), [_, ..]) => Truth::True,
-        (Mode::Strict, Some(_), [_, ..]) => Truth::Unknown,
     }
 }

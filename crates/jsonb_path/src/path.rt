@@ -1,15 +1,18 @@
 //! A path, read: what it asks.
 
-ghost use Rattle.std.specs.Prelude.{◌≡◌, [], IfOk, IsTrue, chars};
+ghost use Rattle.std.specs.Prelude.{◌≡◌, [], IfOk, IsTrue, chars, option_map};
 ghost use Rattle.std.specs.List.{list_all};
-ghost use Rattle.jsonb_path.specs.Meaning.{operated, signed_as};
-ghost use Rattle.jsonb_path.specs.Grammar.{path_of_text};
+ghost use Rattle.jsonb_path.specs.Meaning.{is_hidden, operated, signed_as};
+ghost use Rattle.jsonb_path.specs.Grammar.{path_of_text, query_if_low};
+ghost use Rattle.jsonb_path.specs.Height.{is_low, made_of};
 ghost use Rattle.jsonb_path.specs.PathParts.{are_parts, are_parts_after, is_accessor, is_expression, is_part};
-ghost use Rattle.jsonb_path.specs.PathParts.{is_prefix, is_source, is_subscript, is_test, made_of};
+ghost use Rattle.jsonb_path.specs.PathParts.{is_prefix, is_source, is_subscript, is_test};
 ghost use Rattle.jsonb_path.specs.PathTree.{as_expression, node_of, nodes_of, query_of};
+ghost use Rattle.jsonb_path.specs.PathTree.{tree_of_parts};
 ghost use Rattle.jsonb_path.specs.Unread.{ParsesText};
 
 use crate::compare::Comparison;
+use crate::height::is_low;
 use crate::number::{NumberError, add, multiply, negate, remainder, subtract};
 use crate::read::read_path;
 use crate::token::ReadError;
@@ -34,51 +37,66 @@ pub struct Path {
 
 impl Model for Path {
     ghost use Rattle.std.specs.Prelude.{IsTrue};
+    ghost use Rattle.jsonb_path.specs.Height.{is_low};
     ghost use Rattle.jsonb_path.specs.PathParts.{PathParts, are_parts};
+    ghost use Rattle.jsonb_path.specs.PathTree.{tree_of_parts};
 
     ghost Value = { PathParts };
 
     ghost view = { λ s. record { mode = s.mode; parts = s.parts.items } };
 
-    ghost invariant = { λ s. IsTrue (are_parts s.parts.items) };
+    ghost invariant = { λ s. record {
+      earlier : IsTrue (are_parts s.parts.items);
+      low : IsTrue (is_low (tree_of_parts s.parts.items));
+    } };
 }
 
 impl Path {
-    /// The path of these parts. `None` if there is none, or one of them names a part that is not
-    /// before it, an expression where a test is wanted, or a test where an expression is.
+    /// The path of these parts. `None` if there is none, one of them names a part that is not
+    /// before it, an expression where a test is wanted, or a test where an expression is, or they
+    /// name each other in more than 400 levels from the last one. A part that is named twice is
+    /// walked twice.
     pub fn new(mode: Mode, parts: Vec<Part>) -> Option<Path>
         ensures { result ≡ made_of mode parts.items }
     {
-        if are_parts(&parts) {
+        if are_parts(&parts) && is_low(&parts) {
             Some(Path { mode, parts })
         } else {
             None
         }
     }
 
-    /// The path of a text, as PostgreSQL reads a `jsonpath`: `Refused` if the text is none, or its
-    /// parentheses, filters, subscripts and signs nest in more than 256 levels; `OutOfMemory` if an
-    /// allocation fails. Left out are `/`, `like_regex`, `.double()`, `.datetime()`, and numbers
-    /// past 128 bits or a scale of 255.
+    /// The path of a text, as PostgreSQL reads a `jsonpath`: `Refused` if the text is none, its
+    /// parentheses, filters, subscripts and signs nest in more than 64 levels, or its operators and
+    /// they in more than 400; `OutOfMemory` if an allocation fails. Left out are `/`, `like_regex`,
+    /// `.double()`, `.datetime()`, and numbers past 128 bits or a scale of 255.
     pub fn of_text(alloc: Global, text: &str) -> Result<Path, ReadError>
         ensures { ParsesText (λ path. query_of path) result (path_of_text (chars text.now)) }
     {
         read_path(alloc, text)
     }
 
-    // The path of these parts and a last one.
+    // The path of these parts and a last one, unless it is too high.
     #[tactic(auto, using(crate::proofs::WholePathLaws::paths))]
-    pub(crate) fn of_parts(mode: Mode, parts: Vec<Part>, last: Part) -> Result<Path, AllocError>
+    pub(crate) fn of_parts(
+        mode: Mode,
+        parts: Vec<Part>,
+        last: Part,
+    ) -> Result<Option<Path>, AllocError>
         requires parts { IsTrue (are_parts_after [] parts.items) }
         requires last { IsTrue (is_part parts.items last) }
-        ensures { IfOk result (λ path. query_of path ≡ record {
+        ensures { IfOk result (λ path. option_map query_of path ≡ query_if_low (record {
           mode = mode;
           tree = as_expression (node_of (nodes_of parts.items) last);
-        }) }
+        })) }
     {
         let mut parts = parts;
         parts.push(last)?;
-        Ok(Path { mode, parts })
+        if is_low(&parts) {
+            Ok(Some(Path { mode, parts }))
+        } else {
+            Ok(None)
+        }
     }
 
     /// Whether the path passes over what is not there.
@@ -92,6 +110,7 @@ impl Path {
     pub fn parts(&self) -> &[Part]
         ensures parts { result.now ≡ self.now.parts }
         ensures earlier { IsTrue (are_parts result.now) }
+        ensures low { IsTrue (is_low (tree_of_parts result.now)) }
     {
         &self.parts
     }
@@ -250,6 +269,17 @@ pub enum PathError {
     OutOfRange,
     /// A variable that is not given.
     UndefinedVariable,
+    /// What is no single boolean or null, where a truth is wanted.
+    BooleanRequired,
+}
+
+impl PathError {
+    /// Whether PostgreSQL's silent calls hide the error: all but `UndefinedVariable`.
+    pub fn is_hidden(self) -> bool
+        ensures { result ≡ is_hidden self }
+    {
+        !matches!(self, PathError::UndefinedVariable)
+    }
 }
 
 // Whether there are parts, of which each names parts before it, tests where they are wanted and

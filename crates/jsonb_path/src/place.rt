@@ -105,7 +105,7 @@ impl<'a> Units<'a> {
 }
 
 // The items of an array. `None` of any other value.
-fn items_in<'a>(node: Node<'a>) -> Option<Items<'a>>
+pub(crate) fn items_in<'a>(node: Node<'a>) -> Option<Items<'a>>
     ensures { option_map rest_trees result ≡ nodes.items_of (node_tree node.entry) }
 {
     match node {

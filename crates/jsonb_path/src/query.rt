@@ -3,7 +3,7 @@
 ghost use Rattle.std.specs.Prelude.{◌≡◌, IfOk, IsTrue, map};
 ghost use Rattle.jsonb.specs.Node.{member_tree, node_tree};
 ghost use Rattle.jsonb_path.specs.Found.{outcome_of};
-ghost use Rattle.jsonb_path.specs.Meaning.{exists_in, is_lax};
+ghost use Rattle.jsonb_path.specs.Meaning.{exists_in, is_lax, match_in};
 ghost use Rattle.jsonb_path.specs.PathParts.{are_parts};
 ghost use Rattle.jsonb_path.specs.PathTree.{path_means};
 
@@ -14,7 +14,6 @@ use crate::compare::Truth;
 use crate::follow::follow_at;
 use crate::given::given_at;
 use crate::outcome::Outcome;
-use crate::pairs::exists_in;
 use crate::path::{Mode, Part, Path, PathError};
 use crate::place::Place;
 use jsonb::{Document, Error, Node};
@@ -64,7 +63,25 @@ impl Path {
         ensures memory { IfErr result (λ e. e ≡ Error.OutOfMemory) }
     {
         let outcome = self.query(alloc, document, variables)?;
-        Ok(exists_in(self.mode(), &outcome))
+        Ok(outcome.exists(self.mode()))
+    }
+
+    /// The truth that the path gives of a document, as PostgreSQL's `jsonb_path_match`: its one
+    /// value, `Unknown` for null. The error by which the path is given up, if there is one, and
+    /// `BooleanRequired` if there is another number of values or another value. `OutOfMemory` is
+    /// the only error of the call.
+    pub fn matches<'a>(
+        &'a self,
+        alloc: Global,
+        document: Document<'a>,
+        variables: &'a [(&'a str, Node<'a>)],
+    ) -> Result<Result<Truth, PathError>, Error>
+        ensures ok { IfOk result (λ answer. answer ≡ match_in (path_means self.now
+            (map member_tree variables.now) (document_tree document.entry))) }
+        ensures memory { IfErr result (λ e. e ≡ Error.OutOfMemory) }
+    {
+        let outcome = self.query(alloc, document, variables)?;
+        Ok(outcome.matches())
     }
 }
 

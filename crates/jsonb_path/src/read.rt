@@ -9,6 +9,7 @@ ghost use Rattle.jsonb_path.specs.Unread.{Parses, ParsesText, Refuses, Rejects};
 
 mod dotted;
 mod grammar;
+mod high;
 mod infix;
 mod literal;
 mod operand;
@@ -19,13 +20,20 @@ mod tests;
 use crate::path::{Mode, Path};
 use crate::token::{Found, PathFault, PlacedToken, ReadError, Reason, tokens};
 use grammar::{LOOSEST, read_ranked};
+use high::too_high;
 use literal::Scope;
 pub use scan::{Expected, LeftOut};
 use scan::{Refusal, Unread, after_word, unexpected};
 use std::alloc::Global;
 
 // How many levels of parentheses, filters, subscripts and signs a path may have.
-const DEPTH: usize = 256;
+const DEPTH: usize = 64;
+
+// Where a path stands.
+const TOP: Scope = Scope {
+    in_filter: false,
+    in_subscript: false,
+};
 
 /// The path of a text.
 #[tactic(auto, using(crate::proofs::WholePathLaws::paths))]
@@ -45,16 +53,14 @@ fn read_tokens(alloc: Global, tokens: &[PlacedToken]) -> Result<Path, Unread>
     ensures { Parses (λ path. query_of path) result (path_of_lexemes (lexemes tokens.now)) }
 {
     let (mode, begun) = mode_front(tokens);
-    let scope = Scope {
-        in_filter: false,
-        in_subscript: false,
-    };
     let mut parts = Vec::new(alloc);
-    let (part, rest) = read_ranked(alloc, &mut parts, DEPTH, scope, LOOSEST, begun)?;
+    let (part, rest) = read_ranked(alloc, &mut parts, DEPTH, TOP, LOOSEST, begun)?;
     match rest {
         [] => {
-            let path = Path::of_parts(mode, parts, part)?;
-            Ok(path)
+            match Path::of_parts(mode, parts, part)? {
+                Some(path) => Ok(path),
+                None => Err(too_high(alloc, begun)),
+            }
         }
         [_, ..] => Err(unexpected(rest, Expected::End)),
     }

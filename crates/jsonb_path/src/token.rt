@@ -60,7 +60,7 @@ pub enum Reason {
     Expected(Expected, Found),
     /// What is known to PostgreSQL, and not read here.
     LeftOut(LeftOut),
-    /// More than 256 levels of parentheses, filters, subscripts and signs.
+    /// More than 64 levels of parentheses, filters, subscripts and signs, or 400 with operators.
     TooDeep,
 }
 

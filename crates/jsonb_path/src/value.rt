@@ -5,7 +5,8 @@ ghost use Rattle.jsonb.specs.Node.{HoldsNoScalar, node_tree};
 ghost use Rattle.jsonb_value.specs.ExtCode.{extension_of};
 ghost use Rattle.jsonb_value.specs.Tree as trees;
 ghost use Rattle.jsonb_path.specs.Found.{number_in};
-ghost use Rattle.jsonb_path.specs.Meaning.{extension_name, index_number, truth_value, type_name};
+ghost use Rattle.jsonb_path.specs.Meaning.{extension_name, index_number, truth_in, truth_value};
+ghost use Rattle.jsonb_path.specs.Meaning.{type_name};
 ghost use Rattle.jsonb_path.specs.PathTree.{literal_tree};
 
 use crate::compare::Truth;
@@ -40,6 +41,17 @@ fn number_in_opened(node: Node<'_>) -> Option<Number>
 {
     match node {
         Node::Number(item) => Some(item.as_number()),
+        _ => None,
+    }
+}
+
+// The truth that a value is: null is unknown.
+pub(crate) fn truth_in(node: Node<'_>) -> Option<Truth>
+    ensures { result ≡ truth_in (node_tree node.entry) }
+{
+    match opened(node) {
+        Node::Boolean(value) => Some(Truth::of(value)),
+        Node::Null => Some(Truth::Unknown),
         _ => None,
     }
 }

@@ -1,5 +1,6 @@
 //! Values that paths give, as PostgreSQL answered.
 
+use crate::compare::Truth;
 use crate::path::{Path, PathError};
 use crate::token::ReadError;
 use jsonb::{Document, Exponents, encode_text};
@@ -84,6 +85,19 @@ fn examples(rt: HostRuntime) -> Result<(), Fail> {
         ),
         ("[1, 2, 3]", "lax $[2, 0, 0 to 1]", "3 1 1 2 ", None),
         ("[1, 2, 3]", "lax $[1.9, -0.9]", "2 1 ", None),
+        (
+            "[1, 2, 3]",
+            "lax $[0 to 1, 5, -1 to 0, last, 2 to 9, 2 to 1]",
+            "1 2 1 3 3 ",
+            None,
+        ),
+        (
+            "[1, 2, 3]",
+            "strict $[0, 3, 1]",
+            "1 ",
+            Some(PathError::InvalidSubscript),
+        ),
+        ("7", "lax $[0, 0 to 2, 1]", "7 7 ", None),
         ("[1, 2, 3]", "lax $[-1]", "", None),
         (
             "[1, 2, 3]",
@@ -163,6 +177,28 @@ fn examples(rt: HostRuntime) -> Result<(), Fail> {
             "",
             Some(PathError::UndefinedVariable),
         ),
+        (
+            "{\"a\": [{\"x\": [1, 3]}, {\"x\": 2}, {}]}",
+            "lax $.a[*] ? (@.x > 2)",
+            "{\"x\":[1,3]} ",
+            None,
+        ),
+        (
+            "{\"a\": [{\"x\": 2}, {\"x\": 1}], \"b\": {\"c\": 1}}",
+            "lax $.a ? (@.x == $.b.c)",
+            "{\"x\":1} ",
+            None,
+        ),
+        (
+            "[{\"x\": 1}, {}]",
+            "strict $[*] ? (@.x != 2)",
+            "{\"x\":1} ",
+            None,
+        ),
+        ("{}", "lax $.b.c != 1", "false ", None),
+        ("{}", "strict $.b.c != 1", "null ", None),
+        ("[[1]]", "lax $[0] == 1", "true ", None),
+        ("[[1]]", "strict $[0] == 1", "null ", None),
         ("[\"a\", 1]", "lax $ == 1", "true ", None),
         ("[\"a\", 1]", "strict $[*] == 1", "null ", None),
         ("[\"a\", 2]", "lax $ == 1", "null ", None),
@@ -222,6 +258,87 @@ fn examples(rt: HostRuntime) -> Result<(), Fail> {
     ];
     for (document, path, expected, error) in rows {
         gives(&rt, alloc, document, path, expected, error)?;
+    }
+    Ok(())
+}
+
+// Whether a path matches a document so, as its outcome says it too.
+fn matches_as(
+    rt: &impl Abort,
+    alloc: Global,
+    document: &str,
+    text: &str,
+    expected: Result<Truth, PathError>,
+) -> Result<(), Fail> {
+    let bytes = encode_text(alloc, document, Exponents::Allowed)?;
+    let Some(value) = Document::new(&bytes) else {
+        assert!(rt; false, "{document}");
+        return Ok(());
+    };
+    let path = match Path::of_text(alloc, text) {
+        Ok(path) => path,
+        Err(ReadError::OutOfMemory) => Err(ReadError::OutOfMemory)?,
+        Err(ReadError::Refused(_)) => {
+            assert!(rt; false, "{text}");
+            return Ok(());
+        }
+    };
+    let answer = path.matches(alloc, value, &[])?;
+    assert!(rt; answer == expected, "{text} of {document}");
+    let outcome = path.query(alloc, value, &[])?;
+    assert!(rt; outcome.matches() == expected, "{text} of {document}");
+    Ok(())
+}
+
+// What a silent call says where an error comes after the value, and which errors it hides.
+#[test]
+fn silent_matches(rt: HostRuntime) -> Result<(), Fail> {
+    let alloc = rt.alloc();
+    let bytes = encode_text(alloc, "[{\"b\": true}, {}]", Exponents::Allowed)?;
+    let Some(value) = Document::new(&bytes) else {
+        assert!(rt; false);
+        return Ok(());
+    };
+    let path = Path::of_text(alloc, "strict $[*].b")?;
+    let outcome = path.query(alloc, value, &[])?;
+    assert!(rt; outcome.truth() == Some(Truth::True));
+    assert!(rt; outcome.exists(path.mode()) == Truth::Unknown);
+    assert!(rt; PathError::MemberNotFound.is_hidden());
+    assert!(rt; PathError::BooleanRequired.is_hidden());
+    assert!(rt; !PathError::UndefinedVariable.is_hidden());
+    Ok(())
+}
+
+#[test]
+fn matches_of_paths(rt: HostRuntime) -> Result<(), Fail> {
+    let alloc = rt.alloc();
+    let refused = Err(PathError::BooleanRequired);
+    let rows = [
+        ("{\"a\": 1}", "lax $.a == 1", Ok(Truth::True)),
+        ("{\"a\": 1}", "lax $.a > 1", Ok(Truth::False)),
+        ("{\"a\": 1}", "lax $.a > \"b\"", Ok(Truth::Unknown)),
+        ("[true]", "lax $[*]", Ok(Truth::True)),
+        ("false", "lax $", Ok(Truth::False)),
+        ("null", "strict $", Ok(Truth::Unknown)),
+        ("[null]", "lax $[0]", Ok(Truth::Unknown)),
+        ("[true]", "lax $", refused),
+        ("[true, true]", "lax $[*]", refused),
+        ("[]", "lax $[*]", refused),
+        ("1", "lax $", refused),
+        ("\"true\"", "lax $", refused),
+        (
+            "[{\"b\": true}, {}]",
+            "strict $[*].b",
+            Err(PathError::MemberNotFound),
+        ),
+        (
+            "true",
+            "lax $ ? (@ == $nosuch)",
+            Err(PathError::UndefinedVariable),
+        ),
+    ];
+    for (document, path, expected) in rows {
+        matches_as(&rt, alloc, document, path, expected)?;
     }
     Ok(())
 }

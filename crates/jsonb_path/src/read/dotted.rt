@@ -47,15 +47,30 @@ fn read_method<'a>(
     ensures accessor { IfOk result (λ x. IsTrue (is_accessor [] x.0)) }
     ensures shorter { IfOk result (λ x. length x.1.now < length tokens.now) }
 {
-    let rest = expect_mark(')', tokens)?;
+    let Some(rest) = after_mark(')', tokens) else {
+        return match left_out_method(name) {
+            Some(what) => Err(left_out(tokens, what)),
+            None => Err(unexpected(tokens, Expected::Mark(')'))),
+        };
+    };
     if is_word("keyvalue", name) {
         return read_pairs(rest);
     }
-    match method_of(name) {
-        Some(method) => Ok((Accessor::Method(method), rest)),
-        None if is_word("double", name) => Err(left_out(tokens, LeftOut::Double)),
-        None if is_word("datetime", name) => Err(left_out(tokens, LeftOut::Datetime)),
-        None => Err(unexpected(tokens, Expected::Key)),
+    match (method_of(name), left_out_method(name)) {
+        (Some(method), _) => Ok((Accessor::Method(method), rest)),
+        (None, Some(what)) => Err(left_out(tokens, what)),
+        (None, None) => Err(unexpected(tokens, Expected::Key)),
+    }
+}
+
+// What a method is that is known and not read: its parentheses may hold something.
+fn left_out_method(name: &str) -> Option<LeftOut> {
+    if is_word("double", name) {
+        Some(LeftOut::Double)
+    } else if is_word("datetime", name) {
+        Some(LeftOut::Datetime)
+    } else {
+        None
     }
 }
 

@@ -48,7 +48,7 @@ pub enum LeftOut {
 pub enum Refusal {
     Expected(Expected),
     LeftOut(LeftOut),
-    /// More than 256 levels of parentheses, filters, subscripts and signs.
+    /// More than 64 levels of parentheses, filters, subscripts and signs, or 400 with operators.
     TooDeep,
 }
 

@@ -1,6 +1,6 @@
 //! Paths of texts, as PostgreSQL reads and prints them.
 
-use crate::path::Path;
+use crate::path::{Mode, Part, Path, Sign, Source};
 use crate::token::{PathFault, ReadError};
 use std::alloc::Global;
 use std::test::Fail;
@@ -110,5 +110,70 @@ fn paths_of_texts(rt: HostRuntime) -> Result<(), Fail> {
         reads(&mut all, alloc, text, expected)?;
     }
     assert_eq!(rt; all.as_str(), "");
+    Ok(())
+}
+
+// A text with others around it so many times.
+fn nested(alloc: Global, row: (&str, &str, &str), times: usize) -> Result<String, Fail> {
+    let (front, middle, back) = row;
+    let mut text = String::new(alloc);
+    for _ in 0..times {
+        text.push_str(front)?;
+    }
+    text.push_str(middle)?;
+    for _ in 0..times {
+        text.push_str(back)?;
+    }
+    Ok(text)
+}
+
+#[test]
+fn levels_of_texts(rt: HostRuntime) -> Result<(), Fail> {
+    let alloc = rt.alloc();
+    let rows = [
+        ("(", "$", ")", 64, "read"),
+        ("(", "$", ")", 65, "65: TooDeep"),
+        ("$[", "0", "]", 65, "130: TooDeep"),
+        ("-", "$", "", 64, "read"),
+        ("-", "$", "", 65, "65: TooDeep"),
+        ("", "1", " + 1", 399, "read"),
+        ("", "1", " + 1", 400, "1600: TooDeep"),
+        ("", "1", " + 1", 500, "1602: TooDeep"),
+        ("", "1 == 1", " || 1 == 1", 398, "read"),
+        ("", "1 == 1", " || 1 == 1", 399, "3995: TooDeep"),
+    ];
+    for (front, middle, back, times, expected) in rows {
+        let text = nested(alloc, (front, middle, back), times)?;
+        let written = match Path::of_text(alloc, &text) {
+            Ok(_) => format!(in alloc; "read")?,
+            Err(ReadError::OutOfMemory) => Err(ReadError::OutOfMemory)?,
+            Err(ReadError::Refused(PathFault { at, reason })) => {
+                format!(in alloc; "{at}: {reason:?}")?
+            }
+        };
+        assert_eq!(rt;
+            written.as_str(),
+            expected,
+            "{front}{middle}{back} {times} times"
+        );
+    }
+    Ok(())
+}
+
+// A path of signs, each before the last one.
+fn signs(alloc: Global, levels: usize) -> Result<Option<Path>, Fail> {
+    let mut parts = Vec::new(alloc);
+    parts.push(Part::Chain(Source::Root, Vec::new(alloc)))?;
+    for at in 1..levels {
+        parts.push(Part::Sign(Sign::Minus, at - 1))?;
+    }
+    Ok(Path::new(Mode::Lax, parts))
+}
+
+#[test]
+fn levels_of_parts(rt: HostRuntime) -> Result<(), Fail> {
+    let alloc = rt.alloc();
+    assert!(rt; signs(alloc, 400)?.is_some());
+    assert!(rt; signs(alloc, 401)?.is_none());
     Ok(())
 }

@@ -1,11 +1,14 @@
-use Rattle.std.proofs.Common.{◌≡◌, ◌<◌, [], ap, arith, get_or, length, take}
-use Rattle.std.specs.Prelude.{IsTrue}
+use Rattle.std.proofs.Common.{◌≡◌, ◌<◌, ◌&&◌, [], ap, arith, get_or, length, subst, sym, take}
+use Rattle.std.specs.List.{list_all}
+use Rattle.std.specs.Prelude.{IsTrue, Some, map}
+use Rattle.jsonb_value.proofs.Json.Tests.{and_true}
 use Rattle.std.proofs.lemmas.List.{length-take-le}
 use Rattle.jsonb.specs.Node.{node_tree}
 use Rattle.jsonb_path.specs.Found.{filtered_by, left_of, outcome_of, place_of}
-use Rattle.jsonb_path.specs.Meaning.{access, follow, items_of}
-use Rattle.jsonb_path.specs.PathParts.{are_parts_after}
+use Rattle.jsonb_path.specs.Meaning.{access, follow}
+use Rattle.jsonb_path.specs.PathParts.{are_parts_after, is_accessor, is_part, is_source}
 use Rattle.jsonb_path.specs.PathTree.{accessor_of, nodes_of, test_at}
+use Rattle.jsonb_path.proofs.DirectLaws.{pair_from}
 use Rattle.jsonb_path.proofs.FollowLaws.{accessors_left, along_on, chosen_on, front_of}
 use Rattle.jsonb_path.proofs.FollowLaws.{outcome_from, part_expression, subscripts_left, test_part}
 use Rattle.jsonb_path.proofs.FoundLaws.{slice_on, step_on}
@@ -58,7 +61,7 @@ filter-loop-unit-preserved t c =
     step_on
     (filtered_by (place_of c.args.place.now) (test_at (nodes_of c.args.parts.now) c.args.test))
     (node_tree c.in-Some.unit) (left_of c.loop-unit.units) (left_of c.next_unit.new.self)
-    c.in-Some.ensures c.loop-unit.found.items c.append_if.new.found.items
+    c.in-Some.ensures c.loop-unit.found.items c.append_if-in-Some.new.found.items
     c.in_ok-append_if.field-0 _ c.loop-unit.invariant c.in_ok-append_if.ensures
 
 pub append_selected-loop-left-preserved : goal.append_selected-loop-left-preserved
@@ -67,10 +70,10 @@ append_selected-loop-left-preserved t c = record {
       c.loop-left.invariant.all;
   found = chosen_on (place_of c.args.place.now) (nodes_of c.args.parts.now)
       (get_or c.loop-left.left.now 0 _) c.loop-left.left.now (later c.loop-left.left.now)
-      (items_of c.args.place.now.mode (node_tree c.args.node))
+      (Some (map node_tree c.args.items.now))
       (front_of c.loop-left.left.now _ c.in-len1-up.len_at_least)
-      c.loop-left.found.items c.append_chosen.new.found.items c.in_ok-append_chosen.field-0 _
-      c.loop-left.invariant.found c.in_ok-append_chosen.ensures;
+      c.loop-left.found.items c.append_named_in.new.found.items c.in_ok-append_named_in.field-0 _
+      c.loop-left.invariant.found c.in_ok-append_named_in.ensures;
 }
 
 pub judge_at-judge-requires : goal.judge_at-judge-requires
@@ -87,3 +90,21 @@ judge_at-judge-requires t c =
             c.index-parts-at.is c.in-Test.is,
       ),
     )
+
+pub follow-along-requires : goal.follow-along-requires
+follow-along-requires t c =
+    let ps = c.args.parts.now in
+    let both : IsTrue (is_source ps c.in-Chain.source
+    && list_all (is_accessor ps) c.in-Chain.accessors.items) =
+    subst (λ p. IsTrue (is_part ps p)) c.in-Chain.is c.requires.part in
+    let all = (and_true (is_source ps c.in-Chain.source)
+    (list_all (is_accessor ps) c.in-Chain.accessors.items) both).1 in
+    let same : IsTrue (list_all (is_accessor ps) c.deref.result.now) =
+    subst (λ xs. IsTrue (list_all (is_accessor ps) xs)) (sym c.deref.ensures.value) all in
+    (omega arith, (c.requires.parts, c.along_members-ahead.ensures.left ps same))
+
+pub compare_at-returns-in-Some-Some : goal.compare_at-returns-in-Some-Some
+compare_at-returns-in-Some-Some t c =
+    pair_from c.args.place.now.mode c.args.comparison _ _ _ _ _
+    (c.compare_direct.ensures c.args.place.now.mode) c.in-Some-Some.ensures
+    c.in-Some-Some.ensures'

@@ -1,11 +1,11 @@
 -- A part is followed by those before it.
 use Rattle.std.proofs.Common.{◌≡◌, ◌+◌, ◌*◌, length}
-use Rattle.std.specs.Prelude.{IsTrue, None, map}
+use Rattle.std.specs.Prelude.{IsTrue, None, Some, map}
 use Rattle.std.specs.List.{list_all}
 use Rattle.jsonb.specs.Node.{node_tree}
 use Rattle.jsonb_path.specs.Found.{filtered_by, found_then, left_of, outcome_of, place_of}
 use Rattle.jsonb_path.specs.Found.{selected_in}
-use Rattle.jsonb_path.specs.Meaning.{access, along, each, items_of}
+use Rattle.jsonb_path.specs.Meaning.{access, along, each}
 use Rattle.jsonb_path.specs.PathParts.{is_accessor, is_subscript}
 use Rattle.jsonb_path.specs.PathTree.{accessor_of, accessors_of, nodes_of, subscripts_of, test_at}
 use Rattle.jsonb_path.specs.Syntax as syntax
@@ -17,6 +17,9 @@ decreases-follow_at l = 16 * length l.parts.now
 abbrev pub decreases-judge_at : goal.decreases-judge_at
 decreases-judge_at l = 16 * length l.parts.now
 
+abbrev pub decreases-compare_at : goal.decreases-compare_at
+decreases-compare_at l = 16 * length l.parts.now + 2
+
 abbrev pub decreases-begin : goal.decreases-begin
 decreases-begin l = 16 * length l.parts.now + 2
 
@@ -25,6 +28,9 @@ decreases-append_if l = 16 * length l.parts.now + 2
 
 abbrev pub decreases-append_chosen : goal.decreases-append_chosen
 decreases-append_chosen l = 16 * length l.parts.now + 2
+
+abbrev pub decreases-append_named_in : goal.decreases-append_named_in
+decreases-append_named_in l = 16 * length l.parts.now + 2
 
 abbrev pub decreases-append_selected : goal.decreases-append_selected
 decreases-append_selected l = 16 * length l.parts.now + 3
@@ -88,7 +94,7 @@ decreases-filter-loop-unit l = length (left_of l.units)
 
 abbrev pub invariant-append_selected-loop-left : goal.invariant-append_selected-loop-left
 invariant-append_selected-loop-left l =
-    let items = items_of l.fn.place.mode (node_tree l.fn.node) in record {
+    let items = Some (map node_tree l.fn.items) in record {
       all : IsTrue (list_all (is_subscript l.fn.parts) l.left);
       found : found_then l.found.items
           (selected_in (place_of l.fn.place) (subscripts_of (nodes_of l.fn.parts) l.left) items)
