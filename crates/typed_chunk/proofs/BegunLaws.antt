@@ -13,7 +13,7 @@ use Rattle.typed_chunk.specs.Digits.{number}
 use Rattle.typed_chunk.specs.Frame.{frame, heights, least_value, unsigned_word}
 use Rattle.typed_chunk.specs.Headed.{width_of}
 use Rattle.typed_chunk.specs.Packed.{packed, packed_len}
-use Rattle.typed_chunk.specs.TextReading.{are_blank, ends_from, frame_len, offsets_of}
+use Rattle.typed_chunk.specs.TextReading.{are_blank, text_ends, frame_len, offsets_of}
 use Rattle.typed_chunk.proofs.DigitLaws.{length-digits}
 use Rattle.typed_vector.specs.Cells.{AreEnds, rows, rows_from}
 use Rattle.std.proofs.Common.{unsigned_abs}
@@ -69,14 +69,14 @@ pub ruleset blank_steps = (blank_set, blank_empty, blank_not, blank_end)
 
 -- Texts by their lengths.
 pub spans_of : (lengths : List ℕ) (start size : ℕ) → start + sum lengths ≡ size
-    → AreEnds size start (ends_from start lengths)
+    → AreEnds size start (text_ends start lengths)
 spans_of [] start size is = omega (arith, is)
 spans_of (n ∷ lengths) start size is =
     let more : sum (n ∷ lengths) ≡ n + sum lengths = sum_by-cons (λ x. x) n lengths in
     (omega arith, spans_of lengths (start + n) size (omega (arith, is, more)))
 
 lengths_from : (b lengths : List ℕ) (start : ℕ) → start + sum lengths ≡ length b
-    → map length (rows_from b start (ends_from start lengths)) ≡ lengths
+    → map length (rows_from b start (text_ends start lengths)) ≡ lengths
 lengths_from b [] start is = refl
 lengths_from b (n ∷ lengths) start is =
     let more : sum (n ∷ lengths) ≡ n + sum lengths = sum_by-cons (λ x. x) n lengths in
@@ -87,7 +87,7 @@ lengths_from b (n ∷ lengths) start is =
     (lengths_from b lengths (start + n) (omega (arith, is, more)))
 
 concat_from : (b lengths : List ℕ) (start : ℕ) → start + sum lengths ≡ length b
-    → concat (rows_from b start (ends_from start lengths)) ≡ drop start b
+    → concat (rows_from b start (text_ends start lengths)) ≡ drop start b
 concat_from b [] start is = sym (drop_all start b (omega (arith, is)))
 concat_from b (n ∷ lengths) start is =
     let more : sum (n ∷ lengths) ≡ n + sum lengths = sum_by-cons (λ x. x) n lengths in

@@ -11,7 +11,7 @@ use Rattle.std.proofs.Common.{All, arith, drop, get_or, inl, inr, subst, ◌<◌
 use Rattle.typed_chunk.specs.Dictionary.{dictionary_bytes, dictionary_fault, entry_bytes}
 use Rattle.typed_chunk.specs.Digits.{digits, number}
 use Rattle.typed_chunk.specs.Headed.{first_fault}
-use Rattle.typed_chunk.specs.Packed.{AreCodes, ArePacked, codes_fault, least_width, packed}
+use Rattle.typed_chunk.specs.Packed.{FitWidth, ArePacked, codes_fault, least_width, packed}
 use Rattle.typed_chunk.specs.Places.{all_used, are_zeros, places_fault, texts_ascend}
 use Rattle.typed_chunk.specs.Texts.{text_bytes}
 use Rattle.typed_chunk.specs.TextReading.{are_blank, with_beginning}
@@ -131,10 +131,10 @@ are_packed entries places has behind width count many some few is none same =
     let below = places_below entries places has none in
     let low : count - 1 < 2 ^ 64 = omega (arith, few) in
     let fits = least_fits (count - 1) low in
-    let fit : AreCodes (least_width (count - 1)) places =
+    let fit : FitWidth (least_width (count - 1)) places =
     λ k d inside. omega (arith, below k d inside, fits.low, many, some) in
     record {
-      fit = subst (λ w. AreCodes w places) (sym is) fit;
+      fit = subst (λ w. FitWidth w places) (sym is) fit;
       same = same ∙ ap (λ (w : ℕ). packed w places)
           (ap (λ (n : ℕ). least_width (n - 1)) many ∙ sym is);
     }

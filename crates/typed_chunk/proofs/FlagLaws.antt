@@ -6,7 +6,7 @@ use Rattle.std.specs.Prelude.{◌==◌}
 use Rattle.std.proofs.lemmas.Bool.{cases_Bool, cond_both, eqb-false, false≢true}
 use Rattle.std.proofs.lemmas.List.Elements.{All-cons, All-head, All-nil, All-tail}
 use Rattle.typed_chunk.specs.Flags.{all_have, flag_bits, flags, rows_of, some_has}
-use Rattle.typed_chunk.specs.Packed.{AreCodes, packed}
+use Rattle.typed_chunk.specs.Packed.{FitWidth, packed}
 
 -- Rows of which none or all have a value.
 pub none_has : (has : List Bool) → some_has has ≡ false → has ≡ replicate (length has) false
@@ -58,14 +58,14 @@ bit_of code low =
     cond_both (code == 1) 1 0 (λ (x : ℕ). x ≡ code) (λ e. sym (eqb-true code 1 e))
     (λ e. none_left code low (eqb-false code 1 e))
 
-pub bits-rows : (codes : List ℕ) → AreCodes 1 codes → flag_bits (rows_of codes) ≡ codes
+pub bits-rows : (codes : List ℕ) → FitWidth 1 codes → flag_bits (rows_of codes) ≡ codes
 bits-rows [] low = refl
 bits-rows (code ∷ codes) low =
     ap₂ (λ (x : ℕ) (xs : List ℕ). x ∷ xs)
     (bit_of code (All-head (λ c. c < 2 ^ 1) code codes low))
     (bits-rows codes (All-tail (λ c. c < 2 ^ 1) code codes low))
 
-pub are_bits : (has : List Bool) → AreCodes 1 (flag_bits has)
+pub are_bits : (has : List Bool) → FitWidth 1 (flag_bits has)
 are_bits [] = All-nil (λ code. code < 2 ^ 1)
 are_bits (true ∷ has) =
     All-cons (λ code. code < 2 ^ 1) 1 (flag_bits has) (omega arith) (are_bits has)

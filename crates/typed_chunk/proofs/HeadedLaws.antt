@@ -11,7 +11,7 @@ use Rattle.std.proofs.lemmas.List.{drop_at, get_or_default, length-append}
 use Rattle.typed_chunk.specs.Digits.{digits, number}
 use Rattle.typed_chunk.specs.Headed.{IsHeaded, codes_behind, first_fault, greatest, has_0}
 use Rattle.typed_chunk.specs.Headed.{headed_fault, least_fault, width_of}
-use Rattle.typed_chunk.specs.Packed.{AreCodes, ArePacked, codes_fault, is_width, least_width}
+use Rattle.typed_chunk.specs.Packed.{FitWidth, ArePacked, codes_fault, is_width, least_width}
 use Rattle.typed_chunk.specs.Packed.{packed}
 use Rattle.typed_chunk.specs.declared.fault.ChunkFault.{ChunkFault}
 use Rattle.typed_chunk.specs.declared.fault.ChunkFault.TheVariants.{NotLeastValue}
@@ -29,7 +29,7 @@ up_to_greatest (x ∷ codes) (suc i) =
     let rest = up_to_greatest codes i in omega (arith, rest)
 
 pub fit_greatest : (width : ℕ) (codes : List ℕ) → greatest codes < 2 ^ width
-    → AreCodes width codes
+    → FitWidth width codes
 fit_greatest width codes low k d inside =
     let up = up_to_greatest codes k in
     let same = get_or_default codes k d 0 inside in
@@ -126,7 +126,7 @@ parts head codes bytes low are =
       width = first;
       is = ap is_width first ∙ fits.is;
       packed = record {
-        fit = subst (λ w. AreCodes w codes) (sym first) (fit_greatest width codes fits.low);
+        fit = subst (λ w. FitWidth w codes) (sym first) (fit_greatest width codes fits.low);
         same = behind ∙ ap (λ (w : ℕ). packed w codes) (sym first);
       };
       from_0 = are.from_0;

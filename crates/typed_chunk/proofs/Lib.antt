@@ -17,3 +17,10 @@ pub mod TextReadLaws
 pub mod WholeLaws
 pub mod PlaceLaws
 pub mod DictionaryLaws
+pub mod EntryLaws
+pub mod SearchLaws
+pub mod FoundLaws
+pub mod GatherLaws
+pub mod ValueLaws
+pub mod SizeLaws
+pub mod NumberReadLaws

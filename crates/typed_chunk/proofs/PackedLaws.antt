@@ -15,7 +15,7 @@ use Rattle.std.proofs.lemmas.List.{length-take-le, take_more}
 use Rattle.std.proofs.Math.Nat.{div-div-eq-div-mul, div-one, lt_of_mul-lt-mul_left, mod-eq_of_lt}
 use Rattle.std.proofs.Math.Nat.{mul-le-mul_left, mul_comm, pow-zero, pow-suc, pow-le-pow_right}
 use Rattle.typed_chunk.specs.Digits.{number, digits}
-use Rattle.typed_chunk.specs.Packed.{AreCodes, packed, packed_len}
+use Rattle.typed_chunk.specs.Packed.{FitWidth, packed, packed_len}
 use Rattle.typed_chunk.proofs.DigitLaws.{Below, Below-drop, digits-number, get_or-digits}
 use Rattle.typed_chunk.proofs.DigitLaws.{length-digits, number-digits, number-drop, number-lt}
 use Rattle.typed_chunk.proofs.DigitLaws.{Below-take, digits-append, number-push, number-take}
@@ -49,7 +49,7 @@ fitting width codes below =
     let all = bytes-bits size in
     omega (arith, low, is, up, all)
 
-pub Below-codes : (width : ℕ) (codes : List ℕ) → AreCodes width codes → Below (2 ^ width) codes
+pub Below-codes : (width : ℕ) (codes : List ℕ) → FitWidth width codes → Below (2 ^ width) codes
 Below-codes width codes are i = elim (cases_lt i (length codes)) [
   | inl low ↦ are i 0 low
   | inr high ↦ rw (get_or_past codes i 0 high) (pow_pos width)

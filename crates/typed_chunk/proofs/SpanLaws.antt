@@ -80,7 +80,7 @@ lengths_fit b size [] short = All-nil (λ n. n < 256 ^ 4)
 lengths_fit b size (start ∷ ends) short = lengths_from b size start ends short
 
 -- One more text.
-concat-push : (texts : List (List ℕ)) (text : List ℕ)
+pub concat-push : (texts : List (List ℕ)) (text : List ℕ)
     → concat (texts ++ text ∷ []) ≡ concat texts ++ text
 concat-push [] text = append-nil text
 concat-push (first ∷ texts) text =

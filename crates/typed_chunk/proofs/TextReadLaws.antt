@@ -13,7 +13,7 @@ use Rattle.std.proofs.lemmas.List.Sums.{sum_by-cons}
 use Rattle.typed_chunk.specs.Flags.{some_has}
 use Rattle.typed_chunk.specs.Frame.{IsFrame, frame, unsigned_word}
 use Rattle.typed_chunk.specs.Texts.{beginning, begun, common, measured, tails, text_bytes}
-use Rattle.typed_chunk.specs.TextReading.{are_blank, begun_fault, behind_frame, ends_from}
+use Rattle.typed_chunk.specs.TextReading.{are_blank, begun_fault, behind_frame, text_ends}
 use Rattle.typed_chunk.specs.TextReading.{frame_before, frame_len, offsets_of, rows_fault}
 use Rattle.typed_chunk.specs.TextReading.{sum_fault, texts_fault, with_beginning}
 use Rattle.typed_chunk.specs.declared.fault.ChunkFault.TheVariants.{NotLongestBeginning}
@@ -51,7 +51,7 @@ front_read size count numbers bytes are =
 
 -- Sums of lengths.
 offsets_at : (lengths : List ℕ) (start k : ℕ) → k ≤ length lengths
-    → get_or (start ∷ ends_from start lengths) k 0 ≡ start + sum (take k lengths)
+    → get_or (start ∷ text_ends start lengths) k 0 ≡ start + sum (take k lengths)
 offsets_at lengths start zero low = omega arith
 offsets_at [] start (suc k) low = absurd (omega (arith, low))
 offsets_at (n ∷ lengths) start (suc k) low =
@@ -59,7 +59,7 @@ offsets_at (n ∷ lengths) start (suc k) low =
     sum_by-cons (λ x. x) n (take k lengths) in
     omega (arith, offsets_at lengths (start + n) k (omega (arith, low)), more)
 
-length-ends : (lengths : List ℕ) (start : ℕ) → length (ends_from start lengths) ≡ length lengths
+length-ends : (lengths : List ℕ) (start : ℕ) → length (text_ends start lengths) ≡ length lengths
 length-ends [] start = refl
 length-ends (n ∷ lengths) start = ap suc (length-ends lengths (start + n))
 

@@ -1,7 +1,8 @@
 -- Examples of codes and of texts in bytes.
-use Rattle.std.specs.Prelude.{◌≡◌, [], ◌∷◌, false, true}
+use Rattle.std.specs.Prelude.{◌≡◌, [], ◌∷◌, false, pos, true}
 use Rattle.typed_chunk.specs.Dictionary.{dictionary_bytes}
 use Rattle.typed_chunk.specs.Headed.{headed}
+use Rattle.typed_chunk.specs.NumberChunk.{number_chunk}
 use Rattle.typed_chunk.specs.Packed.{least_width, packed}
 use Rattle.typed_chunk.specs.Texts.{text_bytes}
 
@@ -41,3 +42,10 @@ pub record TextExamples : Type 0 where
 pub record DictionaryExamples : Type 0 where
   pub of_two : dictionary_bytes ((4 ∷ []) ∷ (5 ∷ []) ∷ []) (1 ∷ 0 ∷ 1 ∷ [])
       ≡ 1 ∷ 0 ∷ 0 ∷ 0 ∷ 0 ∷ 0 ∷ 1 ∷ 4 ∷ 5 ∷ 5 ∷ []
+
+-- Chunks of numbers: packed beside a row that has none, and of rows of which none has one.
+pub record NumberChunkExamples : Type 0 where
+  pub beside_none : number_chunk (pos 5 ∷ pos 7 ∷ pos 0 ∷ pos 200 ∷ pos 6 ∷ [])
+      (true ∷ true ∷ false ∷ true ∷ true ∷ [])
+      ≡ 2 ∷ 0x1b ∷ 0 ∷ 8 ∷ 0 ∷ 0 ∷ 0 ∷ 0 ∷ 0 ∷ 0 ∷ 0 ∷ 5 ∷ 0 ∷ 2 ∷ 0 ∷ 0xc3 ∷ 1 ∷ []
+  pub of_none : number_chunk (pos 5 ∷ pos 7 ∷ []) (false ∷ false ∷ []) ≡ 0 ∷ []

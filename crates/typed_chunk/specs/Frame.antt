@@ -53,6 +53,11 @@ range_fault bits least codes =
 abbrev pub least_in : Width → List ℕ → ℤ
 least_in w bytes = cast_signed w (big_number (byte_len w) (drop 1 bytes))
 
+-- The values that bytes tell as a frame.
+abbrev pub frame_values : Width → ℕ → List ℕ → List ℤ
+frame_values w count bytes =
+    map (value_at_height (least_in w bytes)) (codes_behind (byte_len w) count bytes)
+
 -- What is wrong with the bytes of so many values: they are none of a least value and codes, or else
 -- the greatest value has too many bits.
 abbrev pub frame_fault : Width → ℕ → List ℕ → Option ChunkFault

@@ -1,9 +1,12 @@
 pub mod Dictionary
 pub mod Digits
+pub mod Entries
 pub mod Examples
 pub mod Flags
 pub mod Frame
 pub mod Headed
+pub mod NumberChunk
+pub mod NumberReading
 pub mod Packed
 pub mod Places
 pub mod Rising

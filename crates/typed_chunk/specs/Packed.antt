@@ -42,12 +42,12 @@ abbrev pub packed : ℕ → List ℕ → List ℕ
 packed width codes = digits 256 (packed_len width (length codes)) (number (2 ^ width) codes)
 
 -- Each code is below 2 ^ width.
-abbrev pub AreCodes : ℕ → List ℕ → Type 0
-AreCodes width codes = All (λ code. code < 2 ^ width) codes
+abbrev pub FitWidth : ℕ → List ℕ → Type 0
+FitWidth width codes = All (λ code. code < 2 ^ width) codes
 
 -- The bytes are those of the codes, which all fit the width.
 pub record ArePacked (width : ℕ) (codes bytes : List ℕ) : Type 0 where
-  pub fit : AreCodes width codes
+  pub fit : FitWidth width codes
   pub same : bytes ≡ packed width codes
 
 -- The code at an index of the bytes.

@@ -61,3 +61,12 @@ rising_fault w count bytes =
     else first_fault (naturals_fault (byte_len w) (count - 1) (drop (byte_len w) bytes))
     (last_fault (8 * byte_len w - 1) (cast_signed w (big_number (byte_len w) bytes))
     (numbers_in (byte_len w) (count - 1) (drop (byte_len w) bytes)))
+
+-- The first value that bytes tell as rising ones, and all of them.
+abbrev pub rising_first : Width → List ℕ → ℤ
+rising_first w bytes = cast_signed w (big_number (byte_len w) bytes)
+
+abbrev pub rising_values : Width → ℕ → List ℕ → List ℤ
+rising_values w count bytes =
+    rising_first w bytes ∷ values_from (rising_first w bytes)
+    (numbers_in (byte_len w) (count - 1) (drop (byte_len w) bytes))

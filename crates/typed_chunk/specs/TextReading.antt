@@ -24,13 +24,13 @@ abbrev pub behind_frame : ℕ → ℕ → List ℕ → List ℕ
 behind_frame size count bytes = drop (frame_len size count bytes) bytes
 
 -- Where each text ends if they have these lengths and the first one begins there.
-abbrev pub ends_from : ℕ → List ℕ → List ℕ
-ends_from start [] = []
-ends_from start (size ∷ sizes) = (start + size) ∷ ends_from (start + size) sizes
+abbrev pub text_ends : ℕ → List ℕ → List ℕ
+text_ends start [] = []
+text_ends start (size ∷ sizes) = (start + size) ∷ text_ends (start + size) sizes
 
 -- The offsets of texts of these lengths.
 abbrev pub offsets_of : List ℕ → List ℕ
-offsets_of lengths = 0 ∷ ends_from 0 lengths
+offsets_of lengths = 0 ∷ text_ends 0 lengths
 
 -- Each row that has no text has no bytes either.
 abbrev pub are_blank : List (List ℕ) → List Bool → Bool

@@ -1,7 +1,8 @@
 //! Examples of the definitions, which the prover checks.
 
-ghost use Rattle.typed_chunk.specs.Examples.{DictionaryExamples, HeadedExamples, PackedExamples};
-ghost use Rattle.typed_chunk.specs.Examples.{TextExamples, WidthExamples};
+ghost use Rattle.typed_chunk.specs.Examples.{DictionaryExamples, HeadedExamples};
+ghost use Rattle.typed_chunk.specs.Examples.{NumberChunkExamples, PackedExamples, TextExamples};
+ghost use Rattle.typed_chunk.specs.Examples.{WidthExamples};
 
 // Examples of what the definitions say.
 #[tactic(auto, unfolding(crate::specs::Packed::least_width))]
@@ -11,4 +12,5 @@ fn examples()
     ensures headed { HeadedExamples }
     ensures texts { TextExamples }
     ensures dictionary { DictionaryExamples }
+    ensures numbers { NumberChunkExamples }
 {}

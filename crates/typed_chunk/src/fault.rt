@@ -31,4 +31,10 @@ pub enum ChunkFault {
     PlaceOfNoValue,
     /// An entry is that of no row that has a text.
     EntryOfNoRow,
+    /// The first byte behind the flags is none of a kind that the rows may have.
+    NoSuchKind,
+    /// A row that has no number has another one than the least of the others.
+    NumberOfNoValue,
+    /// The values take fewer bytes by another kind, or as many by an earlier one.
+    NotShortestKind,
 }

@@ -145,7 +145,7 @@ fn check_some(has: &[bool]) -> Result<(), ChunkFault>
 }
 
 // Whether a row has a value.
-fn some_has(has: &[bool]) -> bool
+pub(crate) fn some_has(has: &[bool]) -> bool
     ensures { result ≡ some_has has.now }
 {
     for flag in has {

@@ -5,8 +5,9 @@ ghost use Rattle.std.specs.Prelude.{OnOk};
 ghost use Rattle.std.specs.Prelude.{fold, if◌then◌else◌, is_ok, length, map};
 ghost use Rattle.std.specs.Int.{int_min, w64};
 ghost use Rattle.std.specs.Result.{result_err};
-ghost use Rattle.typed_chunk.specs.Frame.{IsFrame, frame, frame_fault, height, least_value};
-ghost use Rattle.typed_chunk.specs.Frame.{least_in, range_fault, signed_word, value_at_height};
+ghost use Rattle.typed_chunk.specs.Frame.{IsFrame, frame, frame_fault, frame_values, height};
+ghost use Rattle.typed_chunk.specs.Frame.{least_in, least_value, range_fault, signed_word};
+ghost use Rattle.typed_chunk.specs.Frame.{value_at_height};
 
 use crate::fault::ChunkFault;
 use crate::headed::{append_headed, greatest, read_headed};
@@ -44,6 +45,8 @@ pub fn read_frame(bytes: &[u8], codes: &mut [u64], values: &mut [i64]) -> Result
     requires room { length codes.old ≡ length values.old }
     ensures fault { result_err result ≡ frame_fault w64 (length values.old) bytes.now }
     ensures ok { OnOk result (IsFrame (signed_word w64) values.new bytes.now) }
+    ensures told { OnOk result (values.new
+        ≡ frame_values w64 (length values.old) bytes.now) }
     ensures err { OnErr result (values.new ≡ values.old) }
     ensures back { (items : List ℤ) → length items ≡ length values.old
         → All (FitsSigned w64) items → IsFrame (signed_word w64) items bytes.now
@@ -57,7 +60,7 @@ pub fn read_frame(bytes: &[u8], codes: &mut [u64], values: &mut [i64]) -> Result
 }
 
 // The least of the values, or 0 of none.
-fn least_value(values: &[i64]) -> i64
+pub(crate) fn least_value(values: &[i64]) -> i64
     ensures { result ≡ least_value values.now }
 {
     match values {
@@ -79,7 +82,7 @@ fn least_of(first: i64, rest: &[i64]) -> i64
 }
 
 // Writes how far each value is above the least.
-fn write_heights(least: i64, values: &[i64], codes: &mut [u64])
+pub(crate) fn write_heights(least: i64, values: &[i64], codes: &mut [u64])
     requires { length codes.old ≡ length values.now }
     ensures { codes.new ≡ map (height least) values.now }
 {

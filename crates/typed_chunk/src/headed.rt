@@ -5,7 +5,7 @@ ghost use Rattle.std.specs.Prelude.{drop, if◌then◌else◌, is_ok, length, ta
 ghost use Rattle.std.specs.Result.{result_err};
 ghost use Rattle.typed_chunk.specs.Headed.{IsHeaded, codes_behind, greatest, headed};
 ghost use Rattle.typed_chunk.specs.Headed.{headed_fault, least_fault, width_of};
-ghost use Rattle.typed_chunk.specs.Packed.{AreCodes, bits};
+ghost use Rattle.typed_chunk.specs.Packed.{FitWidth, bits};
 
 use crate::fault::ChunkFault;
 use crate::packed::{append_codes, packed_len};
@@ -75,9 +75,9 @@ fn check_least(width: Width, codes: &[u64]) -> Result<(), ChunkFault>
 }
 
 // The least width that holds all codes.
-fn width_of(codes: &[u64]) -> Width
+pub(crate) fn width_of(codes: &[u64]) -> Width
     ensures is { bits result ≡ width_of codes.now }
-    ensures fit { AreCodes (bits result) codes.now }
+    ensures fit { FitWidth (bits result) codes.now }
 {
     Width::of(greatest(codes))
 }

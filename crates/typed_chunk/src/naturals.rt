@@ -88,7 +88,7 @@ fn append_behind(
 }
 
 // The least of the numbers, or 0 of none.
-fn least_number(numbers: &[u64]) -> u64
+pub(crate) fn least_number(numbers: &[u64]) -> u64
     ensures { result ≡ least_number numbers.now }
 {
     match numbers {
@@ -110,7 +110,7 @@ fn least_of(first: u64, rest: &[u64]) -> u64
 }
 
 // Takes the least from each number.
-fn lower(least: u64, numbers: &mut [u64])
+pub(crate) fn lower(least: u64, numbers: &mut [u64])
     requires { All (λ number. least ≤ number) numbers.old }
     ensures { numbers.new ≡ map (λ number. number - least) numbers.old }
 {

@@ -3,7 +3,7 @@
 ghost use Rattle.std.specs.Prelude.{◌≡◌, ◌≤◌, ◌<◌, ◌^◌, ◌+◌, ◌*◌, ◌/◌, ◌++◌, IsOk, length};
 ghost use Rattle.std.specs.Prelude.{if◌then◌else◌, is_ok, vec_capacity, vec_len};
 ghost use Rattle.typed_chunk.specs.Digits.{number};
-ghost use Rattle.typed_chunk.specs.Packed.{AreCodes, bits, packed, packed_len};
+ghost use Rattle.typed_chunk.specs.Packed.{FitWidth, bits, packed, packed_len};
 
 use crate::width::Width;
 use byteorder::{ByteOrder, LittleEndian};
@@ -20,7 +20,7 @@ pub fn packed_len(width: Width, count: usize) -> usize
 /// Appends the bytes of codes that fit the width. If memory is refused, nothing is appended.
 pub fn append_codes(out: &mut Vec<u8>, width: Width, codes: &[u64]) -> Result<(), AllocError>
     requires few { length codes.now < 2 ^ 57 }
-    requires fit { AreCodes (bits width) codes.now }
+    requires fit { FitWidth (bits width) codes.now }
     ensures items { out.new.items ≡ (if is_ok result
         then out.old.items ++ packed (bits width) codes.now else out.old.items) }
     ensures succeeds { vec_len out.old + packed_len (bits width) (length codes.now)
@@ -35,7 +35,7 @@ pub fn append_codes(out: &mut Vec<u8>, width: Width, codes: &[u64]) -> Result<()
 // Writes codes into exactly as many bytes as they take.
 fn write_codes(width: Width, codes: &[u64], bytes: &mut [u8])
     requires few { length codes.now < 2 ^ 57 }
-    requires fit { AreCodes (bits width) codes.now }
+    requires fit { FitWidth (bits width) codes.now }
     requires room { length bytes.old ≡ packed_len (bits width) (length codes.now) }
     ensures { bytes.new ≡ packed (bits width) codes.now }
 {
@@ -56,7 +56,7 @@ fn write_narrow(codes: &[u64], bytes: &mut [u8], width: usize)
     requires some { 0 < width }
     requires whole { width * (8 / width) ≡ 8 }
     requires few { length codes.now < 2 ^ 57 }
-    requires fit { AreCodes width codes.now }
+    requires fit { FitWidth width codes.now }
     requires room { length bytes.old ≡ packed_len width (length codes.now) }
     ensures { bytes.new ≡ packed width codes.now }
 {
@@ -72,7 +72,7 @@ fn write_narrow(codes: &[u64], bytes: &mut [u8], width: usize)
 fn byte_of(codes: &[u64], width: usize) -> u8
     requires few { width * length codes.now ≤ 8 }
     requires some { 0 < width }
-    requires fit { AreCodes width codes.now }
+    requires fit { FitWidth width codes.now }
     ensures { result ≡ number (2 ^ width) codes.now }
 {
     let mut byte = 0;
@@ -86,7 +86,7 @@ fn byte_of(codes: &[u64], width: usize) -> u8
 fn write_wide(codes: &[u64], bytes: &mut [u8], size: usize)
     requires some { 1 ≤ size }
     requires few { size ≤ 8 }
-    requires fit { AreCodes (8 * size) codes.now }
+    requires fit { FitWidth (8 * size) codes.now }
     requires room { length bytes.old ≡ size * length codes.now }
     ensures { bytes.new ≡ packed (8 * size) codes.now }
 {

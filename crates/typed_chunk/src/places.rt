@@ -70,7 +70,7 @@ fn all_below(places: &[u64], count: usize) -> bool
 
 // Whether each row that has no text has the place 0.
 #[tactic(auto, using(crate::proofs::PlaceLaws::zero_steps))]
-fn are_zeros(places: &[u64], has: &[bool]) -> bool
+pub(crate) fn are_zeros(places: &[u64], has: &[bool]) -> bool
     requires { length places.now ≡ length has.now }
     ensures { result ≡ are_zeros places.now has.now }
 {

@@ -10,7 +10,7 @@ ghost use Rattle.std.specs.Result.{result_err};
 ghost use Rattle.byteorder.specs.Endian.{big_number};
 ghost use Rattle.typed_chunk.specs.Frame.{signed_word};
 ghost use Rattle.typed_chunk.specs.Rising.{IsRising, last_fault, rises, rises_from, rising};
-ghost use Rattle.typed_chunk.specs.Rising.{rising_fault, steps_of, values_from};
+ghost use Rattle.typed_chunk.specs.Rising.{rising_fault, rising_values, steps_of, values_from};
 
 use crate::fault::ChunkFault;
 use crate::naturals::{append_naturals, read_naturals};
@@ -68,6 +68,8 @@ pub fn read_rising(bytes: &[u8], steps: &mut [u64], values: &mut [i64]) -> Resul
     requires room { length steps.old + 1 ≡ length values.old }
     ensures fault { result_err result ≡ rising_fault w64 (length values.old) bytes.now }
     ensures ok { OnOk result (IsRising w64 values.new bytes.now) }
+    ensures told { OnOk result (values.new
+        ≡ rising_values w64 (length values.old) bytes.now) }
     ensures err { OnErr result (values.new ≡ values.old) }
     ensures back { (items : List ℤ) → length items ≡ length values.old
         → All (FitsSigned w64) items → IsRising w64 items bytes.now
@@ -108,7 +110,7 @@ fn rises_from(first: i64, rest: &[i64]) -> bool
 }
 
 // Writes how far each value but the first is above the one before it.
-fn write_steps(values: &[i64], steps: &mut [u64])
+pub(crate) fn write_steps(values: &[i64], steps: &mut [u64])
     requires { length steps.old + 1 ≡ length values.now }
     ensures { steps.new ≡ steps_of values.now }
 {

@@ -1,6 +1,9 @@
 //! Tests of bytes that a model of the form in another language wrote.
 
-use crate::{append_dictionary, append_texts, append_whole_texts, read_dictionary, read_texts};
+use crate::{
+    ChunkFault, append_dictionary, append_number_chunk, append_texts, append_whole_texts,
+    find_dictionary, read_dictionary, read_number_chunk, read_texts,
+};
 use std::alloc::{AllocError, Global};
 use std::test::Fail;
 
@@ -80,4 +83,72 @@ fn a_dictionary_is_read(rt: HostRuntime) {
         }
         Err(_) => assert!(rt; false),
     }
+}
+
+// Seven rows, of which the third has no text.
+const ROWS: &[u8] = b"malmolundystadlundmalmolund";
+
+const ROW_OFFSETS: [usize; 8] = [0, 5, 9, 9, 14, 18, 23, 27];
+
+const ROWS_HAVE: [bool; 7] = [true, true, false, true, true, true, true];
+
+#[test]
+fn a_dictionary_is_found(rt: HostRuntime) -> Result<(), Fail> {
+    let mut places = [9; 7];
+    let found = find_dictionary(rt.alloc(), ROWS, &ROW_OFFSETS, &ROWS_HAVE, &mut places)?;
+    match found {
+        Some(entries) => {
+            assert_eq!(rt; entries.texts.as_slice(), b"lundmalmoystad".as_slice());
+            assert_eq!(rt; entries.offsets.as_slice(), [0, 4, 9, 14].as_slice());
+            assert_eq!(rt; places, [1, 0, 0, 2, 0, 1, 0]);
+        }
+        None => assert!(rt; false),
+    }
+    Ok(())
+}
+
+#[test]
+fn chunks_of_numbers(rt: HostRuntime) -> Result<(), Fail> {
+    let mut packed = Vec::new(rt.alloc());
+    let has = [true, true, false, true, true];
+    append_number_chunk(&mut packed, &mut [5, 7, 0, 200, 6], &has, &mut [0; 5])?;
+    let bytes = b"\x02\x1b\x00\x08\0\0\0\0\0\0\0\x05\x00\x02\x00\xc3\x01".as_slice();
+    assert_eq!(rt; packed.as_slice(), bytes);
+    let mut first = Vec::new(rt.alloc());
+    append_number_chunk(&mut first, &mut [5, 7, 7, 9, 12], &[true; 5], &mut [0; 5])?;
+    let bytes = b"\x01\x00\x04\0\0\0\0\0\0\0\x05\x20\x42\x07".as_slice();
+    assert_eq!(rt; first.as_slice(), bytes);
+    let mut none = Vec::new(rt.alloc());
+    append_number_chunk(&mut none, &mut [5, 7], &[false; 2], &mut [0; 2])?;
+    assert_eq!(rt; none.as_slice(), b"\0".as_slice());
+    Ok(())
+}
+
+// Numbers that rise by as much each.
+const TEN: [i64; 10] = [1000, 2000, 3000, 4000, 5000, 6000, 7000, 8000, 9000, 10000];
+
+// They as a frame.
+const PACKED: &[u8] =
+    b"\x01\0\x10\0\0\0\0\0\0\x03\xe8\0\0\xe8\x03\xd0\x07\xb8\x0b\xa0\x0f\x88\x13p\x17X\x1b@\x1f(#";
+
+#[test]
+fn chunks_of_numbers_are_read(rt: HostRuntime) {
+    let mut values = [9; 5];
+    let mut has = [false; 5];
+    let bytes = b"\x02\x1b\x00\x08\0\0\0\0\0\0\0\x05\x00\x02\x00\xc3\x01".as_slice();
+    assert!(rt; read_number_chunk(bytes, &mut [0; 5], &mut has, &mut values).is_ok());
+    assert_eq!(rt; values, [5, 7, 5, 200, 6]);
+    assert_eq!(rt; has, [true, true, false, true, true]);
+    let bytes = b"\x01\x00\x04\0\0\0\0\0\0\0\x05\x20\x42\x07".as_slice();
+    assert!(rt; read_number_chunk(bytes, &mut [0; 5], &mut has, &mut values).is_ok());
+    assert_eq!(rt; values, [5, 7, 7, 9, 12]);
+    let mut values = [0; 10];
+    let mut has = [false; 10];
+    let bytes = b"\x01\x01\0\0\0\0\0\0\x03\xe8\0\0\0\0\0\0\0\x03\xe8".as_slice();
+    assert!(rt; read_number_chunk(bytes, &mut [0; 10], &mut has, &mut values).is_ok());
+    assert_eq!(rt; values, TEN);
+    assert_eq!(rt;
+        read_number_chunk(PACKED, &mut [0; 10], &mut has, &mut values),
+        Err(ChunkFault::NotShortestKind)
+    );
 }

@@ -111,3 +111,15 @@ returns-clause-back c = λ items count fit are.
           ∙ ap₂ (λ (z : ℤ) (cs : List ℕ). map (value_at_height z) cs) is back.1
           ∙ values-heights (least_value items) items (least_bounds items),
     )
+
+pub returns-clause-told : goal.returns-clause-told
+returns-clause-told c =
+    let bytes = c.args.bytes.now in
+    let least = c.least_in-least.result in
+    let fits : FitsSigned w64 least = search rules in
+    let is : to_z w64 (of_z w64 least) ≡ least_in w64 bytes =
+    to_z-of_z w64 least fits ∙ c.least_in-least.ensures in
+    c.write_values.ensures
+    ∙ ap₂ (λ (z : ℤ) (cs : List ℕ). map (value_at_height z) cs) is
+    (c.in_ok-read_headed.ensures.behind
+    ∙ ap (λ (n : ℕ). codes_behind 8 n bytes) c.requires.room)

@@ -6,8 +6,8 @@ use Rattle.std.specs.Int.{w64}
 use Rattle.std.proofs.lemmas.Bool.{false≢true}
 use Rattle.std.proofs.lemmas.Int.{to_z-of_z}
 use Rattle.std.proofs.lemmas.List.{take_rest}
-use Rattle.typed_chunk.specs.Frame.{IsFrame, unsigned_word}
-use Rattle.typed_chunk.specs.Rising.{IsRising, last_fault, values_from}
+use Rattle.typed_chunk.specs.Frame.{IsFrame, numbers_in, unsigned_word}
+use Rattle.typed_chunk.specs.Rising.{IsRising, last_fault, rising_first, values_from}
 use Rattle.typed_chunk.proofs.HeadedLaws.{some_not_none}
 use Rattle.typed_chunk.proofs.RisingLaws.{last_kept}
 use Rattle.typed_chunk.proofs.RisingReadLaws.{fits_below, last_passed, last_refused, rising_parts}
@@ -120,3 +120,17 @@ returns-clause-back c = λ items count fit are.
       c.write_values.ensures
           ∙ ap₂ (λ (z : ℤ) (ns : List ℕ). z ∷ values_from z ns) is back.1 ∙ p.is,
     )
+
+pub returns-clause-told : goal.returns-clause-told
+returns-clause-told c =
+    let bytes = c.args.bytes.now in
+    let count = length c.args.values.now in
+    let first = c.first_in-first.result in
+    let fits : FitsSigned w64 first = search rules in
+    let is : to_z w64 (of_z w64 first) ≡ rising_first w64 bytes =
+    to_z-of_z w64 first fits ∙ c.first_in-first.ensures in
+    let many : length c.args.steps.now ≡ count - 1 = omega (arith, c.requires.room) in
+    c.write_values.ensures
+    ∙ ap₂ (λ (z : ℤ) (ns : List ℕ). z ∷ values_from z ns) is
+    (c.in_ok-read_naturals.ensures.behind
+    ∙ ap₂ (λ (n : ℕ) (bs : List ℕ). numbers_in 8 n bs) many (take_rest bytes 8))
