@@ -69,12 +69,12 @@ interval_in bytes = record {
 }
 
 -- The extension value in the first bytes, of a type whose values all take as many.
-abbrev pub extension_in : ScalarType → List ℕ → Option Extension
-extension_in types.Date bytes = Some (date (date_in bytes))
-extension_in types.Timestamp bytes = Some (timestamp (timestamp_in bytes))
-extension_in types.ZonedTimestamp bytes = Some (timestamp_tz (zoned_timestamp_in bytes))
-extension_in types.Interval bytes = Some (interval (interval_in bytes))
-extension_in type bytes = None
+abbrev pub extension_at : ScalarType → List ℕ → Option Extension
+extension_at types.Date bytes = Some (date (date_in bytes))
+extension_at types.Timestamp bytes = Some (timestamp (timestamp_in bytes))
+extension_at types.ZonedTimestamp bytes = Some (timestamp_tz (zoned_timestamp_in bytes))
+extension_at types.Interval bytes = Some (interval (interval_in bytes))
+extension_at type bytes = None
 
 -- The value in the first bytes, of a type whose values all take as many.
 abbrev pub fixed_value : ScalarType → List ℕ → Option Tree
@@ -84,7 +84,7 @@ fixed_value types.Int64 bytes =
 fixed_value types.UInt64 bytes = option_map number (number_of 0 (pos (big_number 8 bytes)))
 fixed_value (types.Decimal scale) bytes =
     option_map number (number_of scale (cast_signed w128 (big_number 16 bytes)))
-fixed_value type bytes = option_map extension (extension_in type bytes)
+fixed_value type bytes = option_map extension (extension_at type bytes)
 
 -- The value of a row in the buffers of a column of the type.
 abbrev pub value_tree : ScalarType → List ℕ → List ℕ → ℕ → Option Tree

@@ -11,7 +11,7 @@ pub use Rattle.jsonb_typed_file.specs.Layout.{HasTrailingData, IsCutOff}
 pub use Rattle.jsonb_typed_file.specs.Views.{buffers_view, layout_view}
 pub use Rattle.jsonb_typed_file.specs.Values.{AreColumnTexts, Column, HasRows, HasTexts, IsChecked}
 pub use Rattle.jsonb_typed_file.specs.Values.{IsSpanAt, IsTextOfRow, cell_within, column_cell}
-pub use Rattle.jsonb_typed_file.specs.Values.{date_in, extension_in, fixed_value, interval_in}
+pub use Rattle.jsonb_typed_file.specs.Values.{date_in, extension_at, fixed_value, interval_in}
 pub use Rattle.jsonb_typed_file.specs.Values.{is_set, number_at, number_size, string_at}
 pub use Rattle.jsonb_typed_file.specs.Values.{timestamp_in, value_size, value_tree}
 pub use Rattle.jsonb_typed_file.specs.Values.{zoned_timestamp_in}

@@ -3,7 +3,7 @@
 ghost use Rattle.std.specs.Prelude.{◌≡◌, ◌≤◌, ◌+◌, drop, length, option_map};
 ghost use Rattle.std.specs.Int.{w32, w64, w128, cast_signed};
 ghost use Rattle.byteorder.specs.Endian.{big_number};
-ghost use Rattle.jsonb_typed_file.specs.Words.{date_in, extension_in, extension_of, fixed_value};
+ghost use Rattle.jsonb_typed_file.specs.Words.{date_in, extension_at, extension_of, fixed_value};
 ghost use Rattle.jsonb_typed_file.specs.Words.{interval_in, number, number_of, stored_view};
 ghost use Rattle.jsonb_typed_file.specs.Words.{timestamp_in, value_size, zoned_timestamp_in};
 
@@ -52,7 +52,7 @@ fn number<'a>(scale: u8, value: i128) -> Option<StoredValue<'a>>
 // The extension value in the first bytes, of a type whose values all take as many.
 fn extension_in<'a>(column_type: ScalarType, bytes: &[u8]) -> Option<ExtensionValue<'a>>
     requires { value_size column_type ≤ length bytes.now }
-    ensures { option_map extension_of result ≡ extension_in column_type bytes.now }
+    ensures { option_map extension_of result ≡ extension_at column_type bytes.now }
 {
     match column_type {
         ScalarType::Date => Some(ExtensionValue::Date(date_in(bytes))),

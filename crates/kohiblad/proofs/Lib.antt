@@ -6,6 +6,7 @@ pub mod ReadLaws
 pub mod FoundPlaces
 pub mod KeyTestLaws
 pub mod KeyWriting
+pub mod ListedLaws
 pub mod LongTexts
 pub mod Lookups
 pub mod MadeDocuments
@@ -18,6 +19,7 @@ pub mod Orders
 pub mod OverRowsLaws
 pub mod PartLaws
 pub mod PathCallLaws
+pub mod PathQueryLaws
 pub mod PlaceLaws
 pub mod PrefixLaws
 pub mod EditRooms

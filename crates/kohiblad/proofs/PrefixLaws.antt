@@ -12,7 +12,7 @@ use Rattle.jsonb_codec.specs.WordBytes.{header_at}
 use Rattle.jsonb.specs.declared.entries.Entry.{Entry}
 use Rattle.jsonb.specs.declared.lookup.prefix.Progress.{Progress}
 use Rattle.jsonb.specs.Entries.{entry_count}
-use Rattle.jsonb.specs.Prefix.{item_entry, item_under, some_entry, index_stops, next_stop}
+use Rattle.jsonb.specs.Prefix.{item_entry, item_below, some_entry, index_stops, next_stop}
 use Rattle.jsonb.specs.Prefix.{progress_of, IsProgress, IsIndexProgress}
 use Rattle.jsonb.specs.Steps.{◌>>=◌}
 use Rattle.jsonb.specs.Walk.{count_if, count_under}
@@ -24,7 +24,7 @@ use Rattle.kohiblad.proofs.PlaceLaws.{part_past, part_read, place_of_item_stored
 -- The item at an index is the part with that number.
 module _ (b : List ℕ) (index : ℕ) where
   item_numbered : (h : ℕ × ℕ) → header_at b 0 ≡ Ok h → (n : ℕ) → entry_count h ≡ n
-      → item_under b index (Ok (Some n)) ≡ part_in b index
+      → item_below b index (Ok (Some n)) ≡ part_in b index
   item_numbered h is n count = elim (leb_tells (suc index) n) [
     | inl among ↦
         ap (λ (inside : Bool). if inside then some_entry (item_entry b index n) else Ok None)
@@ -38,21 +38,21 @@ module _ (b : List ℕ) (index : ℕ) where
   ]
 
   item_tagged : (h : ℕ × ℕ) → header_at b 0 ≡ Ok h
-      → item_under b index (Ok (count_if ARRAY_CONTAINER_TAG h)) ≡ item_part b index h
+      → item_below b index (Ok (count_if ARRAY_CONTAINER_TAG h)) ≡ item_part b index h
   item_tagged h is = by (h.0 == ARRAY_CONTAINER_TAG) refl where
     by : (tagged : Bool) → (h.0 == ARRAY_CONTAINER_TAG) ≡ tagged
-        → item_under b index (Ok (if tagged then Some h.1 else None))
+        → item_below b index (Ok (if tagged then Some h.1 else None))
         ≡ (if tagged then part_in b index else Ok None)
     by true tag = item_numbered h is h.1 (rw tag refl)
     by false tag = refl
 
   item_by : (r : Result (ℕ × ℕ) Error) → header_at b 0 ≡ r
-      → item_under b index (r >>= λ h. Ok (count_if ARRAY_CONTAINER_TAG h))
+      → item_below b index (r >>= λ h. Ok (count_if ARRAY_CONTAINER_TAG h))
       ≡ (r >>= item_part b index)
   item_by (Ok h) is = item_tagged h is
   item_by (Err e) is = refl
 
-  item_same : item_under b index (count_under b ARRAY_CONTAINER_TAG) ≡ place_of_item b index
+  item_same : item_below b index (count_under b ARRAY_CONTAINER_TAG) ≡ place_of_item b index
   unfolding count_under
   item_same = item_by (header_at b 0) refl
 
@@ -75,7 +75,7 @@ item_document index b hand progress t h doc =
 
       by : (next : Option ℕ)
           → ((end : ℕ) → next ≡ Some end → (hand < end) × (end ≤ length b))
-          → IsProgress next (λ found. found ≡ item_under b index (count_under b ARRAY_CONTAINER_TAG))
+          → IsProgress next (λ found. found ≡ item_below b index (count_under b ARRAY_CONTAINER_TAG))
           progress
           → IsItemInDocument index b t hand progress
       by (Some end) past h = rw h (past end refl)

@@ -19,7 +19,7 @@ use Rattle.kohiblad.specs.declared.taking.Reading.TheVariants.{Unchecked}
 use Rattle.kohiblad.specs.TakenTexts.{AreRowTextsTaken, AreTextsMade, AreTextsRefused}
 use Rattle.kohiblad.specs.TakenTexts.{AreTextsTaken, HandingOver, IsBytes, IsBytesAt}
 use Rattle.kohiblad.specs.TakenTexts.{IsBytesUnchecked, IsTextsOf, TextBuffers, ends_from}
-use Rattle.kohiblad.specs.TakenTexts.{low_half, text_offsets}
+use Rattle.kohiblad.specs.TakenTexts.{low_word, text_offsets}
 use Rattle.kohiblad.specs.declared.places.KohibladPlace.{KohibladPlace}
 use Rattle.kohiblad.specs.declared.taking.KohibladTaken.{KohibladTaken}
 use Rattle.kohiblad.specs.declared.taking_texts.BytesType.{BytesType}
@@ -143,22 +143,22 @@ all_texts IsTaken rows left kept so_far none =
 
 -- The low half of one word more is written behind those of the first ones.
 pub one_more_low : (words old now : List ℕ) (n d : ℕ) → n < length words → n < length old
-    → now ≡ map low_half (take n words) ++ drop n old
-    → slice_set now n (low_half (get_or words n d))
-    ≡ map low_half (take (n + 1) words) ++ drop (n + 1) old
+    → now ≡ map low_word (take n words) ++ drop n old
+    → slice_set now n (low_word (get_or words n d))
+    ≡ map low_word (take (n + 1) words) ++ drop (n + 1) old
 one_more_low words old now n d some room is =
-    let front = map low_half (take n words) in
+    let front = map low_word (take n words) in
     let long : length front ≡ n =
-    length-map (take n words) low_half ∙ length-take-le n words (omega arith) in
-    let more : map low_half (take (n + 1) words) ≡ front ++ low_half (get_or words n d) ∷ [] =
-    ap (λ (xs : List ℕ). map low_half xs) (take_more words n d some)
-    ∙ map-append low_half (take n words) (get_or words n d ∷ []) in
-    one_more_in front old now n (low_half (get_or words n d)) long room is
+    length-map (take n words) low_word ∙ length-take-le n words (omega arith) in
+    let more : map low_word (take (n + 1) words) ≡ front ++ low_word (get_or words n d) ∷ [] =
+    ap (λ (xs : List ℕ). map low_word xs) (take_more words n d some)
+    ∙ map-append low_word (take n words) (get_or words n d ∷ []) in
+    one_more_in front old now n (low_word (get_or words n d)) long room is
     ∙ ap (λ (xs : List ℕ). xs ++ drop (n + 1) old) (sym more)
 
 -- Of texts that are not too long each offset has 32 bits.
 low_ends : (start : ℕ) (texts : List (List ℕ)) → start + length (concat texts) < 2 ^ 32
-    → map low_half (ends_from start texts) ≡ ends_from start texts
+    → map low_word (ends_from start texts) ≡ ends_from start texts
 low_ends start [] short = refl
 low_ends start (text ∷ texts) short =
     let next = start + length text in
@@ -168,7 +168,7 @@ low_ends start (text ∷ texts) short =
     ap₂ (λ (k : ℕ) (xs : List ℕ). k ∷ xs) here (low_ends next texts (omega arith))
 
 pub short_offsets : (texts : List (List ℕ)) → length (concat texts) ≤ 2 ^ 31 - 1
-    → map low_half (text_offsets texts) ≡ text_offsets texts
+    → map low_word (text_offsets texts) ≡ text_offsets texts
 short_offsets texts short =
     ap (λ (xs : List ℕ). 0 ∷ xs) (low_ends 0 texts (omega arith))
 

@@ -16,7 +16,7 @@ use Rattle.jsonb_codec.specs.declared.constants.TheConstants.{NUMBER_TAG}
 use Rattle.jsonb.specs.Entry.{entry_there, Code}
 use Rattle.jsonb.specs.Lookup.{find_pair}
 use Rattle.jsonb.specs.Node.{IsContainer, node_tree, value_of_key}
-use Rattle.jsonb.specs.StoredEntries.{AreMemberEntriesOf, find_entry}
+use Rattle.jsonb.specs.StoredEntries.{AreMemberEntriesOf, IsEntryAt, find_entry}
 use Rattle.jsonb.specs.declared.node.Node.{Node}
 use Rattle.jsonb.specs.declared.entries.Entry.{Entry}
 use Rattle.jsonb.proofs.KindLaws.{container_cases}
@@ -91,6 +91,16 @@ module _ (b name : List ℕ) where
   key_held (object ps) found (ms, (stored, (o, (is, there)))) =
       rw is (held_among ms ps stored.mean o there)
   key_held t found is = rw is tt
+
+  -- The entry that is found in a document has the place of the key's value.
+  pub entry_placed : (t : Tree) (found : Result (Option Entry) Error)
+      → IsOkAnd found (λ (o : Option Entry).
+      IsEntryAt (is_name name) (length name) b t (option_map (entry_there b) o))
+      → IsValuePlace b t name found
+  entry_placed (object ps) (Ok o) (ms, (stored, is)) = (ms, (stored, (o, (refl, sym is))))
+  entry_placed t (Ok None) is = refl
+  entry_placed t (Ok (Some entry)) is = absurd cc
+  entry_placed t (Err e) is = absurd is
 
   end_of_key : (o : Option Tree) → if_there o (λ u. found_at [] u) ≡ o
   end_of_key None = refl

@@ -7,6 +7,7 @@ pub mod Parts
 pub mod Rows
 pub mod SortOrder
 pub mod KindAnswer
+pub mod ListedSource
 pub mod NamedPaths
 pub mod Output
 pub mod OverRows
@@ -15,6 +16,8 @@ pub mod Children
 pub mod Scalars
 pub mod Functions
 pub mod PathCalls
+pub mod PathQueries
+pub mod PathTexts
 pub mod Names
 pub mod Picked
 pub mod WithMemory

@@ -83,6 +83,22 @@ out_of_form = 23
 abbrev pub not_read_back : ℕ
 not_read_back = 24
 
+-- The name of a status by which a path is given up.
+abbrev pub path_status_name : ℕ → List ℕ
+path_status_name status =
+    if status == 25 then codes "MemberNotFound"
+    else if status == 26 then codes "ObjectNotFound"
+    else if status == 27 then codes "ArrayNotFound"
+    else if status == 28 then codes "InvalidSubscript"
+    else if status == 29 then codes "NonNumericItem"
+    else if status == 30 then codes "SingletonRequired"
+    else if status == 31 then codes "NumberNotFound"
+    else if status == 32 then codes "DivisionByZero"
+    else if status == 33 then codes "OutOfRange"
+    else if status == 34 then codes "UndefinedVariable"
+    else if status == 35 then codes "BooleanRequired"
+    else codes "Unknown"
+
 -- The name of a status.
 abbrev pub status_name : ℕ → List ℕ
 status_name status =
@@ -111,7 +127,7 @@ status_name status =
     else if status == wrong_length then codes "WrongLength"
     else if status == out_of_form then codes "OutOfForm"
     else if status == not_read_back then codes "NotReadBack"
-    else codes "Unknown"
+    else path_status_name status
 
 -- The result was copied to the start of the buffer, and the rest is unchanged.
 abbrev pub IsCopied : {A : Type 0} → List A → List A → List A → Type 0

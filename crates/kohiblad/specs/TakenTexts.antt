@@ -152,5 +152,5 @@ AreTextsTaken AreHandedOver IsTaken bytes offsets path b answer =
     (λ rows steps. AreRowTextsTaken AreHandedOver (IsTaken steps) rows b answer) bytes offsets path
 
 -- The low 32 bits of a word.
-abbrev pub low_half : ℕ → ℕ
-low_half word = word % (2 ^ 32)
+abbrev pub low_word : ℕ → ℕ
+low_word word = word % (2 ^ 32)

@@ -66,6 +66,6 @@ pub use Rattle.kohiblad.specs.Scalars.{no_decimal, no_extension, no_integer, no_
 pub use Rattle.kohiblad.specs.Scalars.{scale, text_place, truth_answer, why_none}
 pub use Rattle.kohiblad.specs.SortOrder.{AreRowsOrdered, IsOrderOf}
 pub use Rattle.kohiblad.specs.Status.{IsAnswered, IsHandedOver, IsRefused, code, sign, status_name}
-pub use Rattle.kohiblad.specs.Status.{IsLongHandedOver, IsOneAnswered, too_deep}
+pub use Rattle.kohiblad.specs.Status.{IsLongHandedOver, IsOneAnswered, path_status_name, too_deep}
 pub use Rattle.kohiblad.specs.TextFaults.{IsTextExpected, IsTextFault, no_classes, no_fault}
 pub use Rattle.kohiblad.specs.TextFaults.{reason_status}

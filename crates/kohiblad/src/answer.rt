@@ -2,7 +2,7 @@
 
 ghost use Rattle.std.specs.Prelude.{◌≡◌, ◌+◌, ◌<◌, ◌^◌, IfErr, IfOk, length};
 ghost use Rattle.kohiblad.specs.Words.{scalar_bytes, code, status_name, IsHandedOver, IsRefused};
-ghost use Rattle.kohiblad.specs.Words.{IsAnswered, result_bytes};
+ghost use Rattle.kohiblad.specs.Words.{IsAnswered, path_status_name, result_bytes};
 
 use jsonb::{Error, OwnedJsonb};
 use jsonb_codec::constants::SCALAR_CONTAINER_TAG;
@@ -52,6 +52,39 @@ pub const OUT_OF_FORM: u32 = 23;
 /// The status of a file that did not give its rows back when it was read again.
 pub const NOT_READ_BACK: u32 = 24;
 
+/// The status of a member that a path of SQL/JSON does not find.
+pub const MEMBER_NOT_FOUND: u32 = 25;
+
+/// The status of a value whose members a path asks, and which is no object.
+pub const OBJECT_NOT_FOUND: u32 = 26;
+
+/// The status of a value whose items a path asks, and which is no array.
+pub const ARRAY_NOT_FOUND: u32 = 27;
+
+/// The status of a subscript of a path that is no index, or out of bounds.
+pub const INVALID_SUBSCRIPT: u32 = 28;
+
+/// The status of a value that a path rounds, and which is no number.
+pub const NON_NUMERIC_ITEM: u32 = 29;
+
+/// The status of an operand of a path that is not one number.
+pub const SINGLETON_REQUIRED: u32 = 30;
+
+/// The status of a value after a sign of a path that is no number.
+pub const NUMBER_NOT_FOUND: u32 = 31;
+
+/// The status of a remainder by zero in a path.
+pub const DIVISION_BY_ZERO: u32 = 32;
+
+/// The status of a number that a path computes, and which does not fit.
+pub const OUT_OF_RANGE: u32 = 33;
+
+/// The status of a variable of a path that is not given.
+pub const UNDEFINED_VARIABLE: u32 = 34;
+
+/// The status of a value that a path gives, and which is not one boolean or null.
+pub const BOOLEAN_REQUIRED: u32 = 35;
+
 /// The first length that the payload of a scalar may not have.
 pub const PAYLOAD_LIMIT: usize = 1 << 28;
 
@@ -95,9 +128,29 @@ pub extern "C" fn kohiblad_status_name(status: u32, out: &mut [u8], length: &mut
         22 => "WrongLength",
         23 => "OutOfForm",
         24 => "NotReadBack",
-        _ => "Unknown",
+        _ => path_status_name(status),
     };
     hand_over(name.as_bytes(), out, length)
+}
+
+// The name of a status by which a path is given up.
+fn path_status_name(status: u32) -> &'static str
+    ensures { result.now ≡ path_status_name status }
+{
+    match status {
+        25 => "MemberNotFound",
+        26 => "ObjectNotFound",
+        27 => "ArrayNotFound",
+        28 => "InvalidSubscript",
+        29 => "NonNumericItem",
+        30 => "SingletonRequired",
+        31 => "NumberNotFound",
+        32 => "DivisionByZero",
+        33 => "OutOfRange",
+        34 => "UndefinedVariable",
+        35 => "BooleanRequired",
+        _ => "Unknown",
+    }
 }
 
 /// The status of an error, from 1 to 10.

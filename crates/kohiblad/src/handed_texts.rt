@@ -4,7 +4,7 @@ ghost use Rattle.std.specs.Prelude.{◌-◌, ◌^◌, ◌≡◌, ◌≤◌, List
 ghost use Rattle.kohiblad.specs.Status.{IsCopied};
 ghost use Rattle.kohiblad.specs.TakenTexts.{AreRowTextsTaken, AreTextsHandedOver, AreTextsTaken};
 ghost use Rattle.kohiblad.specs.TakenTexts.{AreTextsWithin, IsBytesAt, IsBytesRow, IsTextAt};
-ghost use Rattle.kohiblad.specs.TakenTexts.{IsTextsOf, low_half, text_outputs};
+ghost use Rattle.kohiblad.specs.TakenTexts.{IsTextsOf, low_word, text_outputs};
 ghost use Rattle.kohiblad.specs.Words.{meaning_within};
 
 use crate::answer::{NO_ROOM, code};
@@ -174,7 +174,7 @@ fn copy_in<T: Copy>(items: &[T], out: &mut [T])
 // Copies the low 32 bits of the words to the start of the buffer, which has room for them.
 fn copy_low_halves(words: &[usize], out: &mut [u32])
     requires { length words.now ≤ length out.old }
-    ensures { IsCopied (map low_half words.now) out.old out.new }
+    ensures { IsCopied (map low_word words.now) out.old out.new }
 {
     let mut number = 0;
     for word in words {
@@ -185,7 +185,7 @@ fn copy_low_halves(words: &[usize], out: &mut [u32])
 
 // The low 32 bits of a word.
 fn low_half(word: usize) -> u32
-    ensures { result ≡ low_half word }
+    ensures { result ≡ low_word word }
 {
     (word % (1 << 32)) as u32
 }

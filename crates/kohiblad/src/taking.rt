@@ -238,8 +238,41 @@ pub fn opened_member<'a>(document: Document<'a>, path: &[Step<'_>]) -> Option<No
 
 // The same for a row that is not checked.
 #[inline(always)]
-#[tactic(auto, using(crate::proofs::UncheckedLaws::empty_taken, crate::proofs::UncheckedLaws::place_taken, crate::proofs::UncheckedLaws::none_taken, crate::proofs::UncheckedLaws::error_taken))]
 fn take_unchecked<T: ColumnType>(
+    row: &[u8],
+    path: &[Step<'_>],
+    column_type: &T,
+    blank: T::Value,
+) -> (T::Value, u8)
+    requires { HoldsScalars (T.stands column_type.now) }
+    ensures { IsTakenBy (T.stands column_type.now) blank Reading.Unchecked path.now row.now result }
+{
+    // In code of its own the place that a look-up of one key finds is not copied.
+    if let [Step::Key(_)] = path {
+        take_by_place(row, path, column_type, blank)
+    } else {
+        take_at_path_end(row, path, column_type, blank)
+    }
+}
+
+// The same for a path of any steps. It is not in line, for the sake of paths of one key.
+#[inline(never)]
+fn take_at_path_end<T: ColumnType>(
+    row: &[u8],
+    path: &[Step<'_>],
+    column_type: &T,
+    blank: T::Value,
+) -> (T::Value, u8)
+    requires { HoldsScalars (T.stands column_type.now) }
+    ensures { IsTakenBy (T.stands column_type.now) blank Reading.Unchecked path.now row.now result }
+{
+    take_by_place(row, path, column_type, blank)
+}
+
+// The same, at the place of the member.
+#[inline(always)]
+#[tactic(auto, using(crate::proofs::UncheckedLaws::empty_taken, crate::proofs::UncheckedLaws::place_taken, crate::proofs::UncheckedLaws::none_taken, crate::proofs::UncheckedLaws::error_taken))]
+fn take_by_place<T: ColumnType>(
     row: &[u8],
     path: &[Step<'_>],
     column_type: &T,

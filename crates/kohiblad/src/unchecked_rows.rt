@@ -10,9 +10,8 @@ ghost use Rattle.kohiblad.specs.Located.{entry_state};
 ghost use Rattle.kohiblad.specs.UncheckedRows.{IsReadAs};
 ghost use Rattle.kohiblad.specs.Words.{Doc, IsPayloadOf, Tree, node_tree};
 
-use crate::places::place_of_name;
 use crate::taking::{NO_DOCUMENT, UNFIT};
-use jsonb::layer::Entry;
+use jsonb::layer::{Entry, find_entry};
 use jsonb::{Error, ExtensionItem, Node, NumberItem};
 use jsonb_codec::constants::{
     CONTAINER_TAG, EXTENSION_TAG, FALSE_TAG, NULL_TAG, NUMBER_TAG, STRING_TAG, TRUE_TAG,
@@ -52,7 +51,7 @@ pub fn member_place(row: &[u8], path: &[Step<'_>]) -> Result<Option<Entry>, Erro
     };
     match step {
         // A look-up of one key takes less time than a walk over all of them.
-        Step::Key(name) => place_of_name(row, name),
+        Step::Key(name) => find_entry(row, name),
         _ => path_end(row, path),
     }
 }

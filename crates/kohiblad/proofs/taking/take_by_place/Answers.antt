@@ -1,6 +1,6 @@
 use Rattle.jsonb_codec.proofs.Scalars.{empty_test}
 use Rattle.kohiblad.proofs.UncheckedLaws.{empty_taken}
-use Rattle.kohiblad.proofs.taking.take_unchecked.Goals as goal
+use Rattle.kohiblad.proofs.taking.take_by_place.Goals as goal
 
 pub returns-then-is_empty : goal.returns-then-is_empty
 returns-then-is_empty g c =
