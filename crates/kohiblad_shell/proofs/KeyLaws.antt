@@ -1,6 +1,6 @@
 -- Keys of documents, and of what paths lead to.
 use Rattle.std.proofs.Common.{◌≡◌, ℕ, ◌+◌, ◌<◌, List, [], ◌∷◌, ◌++◌, length, take, refl, sym, ap}
-use Rattle.std.proofs.Common.{◌∙◌, append_assoc, Vec, Global, true, ◌==◌, arith}
+use Rattle.std.proofs.Common.{◌∙◌, append_assoc, true, ◌==◌, arith}
 use Rattle.std.proofs.lemmas.Bool.Decides.{nat_tests}
 use Rattle.std.proofs.lemmas.List.{append-nil, take_more}
 use Rattle.std.specs.Prelude.{slice_index_or}
@@ -10,8 +10,8 @@ use Rattle.jsonb.specs.declared.sort_key.SortKey.TheVariants as keys
 use Rattle.jsonb.specs.Document.{document_tree}
 use Rattle.jsonb.specs.SortKey.{key_meaning}
 use Rattle.jsonb_comparable.specs.TreeKey.{meaning_key, tree_key}
-use Rattle.jsonb_functions.specs.Selected.{selected, first_tree}
-use Rattle.jsonb_functions.specs.declared.selection.Selector.{Selector}
+use Rattle.jsonb_path.specs.PathParts.{PathParts}
+use Rattle.kohiblad_shell.specs.Asked.{first_asked}
 use Rattle.kohiblad_shell.specs.Keys.{path_key, path_keys, row_key}
 
 -- the key of a document is that of its tree
@@ -20,34 +20,34 @@ pub document_key : (d : Document)
 unfolding meaning_key
 document_key d = refl
 
-path_keys-append : (ps qs : List (Vec Selector Global)) (t : Tree)
+path_keys-append : (ps qs : List PathParts) (t : Tree)
     → path_keys (ps ++ qs) t ≡ path_keys ps t ++ path_keys qs t
 path_keys-append [] qs t = refl
 path_keys-append (p ∷ ps) qs t =
-    ap (λ b. path_key (first_tree (selected p.items t)) ++ b) (path_keys-append ps qs t)
-    ∙ sym (append_assoc (path_key (first_tree (selected p.items t))) (path_keys ps t)
+    ap (λ b. path_key (first_asked p t) ++ b) (path_keys-append ps qs t)
+    ∙ sym (append_assoc (path_key (first_asked p t)) (path_keys ps t)
     (path_keys qs t))
 
 -- one more path
-pub path_keys-more : (paths : List (Vec Selector Global)) (i : ℕ) (path : Vec Selector Global)
+pub path_keys-more : (paths : List PathParts) (i : ℕ) (path : PathParts)
     (t : Tree) → i < length paths → path ≡ slice_index_or paths i path
     → path_keys (take (i + 1) paths) t
-    ≡ path_keys (take i paths) t ++ path_key (first_tree (selected path.items t))
+    ≡ path_keys (take i paths) t ++ path_key (first_asked path t)
 path_keys-more paths i path t low is =
     ap (λ ps. path_keys ps t)
     (take_more paths i path low ∙ ap (λ r. take i paths ++ r ∷ []) (sym is))
     ∙ path_keys-append (take i paths) (path ∷ []) t
     ∙ ap (λ b. path_keys (take i paths) t ++ b)
-    (append-nil (path_key (first_tree (selected path.items t))))
+    (append-nil (path_key (first_asked path t)))
 
 -- no path
-row_key-none : (paths : List (Vec Selector Global)) (t : Tree)
+row_key-none : (paths : List PathParts) (t : Tree)
     → true ≡ (length paths == 0) → tree_key t ≡ row_key paths t
 row_key-none [] t none = refl
 row_key-none (p ∷ ps) t none = absurd (grind (arith, nat_tests))
 
 -- the key of a whole document, where there is no path
-pub document_row_key : (paths : List (Vec Selector Global)) (d : Document) (old new : List ℕ)
+pub document_row_key : (paths : List PathParts) (d : Document) (old new : List ℕ)
     → old ≡ [] → true ≡ (length paths == 0)
     → new ≡ old ++ meaning_key (key_meaning (keys.Document d))
     → new ≡ row_key paths (document_tree d)

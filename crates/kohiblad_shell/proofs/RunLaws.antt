@@ -18,7 +18,7 @@ use Rattle.kohiblad_shell.specs.Faults.{cut_after, fault_line}
 use Rattle.kohiblad_shell.specs.Inputs.{ReadsRow}
 use Rattle.kohiblad_shell.specs.Outcomes.{Outcome, LineRule, Answers, none, more, cut, output_of}
 use Rattle.kohiblad_shell.specs.Outcomes.{AnswersNext, reports_of, row_count, fault_count}
-use Rattle.kohiblad_shell.specs.Outcomes.{stops_at, stops_in}
+use Rattle.kohiblad_shell.specs.Outcomes.{KeepsRule, after_all, after_answer, stops_at, stops_in}
 use Rattle.kohiblad_shell.specs.Runs.{BeginsRun, GoesOnToLast, IsRun}
 
 -- ---- one more outcome
@@ -58,6 +58,19 @@ module _ {rule : LineRule} {form : Form} where
   Answers-append none later = later
   Answers-append (more next answer others) later = more next answer (Answers-append others later)
   Answers-append (cut part is others) later = cut part is (Answers-append others later)
+
+after-append : {W : Type 0} (after : W → List ℕ → W) (w : W) (os ps : List Outcome)
+    → after_all after w (os ++ ps) ≡ after_all after (after_all after w os) ps
+after-append after w [] ps = refl
+after-append after w (Ok rows ∷ os) ps = after-append after (after w rows) os ps
+after-append after w (Err fault ∷ os) ps = after-append after w os ps
+
+Answers-of : {rule other : LineRule} {form : Form} {bytes end : List ℕ} {os : List Outcome}
+    → ((line : List ℕ) (o : Outcome) → rule line o → other line o)
+    → Answers rule form bytes os end → Answers other form bytes os end
+Answers-of is none = none
+Answers-of is (more next answer others) = more next (is _ _ answer) (Answers-of is others)
+Answers-of is (cut part ends others) = cut part ends (Answers-of is others)
 
 -- ---- where a run ends
 
@@ -124,10 +137,12 @@ prefix_of_none known bytes =
 -- ---- a run so far
 
 -- The rows before those that are left were answered.
-pub record Taken (rule : LineRule) (plan : Plan) (input left : List ℕ)
+pub record Taken {W : Type 0} (rule : W → LineRule) (after : W → List ℕ → W)
+    (old_worker new_worker : W) (plan : Plan) (input left : List ℕ)
     (old_output new_output old_errors new_errors : Known) (before rows faults : ℕ) : Type 0 where
   pub outcomes : List Outcome
-  pub answered : Answers rule plan.form input outcomes left
+  pub answered : Answers (rule old_worker) plan.form input outcomes left
+  pub worker : new_worker ≡ after_all after old_worker outcomes
   pub output : Appends old_output new_output (output_of outcomes)
   pub errors : Appends old_errors new_errors (reports_of plan.name.now 0 outcomes)
   pub counted : length outcomes ≡ before
@@ -136,19 +151,21 @@ pub record Taken (rule : LineRule) (plan : Plan) (input left : List ℕ)
   pub goes_on : stops_in plan outcomes ≡ false
 
 -- The same where the bytes are known.
-abbrev pub IsSoFar : LineRule → Plan → (input left : Known)
-    → (old_output new_output old_errors new_errors : Known) → (before rows faults : ℕ) → Type 0
-IsSoFar rule plan None left o p e f before rows faults = Unit {0}
-IsSoFar rule plan (Some input) None o p e f before rows faults = ⊥
-IsSoFar rule plan (Some input) (Some left) o p e f before rows faults =
-    Taken rule plan input left o p e f before rows faults
+abbrev pub IsSoFar : {W : Type 0} → (W → LineRule) → (W → List ℕ → W) → (old new : W) → Plan
+    → (input left : Known) → (old_output new_output old_errors new_errors : Known)
+    → (before rows faults : ℕ) → Type 0
+IsSoFar rule after w v plan None left o p e f before rows faults = Unit {0}
+IsSoFar rule after w v plan (Some input) None o p e f before rows faults = ⊥
+IsSoFar rule after w v plan (Some input) (Some left) o p e f before rows faults =
+    Taken rule after w v plan input left o p e f before rows faults
 
-pub run_begins : (rule : LineRule) (plan : Plan) (input o e : Known)
-    → IsSoFar rule plan input input o o e e 0 0 0
-run_begins rule plan None o e = tt
-run_begins rule plan (Some input) o e = record {
+pub run_begins : {W : Type 0} (rule : W → LineRule) (after : W → List ℕ → W) (w : W)
+    (plan : Plan) (input o e : Known) → IsSoFar rule after w w plan input input o o e e 0 0 0
+run_begins rule after w plan None o e = tt
+run_begins rule after w plan (Some input) o e = record {
   outcomes = [];
   answered = none;
+  worker = refl;
   output = appends_nothing o;
   errors = appends_nothing e;
   counted = refl;
@@ -157,14 +174,38 @@ run_begins rule plan (Some input) o e = record {
   goes_on = refl;
 }
 
-module _ (rule : LineRule) (plan : Plan) (o p e f : Known) (before rows faults : ℕ) where
+module _ {W : Type 0} (rule : W → LineRule) (after : W → List ℕ → W) (keeps : KeepsRule rule after)
+    (w v : W) (plan : Plan) (o p e f : Known) (before rows faults : ℕ) where
+  -- the worker follows the rule that it followed at first
+  first_rule : (os : List Outcome) (u : W) (line : List ℕ) (next : Outcome)
+      → rule (after_all after u os) line next → rule u line next
+  first_rule [] u line next is = is
+  first_rule (Ok rows ∷ os) u line next is =
+      keeps u rows line next (first_rule os (after u rows) line next is)
+  first_rule (Err fault ∷ os) u line next is = first_rule os u line next is
+
+  next_answered : {bytes mid end : List ℕ} (os ps : List Outcome) → v ≡ after_all after w os
+      → Answers (rule w) plan.form bytes os mid → Answers (rule v) plan.form mid ps end
+      → Answers (rule w) plan.form bytes (os ++ ps) end
+  next_answered os ps same before_it answer =
+      Answers-append before_it
+      (Answers-of (λ line next is. first_rule os w line next (rw same at is)) answer)
+
+  -- the worker after one more answer
+  next_worker : (os : List Outcome) (u : W) (next : Outcome) → v ≡ after_all after w os
+      → u ≡ after_all after v (next ∷ []) → u ≡ after_all after w (os ++ next ∷ [])
+  next_worker os u next so_far is =
+      is ∙ ap (λ x. after_all after x (next ∷ [])) so_far
+      ∙ sym (after-append after w os (next ∷ []))
+
   taken_begins : {input left : List ℕ} (q h : Known)
-      → Taken rule plan input left o p e f before rows faults → Keeps p q → Keeps f h
-      → BeginsRun rule plan input o q e h
+      → Taken rule after w v plan input left o p e f before rows faults → Keeps p q → Keeps f h
+      → BeginsRun (rule w) after w v plan input o q e h
   taken_begins {left = left} q h t kept held = record {
     outcomes = t.outcomes;
     rest = left;
     answered = t.answered;
+    worker = t.worker;
     output = prefix_of_all (Appends-kept o p q (output_of t.outcomes) t.output kept);
     errors = prefix_of_all
         (Appends-kept e f h (reports_of plan.name.now 0 t.outcomes) t.errors held);
@@ -173,25 +214,27 @@ module _ (rule : LineRule) (plan : Plan) (o p e f : Known) (before rows faults :
 
   -- a run that ends early, with nothing more written
   pub run_stops : (input left q h : Known)
-      → IsSoFar rule plan input left o p e f before rows faults → Keeps p q → Keeps f h
-      → IfSome input (λ i. BeginsRun rule plan i o q e h)
+      → IsSoFar rule after w v plan input left o p e f before rows faults → Keeps p q → Keeps f h
+      → IfSome input (λ i. BeginsRun (rule w) after w v plan i o q e h)
   run_stops None left q h so_far kept held = tt
   run_stops (Some input) None q h so_far kept held = absurd so_far
   run_stops (Some input) (Some left) q h so_far kept held = taken_begins q h so_far kept held
 
   -- nothing is left
-  pub run_ends : (input left new : Known)
-      → IsSoFar rule plan input left o p e f before rows faults
-      → AnswersNext rule plan.form left new End
-      → IfSome input (λ i. IsRun rule plan i o p e f
+  pub run_ends : (input left new : Known) (u : W)
+      → IsSoFar rule after w v plan input left o p e f before rows faults
+      → AnswersNext (rule v) plan.form left new End
+      → u ≡ after_answer after v End
+      → IfSome input (λ i. IsRun (rule w) after w u plan i o p e f
       (record { rows = rows; faults = faults; is_stopped = false }))
-  run_ends None left new so_far read = tt
-  run_ends (Some input) None new so_far read = absurd so_far
-  run_ends (Some input) (Some left) None so_far read = absurd read
-  run_ends (Some input) (Some left) (Some rest) t empty = record {
+  run_ends None left new u so_far read same = tt
+  run_ends (Some input) None new u so_far read same = absurd so_far
+  run_ends (Some input) (Some left) None u so_far read same = absurd read
+  run_ends (Some input) (Some left) (Some rest) u t empty same = record {
     outcomes = t.outcomes;
     rest = left;
     answered = t.answered;
+    worker = same ∙ t.worker;
     output = t.output;
     errors = t.errors;
     stops = all_go_on plan t.outcomes t.goes_on;
@@ -202,21 +245,24 @@ module _ (rule : LineRule) (plan : Plan) (o p e f : Known) (before rows faults :
   }
 
   -- a row gave rows, which were appended
-  pub run_answers : (input left new q : Known) (lines : Vec ℕ Global) (count : ℕ)
-      → IsSoFar rule plan input left o p e f before rows faults
-      → AnswersNext rule plan.form left new (Rows lines) → Appends p q lines.items
+  pub run_answers : (input left new q : Known) (u : W) (lines : Vec ℕ Global) (count : ℕ)
+      → IsSoFar rule after w v plan input left o p e f before rows faults
+      → AnswersNext (rule v) plan.form left new (Rows lines)
+      → u ≡ after_answer after v (Rows lines) → Appends p q lines.items
       → count ≡ row_count (Ok lines.items ∷ [])
-      → IsSoFar rule plan input new o q e f (before + 1) (rows + count) faults
-  run_answers None left new q lines count so_far answer appends is = tt
-  run_answers (Some input) None new q lines count so_far answer appends is = absurd so_far
-  run_answers (Some input) (Some left) None q lines count so_far answer appends is = absurd answer
-  run_answers (Some input) (Some left) (Some rest) q lines count t answer appends is =
+      → IsSoFar rule after w u plan input new o q e f (before + 1) (rows + count) faults
+  run_answers None left new q u lines count so_far answer same appends is = tt
+  run_answers (Some input) None new q u lines count so_far answer same appends is = absurd so_far
+  run_answers (Some input) (Some left) None q u lines count so_far answer same appends is =
+      absurd answer
+  run_answers (Some input) (Some left) (Some rest) q u lines count t answer same appends is =
       let more_output = output-append t.outcomes (Ok lines.items ∷ []) in
       let more_reports = reports-append plan.name.now 0 t.outcomes (Ok lines.items ∷ []) in
       let more_rows = rows-append t.outcomes (Ok lines.items ∷ []) in
       let more_faults = faults-append t.outcomes (Ok lines.items ∷ []) in record {
         outcomes = t.outcomes ++ Ok lines.items ∷ [];
-        answered = Answers-append t.answered answer;
+        answered = next_answered t.outcomes _ t.worker t.answered answer;
+        worker = next_worker t.outcomes u (Ok lines.items) t.worker same;
         output = rw (more_output, append-nil) (appends_both o p q _ _ t.output appends);
         errors = rw (more_reports, append-nil) t.errors;
         counted = omega (arith, t.counted, length-append t.outcomes (Ok lines.items ∷ []));
@@ -226,19 +272,21 @@ module _ (rule : LineRule) (plan : Plan) (o p e f : Known) (before rows faults :
       }
 
   -- only a prefix of the rows was appended
-  pub run_breaks : (input left new q : Known) (lines : Vec ℕ Global)
-      → IsSoFar rule plan input left o p e f before rows faults
-      → AnswersNext rule plan.form left new (Rows lines) → AppendsPrefix p q lines.items
-      → IfSome input (λ i. BeginsRun rule plan i o q e f)
-  run_breaks None left new q lines so_far answer appends = tt
-  run_breaks (Some input) None new q lines so_far answer appends = absurd so_far
-  run_breaks (Some input) (Some left) None q lines so_far answer appends = absurd answer
-  run_breaks (Some input) (Some left) (Some rest) q lines t answer appends =
+  pub run_breaks : (input left new q : Known) (u : W) (lines : Vec ℕ Global)
+      → IsSoFar rule after w v plan input left o p e f before rows faults
+      → AnswersNext (rule v) plan.form left new (Rows lines)
+      → u ≡ after_answer after v (Rows lines) → AppendsPrefix p q lines.items
+      → IfSome input (λ i. BeginsRun (rule w) after w u plan i o q e f)
+  run_breaks None left new q u lines so_far answer same appends = tt
+  run_breaks (Some input) None new q u lines so_far answer same appends = absurd so_far
+  run_breaks (Some input) (Some left) None q u lines so_far answer same appends = absurd answer
+  run_breaks (Some input) (Some left) (Some rest) q u lines t answer same appends =
       let more_output = output-append t.outcomes (Ok lines.items ∷ []) in
       let more_reports = reports-append plan.name.now 0 t.outcomes (Ok lines.items ∷ []) in record {
         outcomes = t.outcomes ++ Ok lines.items ∷ [];
         rest = rest;
-        answered = Answers-append t.answered answer;
+        answered = next_answered t.outcomes _ t.worker t.answered answer;
+        worker = next_worker t.outcomes u (Ok lines.items) t.worker same;
         output = rw (more_output, append-nil) (prefix_after_all _ t.output appends);
         errors = rw (more_reports, append-nil) (prefix_of_all t.errors);
         stops = one_more_goes_on plan t.outcomes (Ok lines.items) t.goes_on;
@@ -256,21 +304,24 @@ module _ (rule : LineRule) (plan : Plan) (o p e f : Known) (before rows faults :
       ∙ ap (λ r. reports_of plan.name.now 0 os ++ r) same
 
   -- a row is wrong, and was reported
-  pub run_reports : (input left new q h : Known) (fault : LineFault)
-      → IsSoFar rule plan input left o p e f before rows faults
-      → AnswersNext rule plan.form left new (Wrong fault) → Keeps p q
+  pub run_reports : (input left new q h : Known) (u : W) (fault : LineFault)
+      → IsSoFar rule after w v plan input left o p e f before rows faults
+      → AnswersNext (rule v) plan.form left new (Wrong fault)
+      → u ≡ after_answer after v (Wrong fault) → Keeps p q
       → Appends f h (fault_line plan.name.now (before + 1) fault)
       → stops_at plan (Err fault) ≡ false
-      → IsSoFar rule plan input new o q e h (before + 1) rows (faults + 1)
-  run_reports None left new q h fault so_far answer kept appends goes = tt
-  run_reports (Some input) None new q h fault so_far answer kept appends goes = absurd so_far
-  run_reports (Some input) (Some left) None q h fault t answer kept appends goes = absurd answer
-  run_reports (Some input) (Some left) (Some rest) q h fault t answer kept appends goes =
+      → IsSoFar rule after w u plan input new o q e h (before + 1) rows (faults + 1)
+  run_reports None left new q h u fault so_far answer same kept appends goes = tt
+  run_reports (Some input) None new q h u fault so_far answer same kept appends goes = absurd so_far
+  run_reports (Some input) (Some left) None q h u fault t answer same kept appends goes =
+      absurd answer
+  run_reports (Some input) (Some left) (Some rest) q h u fault t answer same kept appends goes =
       let more_output = output-append t.outcomes (Err fault ∷ []) in
       let more_rows = rows-append t.outcomes (Err fault ∷ []) in
       let more_faults = faults-append t.outcomes (Err fault ∷ []) in record {
         outcomes = t.outcomes ++ Err fault ∷ [];
-        answered = Answers-append t.answered answer;
+        answered = next_answered t.outcomes _ t.worker t.answered answer;
+        worker = next_worker t.outcomes u (Err fault) t.worker same;
         output = rw (more_output, append-nil)
             (Appends-kept o p q (output_of t.outcomes) t.output kept);
         errors = rw (one_report t.outcomes fault t.counted)
@@ -282,23 +333,26 @@ module _ (rule : LineRule) (plan : Plan) (o p e f : Known) (before rows faults :
       }
 
   -- the run ends at a row that is wrong, and was reported
-  pub run_halts : (input left new q h : Known) (fault : LineFault)
-      → IsSoFar rule plan input left o p e f before rows faults
-      → AnswersNext rule plan.form left new (Wrong fault) → Keeps p q
+  pub run_halts : (input left new q h : Known) (u : W) (fault : LineFault)
+      → IsSoFar rule after w v plan input left o p e f before rows faults
+      → AnswersNext (rule v) plan.form left new (Wrong fault)
+      → u ≡ after_answer after v (Wrong fault) → Keeps p q
       → Appends f h (fault_line plan.name.now (before + 1) fault)
       → stops_at plan (Err fault) ≡ true
-      → IfSome input (λ i. IsRun rule plan i o q e h
+      → IfSome input (λ i. IsRun (rule w) after w u plan i o q e h
       (record { rows = rows; faults = faults + 1; is_stopped = true }))
-  run_halts None left new q h fault so_far answer kept appends stops = tt
-  run_halts (Some input) None new q h fault so_far answer kept appends stops = absurd so_far
-  run_halts (Some input) (Some left) None q h fault t answer kept appends stops = absurd answer
-  run_halts (Some input) (Some left) (Some rest) q h fault t answer kept appends stops =
+  run_halts None left new q h u fault so_far answer same kept appends stops = tt
+  run_halts (Some input) None new q h u fault so_far answer same kept appends stops = absurd so_far
+  run_halts (Some input) (Some left) None q h u fault t answer same kept appends stops =
+      absurd answer
+  run_halts (Some input) (Some left) (Some rest) q h u fault t answer same kept appends stops =
       let more_output = output-append t.outcomes (Err fault ∷ []) in
       let more_rows = rows-append t.outcomes (Err fault ∷ []) in
       let more_faults = faults-append t.outcomes (Err fault ∷ []) in record {
         outcomes = t.outcomes ++ Err fault ∷ [];
         rest = rest;
-        answered = Answers-append t.answered answer;
+        answered = next_answered t.outcomes _ t.worker t.answered answer;
+        worker = next_worker t.outcomes u (Err fault) t.worker same;
         output = rw (more_output, append-nil)
             (Appends-kept o p q (output_of t.outcomes) t.output kept);
         errors = rw (one_report t.outcomes fault t.counted)
@@ -311,19 +365,23 @@ module _ (rule : LineRule) (plan : Plan) (o p e f : Known) (before rows faults :
       }
 
   -- only a prefix of the report was appended
-  pub run_breaks_report : (input left new q h : Known) (fault : LineFault)
-      → IsSoFar rule plan input left o p e f before rows faults
-      → AnswersNext rule plan.form left new (Wrong fault) → Keeps p q
+  pub run_breaks_report : (input left new q h : Known) (u : W) (fault : LineFault)
+      → IsSoFar rule after w v plan input left o p e f before rows faults
+      → AnswersNext (rule v) plan.form left new (Wrong fault)
+      → u ≡ after_answer after v (Wrong fault) → Keeps p q
       → AppendsPrefix f h (fault_line plan.name.now (before + 1) fault)
-      → IfSome input (λ i. BeginsRun rule plan i o q e h)
-  run_breaks_report None left new q h fault so_far answer kept appends = tt
-  run_breaks_report (Some input) None new q h fault so_far answer kept appends = absurd so_far
-  run_breaks_report (Some input) (Some left) None q h fault t answer kept appends = absurd answer
-  run_breaks_report (Some input) (Some left) (Some rest) q h fault t answer kept appends =
+      → IfSome input (λ i. BeginsRun (rule w) after w u plan i o q e h)
+  run_breaks_report None left new q h u fault so_far answer same kept appends = tt
+  run_breaks_report (Some input) None new q h u fault so_far answer same kept appends =
+      absurd so_far
+  run_breaks_report (Some input) (Some left) None q h u fault t answer same kept appends =
+      absurd answer
+  run_breaks_report (Some input) (Some left) (Some rest) q h u fault t answer same kept appends =
       let more_output = output-append t.outcomes (Err fault ∷ []) in record {
         outcomes = t.outcomes ++ Err fault ∷ [];
         rest = rest;
-        answered = Answers-append t.answered answer;
+        answered = next_answered t.outcomes _ t.worker t.answered answer;
+        worker = next_worker t.outcomes u (Err fault) t.worker same;
         output = rw (more_output, append-nil)
             (prefix_of_all (Appends-kept o p q (output_of t.outcomes) t.output kept));
         errors = rw (one_report t.outcomes fault t.counted)

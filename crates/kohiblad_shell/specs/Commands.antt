@@ -30,8 +30,11 @@ operation_of commands.Set (given.Steps path value) =
     Some (operations.Change (changes.Set path value))
 operation_of commands.Remove (given.Removed paths) = Some (operations.Remove paths)
 operation_of commands.Extract (given.Columns columns) = Some (operations.Extract columns)
+operation_of commands.Build (given.Template template) = Some (operations.Build template)
 operation_of commands.Range (given.Range range) = Some (operations.Range range)
+operation_of commands.Keys (given.Template template) = Some (operations.Build template)
 operation_of commands.Keys (given.Keys paths) = Some (operations.Key paths)
+operation_of commands.ComparableKeys (given.Keys paths) = Some (operations.Key paths)
 operation_of commands.Sort (given.Keys paths) = Some (operations.Sort paths)
 operation_of commands.MergeSorted (given.Keys paths) = Some (operations.Sort paths)
 operation_of command operands = None

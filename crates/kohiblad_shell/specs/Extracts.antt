@@ -12,7 +12,7 @@ use Rattle.jsonb_value.specs.Tree.{Tree}
 use Rattle.jsonb_value.specs.declared.extension.Date.{Date}
 use Rattle.jsonb_value.specs.declared.extension.Timestamp.{Timestamp}
 use Rattle.jsonb_value.specs.declared.extension.TimestampTz.{TimestampTz}
-use Rattle.jsonb_functions.specs.Selected.{selected, first_tree}
+use Rattle.kohiblad_shell.specs.Asked.{first_asked}
 use Rattle.jsonb_typed.specs.Scalars.{ScalarOf, Stands}
 use Rattle.jsonb_typed.specs.declared.lattice.LeastType.{LeastType}
 use Rattle.jsonb_typed.specs.declared.lattice.LeastType.TheVariants as types
@@ -107,7 +107,7 @@ IsField reads_dates type (Some t) field = IsFieldOf reads_dates type t field
 -- The same of the first value to which the path leads in a row.
 abbrev pub IsFieldAt : Tree → TypedPath → Option (List ℕ) → Type 0
 IsFieldAt t column field = IsField column.reads_dates column.value_type
-    (first_tree (selected column.path.items t)) field
+    (first_asked column.path t) field
 
 -- The line of a row has a field for each column, with commas between them and a line feed at the
 -- end. There is none if a value is not of the type of its column.

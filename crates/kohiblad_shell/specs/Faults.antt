@@ -8,7 +8,23 @@ use Rattle.kohiblad_shell.specs.declared.outcome.Reason.{Reason}
 use Rattle.kohiblad_shell.specs.declared.outcome.Reason.TheVariants.{BadUtf8, BadSyntax, BadNumber}
 use Rattle.kohiblad_shell.specs.declared.outcome.Reason.TheVariants.{TooDeep, TooLarge}
 use Rattle.kohiblad_shell.specs.declared.outcome.Reason.TheVariants.{BadDocument, Cut, NotSorted}
-use Rattle.kohiblad_shell.specs.declared.outcome.Reason.TheVariants.{NotOfType}
+use Rattle.kohiblad_shell.specs.declared.outcome.Reason.TheVariants.{GivenUp, NotOfType}
+use Rattle.jsonb_path.specs.declared.path.PathError.{PathError}
+use Rattle.jsonb_path.specs.declared.path.PathError.TheVariants as errors
+
+-- The word for why a path is given up.
+abbrev pub path_error_name : PathError → List ℕ
+path_error_name errors.MemberNotFound = codes "MemberNotFound"
+path_error_name errors.ObjectNotFound = codes "ObjectNotFound"
+path_error_name errors.ArrayNotFound = codes "ArrayNotFound"
+path_error_name errors.InvalidSubscript = codes "InvalidSubscript"
+path_error_name errors.NonNumericItem = codes "NonNumericItem"
+path_error_name errors.SingletonRequired = codes "SingletonRequired"
+path_error_name errors.NumberNotFound = codes "NumberNotFound"
+path_error_name errors.DivisionByZero = codes "DivisionByZero"
+path_error_name errors.OutOfRange = codes "OutOfRange"
+path_error_name errors.UndefinedVariable = codes "UndefinedVariable"
+path_error_name errors.BooleanRequired = codes "BooleanRequired"
 
 -- The word for a reason.
 abbrev pub reason_name : Reason → List ℕ
@@ -21,6 +37,7 @@ reason_name BadDocument = codes "InvalidJsonb"
 reason_name Cut = codes "InvalidEOF"
 reason_name NotSorted = codes "NotSorted"
 reason_name NotOfType = codes "NotOfType"
+reason_name (GivenUp error) = path_error_name error
 
 -- Whether the row is cut off.
 abbrev pub is_cut : Reason → Bool

@@ -1,11 +1,9 @@
 -- The keys of rows.
 use Rattle.std.specs.Prelude.{◌≡◌, ℕ, List, [], ◌∷◌, ◌++◌, Option, Some, None, true}
-use Rattle.std.specs.declared.alloc.Global.{Global}
-use Rattle.std.specs.declared.vec.Vec.{Vec}
 use Rattle.jsonb_value.specs.Tree.{Tree}
 use Rattle.jsonb_comparable.specs.TreeKey.{tree_key}
-use Rattle.jsonb_functions.specs.Selected.{selected, first_tree}
-use Rattle.jsonb_functions.specs.declared.selection.Selector.{Selector}
+use Rattle.jsonb_path.specs.PathParts.{PathParts}
+use Rattle.kohiblad_shell.specs.Asked.{first_asked}
 use Rattle.kohiblad_shell.specs.declared.key.GrowingKey.{GrowingKey}
 
 -- The key of what a path leads to; the byte 0, which is below all others, if it leads nowhere.
@@ -14,12 +12,12 @@ path_key None = 0 ∷ []
 path_key (Some t) = tree_key t
 
 -- The keys of the first values to which the paths lead, one after another.
-abbrev pub path_keys : List (Vec Selector Global) → Tree → List ℕ
+abbrev pub path_keys : List PathParts → Tree → List ℕ
 path_keys [] t = []
-path_keys (path ∷ paths) t = path_key (first_tree (selected path.items t)) ++ path_keys paths t
+path_keys (path ∷ paths) t = path_key (first_asked path t) ++ path_keys paths t
 
 -- The key of a row: those of its values at the paths, or its own if there are no paths.
-abbrev pub row_key : List (Vec Selector Global) → Tree → List ℕ
+abbrev pub row_key : List PathParts → Tree → List ℕ
 row_key [] t = tree_key t
 row_key (path ∷ paths) t = path_keys (path ∷ paths) t
 

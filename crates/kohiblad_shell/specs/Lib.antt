@@ -17,8 +17,11 @@ pub mod Removals
 pub mod Ranges
 pub mod IsoTexts
 pub mod Extracts
+pub mod Made
+pub mod Templates
 pub mod Operations
 pub mod Surveys
 pub mod Arguments
+pub mod Asked
 pub mod Commands
 pub mod Words

@@ -1,13 +1,12 @@
 -- What an operation writes for a row.
 use Rattle.std.specs.Prelude.{◌≡◌, ℕ, Bool, true, false, List, [], ◌∷◌, ◌++◌, Option, None, Some}
-use Rattle.std.specs.Prelude.{◌⊎◌, option_to_list, is_some, Result, Ok, Err, ⊤}
+use Rattle.std.specs.Prelude.{◌⊎◌, option_to_list, Result, Ok, Err, ⊤}
 use Rattle.std.specs.declared.alloc.Global.{Global}
 use Rattle.std.specs.declared.vec.Vec.{Vec}
 use Rattle.jsonb_value.specs.declared.error.Error.{Error}
 use Rattle.jsonb_value.specs.declared.error.Error.TheVariants.{InvalidJsonb, OutOfMemory}
 use Rattle.jsonb_value.specs.Text.{compact, pretty}
 use Rattle.jsonb_value.specs.Tree.{Tree, text}
-use Rattle.jsonb_codec.specs.Canon.{canon, Fits}
 use Rattle.jsonb.specs.Document.{document_tree, tree_in}
 use Rattle.hex.specs.Hex.{encode_lower}
 use Rattle.jsonb.specs.StoredRow.{row_bytes}
@@ -15,7 +14,10 @@ use Rattle.jsonb_functions.specs.Contains.{contains_whole}
 use Rattle.jsonb_functions.specs.Edited.{edited_whole, create}
 use Rattle.jsonb_functions.specs.Patched.{patched}
 use Rattle.jsonb_functions.specs.Picked.{picked}
-use Rattle.jsonb_functions.specs.Selected.{selected, first_tree}
+use Rattle.jsonb_path.specs.declared.path.PathError.{PathError}
+use Rattle.jsonb_path.specs.Meaning as meaning
+use Rattle.kohiblad_shell.specs.Asked.{asked, first_of, passes_path}
+use Rattle.kohiblad_shell.specs.declared.outcome.Reason.TheVariants.{GivenUp}
 use Rattle.jsonb_functions.specs.Stripped.{stripped}
 use Rattle.jsonb_functions.specs.declared.choice.Kept.TheVariants.{Named}
 use Rattle.kohiblad_shell.specs.declared.input.Form.{Form}
@@ -26,7 +28,7 @@ use Rattle.kohiblad_shell.specs.declared.operation.Operation.TheVariants.{Check,
 use Rattle.kohiblad_shell.specs.declared.operation.Operation.TheVariants.{Select, Filter, Contains}
 use Rattle.kohiblad_shell.specs.declared.operation.Operation.TheVariants.{Encode, Decode, Key}
 use Rattle.kohiblad_shell.specs.declared.operation.Operation.TheVariants.{Sort, Remove, Range}
-use Rattle.kohiblad_shell.specs.declared.operation.Operation.TheVariants.{Extract, Show}
+use Rattle.kohiblad_shell.specs.declared.operation.Operation.TheVariants.{Build, Extract, Show}
 use Rattle.kohiblad_shell.specs.declared.operation.Operation.TheVariants as operations
 use Rattle.kohiblad_shell.specs.declared.operation.Change.{Change}
 use Rattle.kohiblad_shell.specs.declared.operation.Change.TheVariants.{Set, Merge, Pick}
@@ -40,11 +42,13 @@ use Rattle.kohiblad_shell.specs.Faults.{plain_fault}
 use Rattle.kohiblad_shell.specs.Extracts.{IsExtracted}
 use Rattle.kohiblad_shell.specs.Outcomes.{Outcome}
 use Rattle.kohiblad_shell.specs.Keys.{row_key}
-use Rattle.kohiblad_shell.specs.Inputs.{framed, made_row}
+use Rattle.kohiblad_shell.specs.Made.{IsMade}
+use Rattle.kohiblad_shell.specs.Inputs.{framed}
 use Rattle.kohiblad_shell.specs.Ranges.{is_in_range}
 use Rattle.kohiblad_shell.specs.Removals.{IsRemoved}
 use Rattle.kohiblad_shell.specs.Rows.{IsRow, IsRowFault}
 use Rattle.kohiblad_shell.specs.Sorts.{key_and_line}
+use Rattle.kohiblad_shell.specs.Templates.{IsBuilt, built}
 
 -- The text of a string; none of every other value.
 abbrev pub text_of : Tree → Option (List ℕ)
@@ -89,12 +93,9 @@ document_line Pretty t = pretty t ++ 10 ∷ []
 abbrev pub row_lines : Operation → Form → List ℕ → List ℕ → List ℕ
 row_lines Check form row bytes = []
 row_lines Canonical form row bytes = []
-row_lines (Get path style) form row bytes =
-    value_lines style (option_to_list (first_tree (selected path.now (tree_in bytes))))
-row_lines (Select path style) form row bytes =
-    value_lines style (selected path.now (tree_in bytes))
-row_lines (Filter path) form row bytes =
-    kept_row form (is_some (first_tree (selected path.now (tree_in bytes)))) row
+row_lines (Get path style) form row bytes = []
+row_lines (Select path style) form row bytes = []
+row_lines (Filter path) form row bytes = kept_row form (passes_path path.now (tree_in bytes)) row
 row_lines (Contains part) form row bytes =
     kept_row form (contains_whole (tree_in bytes) (document_tree part)) row
 row_lines (operations.Change change) form row bytes = []
@@ -108,6 +109,7 @@ row_lines (Sort paths) form row bytes =
     key_and_line (row_key paths.now (tree_in bytes)) (framed form row)
 row_lines (Extract columns) form row bytes = []
 row_lines (Show look) form row bytes = []
+row_lines (Build template) form row bytes = []
 
 -- The changed value.
 abbrev pub changed : Change → Tree → Tree
@@ -116,16 +118,27 @@ changed (Merge patch) t = patched t (document_tree patch)
 changed (Pick names) t = picked names.now Named t
 changed StripNulls t = stripped t
 
--- The row of a value that was made, by its canonical document, unless it is too large for one.
-abbrev pub IsMade : Form → Tree → Outcome → Type 0
-IsMade form u (Ok lines) = Fits u × (lines ≡ made_row form (canon u))
-IsMade form u (Err fault) = (Fits u → ⊥) × (fault ≡ plain_fault 0 TooLarge)
-
 -- The row of a value in canonical form.
 abbrev pub IsCanonicalRow : Form → Tree → Outcome → Type 0
 IsCanonicalRow Documents t outcome = IsMade Documents t outcome
 IsCanonicalRow (Lines reading) t (Ok lines) = lines ≡ row_line t
 IsCanonicalRow (Lines reading) t (Err fault) = ⊥
+
+-- These lines, or the fault that a path is given up.
+abbrev pub IsUnlessGivenUp : Option PathError → List ℕ → Outcome → Type 0
+IsUnlessGivenUp None lines (Ok written) = written ≡ lines
+IsUnlessGivenUp None lines (Err fault) = ⊥
+IsUnlessGivenUp (Some e) lines (Ok written) = ⊥
+IsUnlessGivenUp (Some e) lines (Err fault) = fault ≡ plain_fault 0 (GivenUp e)
+
+-- The lines of all values that a path gives, or the fault that it is given up.
+abbrev pub IsGiven : Style → meaning.Outcome → Outcome → Type 0
+IsGiven style o outcome = IsUnlessGivenUp o.error (value_lines style o.values) outcome
+
+-- The same of the first value alone.
+abbrev pub IsFirstGiven : Style → meaning.Outcome → Outcome → Type 0
+IsFirstGiven style o outcome =
+    IsUnlessGivenUp o.error (value_lines style (option_to_list (first_of o.values))) outcome
 
 -- What an operation gives for a row and its document. Of the lines that show the bytes nothing is
 -- said.
@@ -135,6 +148,12 @@ IsRowAnswer (operations.Change change) form row bytes outcome =
 IsRowAnswer (Remove paths) form row bytes outcome = IsRemoved form paths.now bytes outcome
 IsRowAnswer (Extract columns) form row bytes outcome =
     IsExtracted columns.now (tree_in bytes) outcome
+IsRowAnswer (Get path style) form row bytes outcome =
+    IsFirstGiven style (asked path.now (tree_in bytes)) outcome
+IsRowAnswer (Select path style) form row bytes outcome =
+    IsGiven style (asked path.now (tree_in bytes)) outcome
+IsRowAnswer (Build template) form row bytes outcome =
+    IsBuilt form (built template.now (tree_in bytes)) outcome
 IsRowAnswer Canonical form row bytes outcome = IsCanonicalRow form (tree_in bytes) outcome
 IsRowAnswer (Show look) form row bytes (Ok lines) = ⊤
 IsRowAnswer (Show look) form row bytes (Err fault) = ⊥

@@ -56,6 +56,23 @@ AnswersNext rule form None new next = ⊤
 AnswersNext rule form (Some bytes) None next = ⊥
 AnswersNext rule form (Some bytes) (Some rest) next = AnswersFirst rule form bytes rest next
 
+-- Rows that a worker gave change nothing of what later lines may give.
+abbrev pub KeepsRule : {W : Type 0} → (W → LineRule) → (W → List ℕ → W) → Type 0
+KeepsRule {W = W} rule after = (w : W) (rows line : List ℕ) (outcome : Outcome)
+    → rule (after w rows) line outcome → rule w line outcome
+
+-- What a worker is after these outcomes: rows change it, and faults do not.
+abbrev pub after_all : {W : Type 0} → (W → List ℕ → W) → W → List Outcome → W
+after_all after w [] = w
+after_all after w (Ok rows ∷ outcomes) = after_all after (after w rows) outcomes
+after_all after w (Err fault ∷ outcomes) = after_all after w outcomes
+
+-- The same after what the next row gives, if there is one.
+abbrev pub after_answer : {W : Type 0} → (W → List ℕ → W) → W → Answer → W
+after_answer after w (answer.Rows rows) = after w rows.items
+after_answer after w (answer.Wrong fault) = w
+after_answer after w answer.End = w
+
 -- The rows, one after another.
 abbrev pub output_of : List Outcome → List ℕ
 output_of [] = []

@@ -1,23 +1,16 @@
 -- What a survey of the rows of an input counts, and how it is written.
-use Rattle.std.specs.Prelude.{◌≡◌, ◌==◌, ◌++◌, ℕ, suc, List, [], ◌∷◌, Option, None, Some, Ok, Err}
-use Rattle.std.specs.Prelude.{⊤, codes, decimal, false, cond}
-use Rattle.std.specs.Io.KnownBytes.{Appends}
-use Rattle.answer_lines.specs.Output.{AppendsPrefix}
+use Rattle.std.specs.Prelude.{◌==◌, ◌++◌, ℕ, List, [], ◌∷◌, Option, None, Some, Ok, Err}
+use Rattle.std.specs.Prelude.{codes, decimal, cond}
 use Rattle.jsonb.specs.Document.{tree_in}
-use Rattle.jsonb_functions.specs.Selected.{selected, first_tree}
-use Rattle.jsonb_functions.specs.declared.selection.Selector.{Selector}
+use Rattle.jsonb_path.specs.PathParts.{PathParts}
+use Rattle.kohiblad_shell.specs.Asked.{first_asked}
 use Rattle.jsonb_typed.specs.Surveys.{member_cell, with_cell}
 use Rattle.jsonb_typed.specs.declared.survey.Scales.{Scales}
 use Rattle.jsonb_typed.specs.declared.survey.Survey.{Survey}
 use Rattle.kohiblad_shell.specs.declared.input.Form.{Form}
-use Rattle.kohiblad_shell.specs.declared.run.Plan.{Plan}
-use Rattle.kohiblad_shell.specs.declared.run.Summary.{Summary}
-use Rattle.kohiblad_shell.specs.declared.survey.Counted.{Counted}
-use Rattle.kohiblad_shell.specs.declared.survey.Counted.TheVariants as counted
-use Rattle.kohiblad_shell.specs.Outcomes.{Answers, LineRule, Outcome, fault_count, reports_of}
-use Rattle.kohiblad_shell.specs.Outcomes.{stops_in}
+use Rattle.kohiblad_shell.specs.declared.survey.ValueCounter.{ValueCounter}
+use Rattle.kohiblad_shell.specs.Outcomes.{LineRule}
 use Rattle.kohiblad_shell.specs.Rows.{IsRow, IsRowFault}
-use Rattle.kohiblad_shell.specs.Runs.{GoesOnToLast}
 
 -- A row gives its document, or its fault.
 abbrev pub document_rule : Form → LineRule
@@ -25,65 +18,17 @@ document_rule form row (Ok document) = IsRow form row document
 document_rule form row (Err fault) = IsRowFault form row fault
 
 -- A survey with one more document: what the first value is to which the path leads.
-abbrev pub with_document : List Selector → Survey → List ℕ → Survey
+abbrev pub with_document : PathParts → Survey → List ℕ → Survey
 with_document path s document =
-    with_cell s (member_cell (first_tree (selected path (tree_in document))))
+    with_cell s (member_cell (first_asked path (tree_in document)))
 
--- A survey with the documents among these outcomes.
-abbrev pub with_outcomes : List Selector → Survey → List Outcome → Survey
-with_outcomes path s [] = s
-with_outcomes path s (Ok document ∷ outcomes) =
-    with_outcomes path (with_document path s document) outcomes
-with_outcomes path s (Err fault ∷ outcomes) = with_outcomes path s outcomes
-
--- How many of the outcomes are documents.
-abbrev pub document_count : List Outcome → ℕ
-document_count [] = 0
-document_count (Ok document ∷ outcomes) = suc (document_count outcomes)
-document_count (Err fault ∷ outcomes) = document_count outcomes
-
--- The next row was counted, or is wrong and was not, or there is none.
-abbrev pub CountsFirst : List Selector → Form → List ℕ → List ℕ → Survey → Survey → Counted → Type 0
-CountsFirst path form bytes rest old new counted.Row = (document : List ℕ)
-    × (Answers (document_rule form) form bytes (Ok document ∷ []) rest
-    × (new ≡ with_document path old document))
-CountsFirst path form bytes rest old new (counted.Wrong fault) =
-    Answers (document_rule form) form bytes (Err fault ∷ []) rest × (new ≡ old)
-CountsFirst path form bytes rest old new counted.End = (bytes ≡ []) × (new ≡ old)
-
--- The same where the bytes are known.
-abbrev pub CountsNext : List Selector → Form → Option (List ℕ) → Option (List ℕ) → Survey → Survey
-    → Counted → Type 0
-CountsNext path form None rest old new next = ⊤
-CountsNext path form (Some bytes) None old new next = ⊥
-CountsNext path form (Some bytes) (Some rest) old new next =
-    CountsFirst path form bytes rest old new next
-
--- The rows of the input were counted, in order, up to the end, or up to the first fault at which
--- the run ends; the reports of the faults were appended.
-pub record IsSurveyed (path : List Selector) (plan : Plan) (input : List ℕ) (old new : Survey)
-    (old_errors new_errors : Option (List ℕ)) (summary : Summary) : Type 0 where
-  pub outcomes : List Outcome
-  pub rest : List ℕ
-  pub answered : Answers (document_rule plan.form) plan.form input outcomes rest
-  pub counted : new ≡ with_outcomes path old outcomes
-  pub errors : Appends old_errors new_errors (reports_of plan.name.now 0 outcomes)
-  pub stops : GoesOnToLast plan outcomes
-  pub stopped : summary.is_stopped ≡ stops_in plan outcomes
-  pub whole : summary.is_stopped ≡ false → rest ≡ []
-  pub rows : summary.rows ≡ document_count outcomes
-  pub faults : summary.faults ≡ fault_count outcomes
-
--- Some rows of the input were counted, in order, none after a fault at which the run ends; a prefix
--- of the reports was appended.
-pub record BeginsSurvey (path : List Selector) (plan : Plan) (input : List ℕ) (old new : Survey)
-    (old_errors new_errors : Option (List ℕ)) : Type 0 where
-  pub outcomes : List Outcome
-  pub rest : List ℕ
-  pub answered : Answers (document_rule plan.form) plan.form input outcomes rest
-  pub counted : new ≡ with_outcomes path old outcomes
-  pub errors : AppendsPrefix old_errors new_errors (reports_of plan.name.now 0 outcomes)
-  pub stops : GoesOnToLast plan outcomes
+-- What counts values after a row gave this document.
+abbrev pub with_row : ValueCounter → List ℕ → ValueCounter
+with_row counter document = record {
+  path = counter.path;
+  form = counter.form;
+  survey = with_document counter.path.now counter.survey document;
+}
 
 -- ---- how it is written
 

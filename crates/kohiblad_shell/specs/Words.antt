@@ -39,8 +39,8 @@ pub use Rattle.kohiblad_shell.specs.Inputs.{ReadsRow, framed, made_row}
 pub use Rattle.kohiblad_shell.specs.Kinds.{compressed_kind, foreign_kind, input_kind}
 pub use Rattle.kohiblad_shell.specs.Kinds.{is_document_start, is_text_start, kind_words}
 pub use Rattle.kohiblad_shell.specs.Marks.{PassesMark}
-pub use Rattle.kohiblad_shell.specs.Outcomes.{AnswersNext, IsAnswer, IsOutcome, LineRule}
-pub use Rattle.kohiblad_shell.specs.Outcomes.{row_count, stops_at}
+pub use Rattle.kohiblad_shell.specs.Outcomes.{AnswersNext, IsAnswer, IsOutcome, KeepsRule, LineRule}
+pub use Rattle.kohiblad_shell.specs.Outcomes.{after_answer, row_count, stops_at}
 pub use Rattle.kohiblad_shell.specs.Rows.{AreExpected, IsNotJson, IsParsed}
 pub use Rattle.kohiblad_shell.specs.Rows.{IsRefusedLine, IsRefusedRow, IsRow}
 pub use Rattle.kohiblad_shell.specs.Rows.{line_reason, unanswered_of}
@@ -58,12 +58,11 @@ pub use Rattle.kohiblad_shell.specs.IsoTexts.{wall_said}
 pub use Rattle.kohiblad_shell.specs.Ranges.{is_in_range, is_tree_in}
 pub use Rattle.kohiblad_shell.specs.Removals.{IsRemoved, begins_path, path_count, without}
 pub use Rattle.kohiblad_shell.specs.Runs.{BeginsRun, IsRun}
-pub use Rattle.kohiblad_shell.specs.Surveys.{BeginsSurvey, CountsNext, IsSurveyed}
 pub use Rattle.kohiblad_shell.specs.Surveys.{container_count_lines, count_line}
 pub use Rattle.kohiblad_shell.specs.Surveys.{extension_count_lines, length_lines}
 pub use Rattle.kohiblad_shell.specs.Surveys.{number_count_lines, row_count_lines}
 pub use Rattle.kohiblad_shell.specs.Surveys.{scale_lines, survey_lines, time_count_lines}
-pub use Rattle.kohiblad_shell.specs.Surveys.{with_document}
+pub use Rattle.kohiblad_shell.specs.Surveys.{document_rule, with_row}
 pub use Rattle.kohiblad_shell.specs.declared.input.Form.TheVariants.{Documents}
 pub use Rattle.kohiblad_shell.specs.declared.outcome.Unanswered.TheVariants.{OutOfMemory, Wrong}
 pub use Rattle.hex.specs.Hex.{encode_lower}
@@ -77,4 +76,3 @@ pub use Rattle.kohiblad_shell.specs.Operations.{IsCanonicalRow, IsResultOf}
 pub use Rattle.kohiblad_shell.specs.Operations.{IsRowAnswer, changed, document_line, kept_row}
 pub use Rattle.kohiblad_shell.specs.Operations.{raw_text, row_rule, text_of}
 pub use Rattle.kohiblad_shell.specs.Operations.{value_line, value_lines}
-pub use Rattle.jsonb_functions.specs.Selected.{first_tree, selected}

@@ -7,8 +7,10 @@ use crate::extract::TypedPath;
 use crate::operation::{Change, Operation, Style, TextLayout};
 use crate::part_lines::Look;
 use crate::range::ValueRange;
+use crate::template::Template;
 use jsonb::Document;
-use jsonb_functions::{Selector, Step};
+use jsonb_functions::Step;
+use jsonb_path::Path;
 
 /// A command.
 #[derive(Clone, Copy)]
@@ -27,11 +29,13 @@ pub enum Command {
     Remove,
     Merge,
     Pick,
+    Build,
     StripNulls,
     Range,
     Sort,
     MergeSorted,
     Keys,
+    ComparableKeys,
     Encode,
     Decode,
     Show,
@@ -45,21 +49,23 @@ pub enum Operands<'a> {
     /// How texts are laid out.
     Layout(TextLayout),
     /// A path, and how values are written.
-    Path(&'a [Selector<'a>], Style),
+    Path(&'a Path, Style),
     /// A value.
     Value(Document<'a>),
     /// Names of members.
     Names(&'a [&'a str]),
     /// Paths to the values that decide.
-    Keys(&'a [Vec<Selector<'a>>]),
-    /// A path without wildcards, and a value for its end.
+    Keys(&'a [Path]),
+    /// A path of keys and indexes alone, and a value for its end.
     Steps(&'a [Step<'a>], Document<'a>),
-    /// Paths without wildcards.
+    /// Paths of keys and indexes alone.
     Removed(&'a [Vec<Step<'a>>]),
     /// A range of values.
     Range(ValueRange<'a>),
     /// Paths, each with a type.
-    Columns(&'a [TypedPath<'a>]),
+    Columns(&'a [TypedPath]),
+    /// What new rows are made of.
+    Template(&'a Template),
     /// How parts are shown.
     Look(Look),
 }
@@ -90,8 +96,13 @@ pub fn operation_of<'a>(command: Command, operands: Operands<'a>) -> Option<Oper
         }
         (Command::Remove, Operands::Removed(paths)) => Some(Operation::Remove(paths)),
         (Command::Extract, Operands::Columns(columns)) => Some(Operation::Extract(columns)),
+        (Command::Build | Command::Keys, Operands::Template(template)) => {
+            Some(Operation::Build(template))
+        }
         (Command::Range, Operands::Range(range)) => Some(Operation::Range(range)),
-        (Command::Keys, Operands::Keys(paths)) => Some(Operation::Key(paths)),
+        (Command::Keys | Command::ComparableKeys, Operands::Keys(paths)) => {
+            Some(Operation::Key(paths))
+        }
         (Command::Sort | Command::MergeSorted, Operands::Keys(paths)) => {
             Some(Operation::Sort(paths))
         }

@@ -75,7 +75,7 @@ impl End {
 }
 
 /// The commands, in the order of the help.
-pub static COMMANDS: [CommandRow; 22] = [
+pub static COMMANDS: [CommandRow; 24] = [
     CommandRow {
         command: Command::Check,
         name: "check",
@@ -103,7 +103,7 @@ pub static COMMANDS: [CommandRow; 22] = [
     CommandRow {
         command: Command::Get,
         name: "get",
-        about: "Write the first value to which a path leads, of each row",
+        about: "Write the first value that a path gives, of each row",
         operands: OperandKind::Path,
         options: &[
             CommandOption::Documents,
@@ -116,7 +116,7 @@ pub static COMMANDS: [CommandRow; 22] = [
     CommandRow {
         command: Command::Select,
         name: "select",
-        about: "Write all values to which a path leads, of each row",
+        about: "Write all values that a path gives, of each row",
         operands: OperandKind::Path,
         options: &[
             CommandOption::Documents,
@@ -129,7 +129,7 @@ pub static COMMANDS: [CommandRow; 22] = [
     CommandRow {
         command: Command::Filter,
         name: "filter",
-        about: "Write the rows in which a path leads to some value",
+        about: "Write the rows of which a test is true, or a path gives a value",
         operands: OperandKind::Condition,
         options: &[
             CommandOption::Documents,
@@ -141,7 +141,7 @@ pub static COMMANDS: [CommandRow; 22] = [
     CommandRow {
         command: Command::Count,
         name: "count",
-        about: "Count the rows in which a path leads to some value",
+        about: "Count the rows of which a test is true, or a path gives a value",
         operands: OperandKind::Condition,
         options: &[
             CommandOption::Documents,
@@ -237,6 +237,14 @@ pub static COMMANDS: [CommandRow; 22] = [
         end: End::Rows,
     },
     CommandRow {
+        command: Command::Build,
+        name: "build",
+        about: "Make a new row of each, of paths, values and arithmetic",
+        operands: OperandKind::Template,
+        options: &[CommandOption::Documents, CommandOption::OnError],
+        end: End::Rows,
+    },
+    CommandRow {
         command: Command::StripNulls,
         name: "strip-nulls",
         about: "Remove members that are null, of each row",
@@ -286,6 +294,18 @@ pub static COMMANDS: [CommandRow; 22] = [
     CommandRow {
         command: Command::Keys,
         name: "keys",
+        about: "Write the names of the members of each row",
+        operands: OperandKind::MemberNames,
+        options: &[
+            CommandOption::Documents,
+            CommandOption::By,
+            CommandOption::OnError,
+        ],
+        end: End::Rows,
+    },
+    CommandRow {
+        command: Command::ComparableKeys,
+        name: "comparable-keys",
         about: "Write the comparable key of each row in hexadecimal",
         operands: OperandKind::Keys,
         options: &[

@@ -17,7 +17,7 @@ use jsonb::{
     Date, Decimal128, Document, Error, ExtensionValue, Interval, Node, Number, NumberItem,
     Timestamp, TimestampTz,
 };
-use jsonb_functions::Selector;
+use jsonb_path::Path;
 use jsonb_typed::{
     Boolean, ColumnType, Dates, Decimal, Fit, Int64, Intervals, LeastType, ScalarType, Timestamps,
     UInt64, ZonedTimestamps, binary_of, opened,
@@ -27,8 +27,8 @@ use std::alloc::Global;
 /// A path, the type of the values to which it leads, and whether texts are read as dates and
 /// timestamps.
 #[derive(Drop)]
-pub struct TypedPath<'a> {
-    pub path: Vec<Selector<'a>>,
+pub struct TypedPath {
+    pub path: Path,
     pub value_type: LeastType,
     pub reads_dates: bool,
 }
@@ -41,7 +41,7 @@ pub struct TypedPath<'a> {
 pub fn csv_line(
     alloc: Global,
     document: Document<'_>,
-    columns: &[TypedPath<'_>],
+    columns: &[TypedPath],
 ) -> Result<Option<Vec<u8>>, Error>
     ensures ok { IfOk result (λ line. IsCsvLine columns.now (document_tree document.entry)
         (option_map (λ line. line.items) line)) }
@@ -76,18 +76,14 @@ fn push_field(line: &mut Vec<u8>, is_first: bool, field: &[u8]) -> Result<(), Er
 fn field_in(
     alloc: Global,
     document: Document<'_>,
-    column: &TypedPath<'_>,
+    column: &TypedPath,
 ) -> Result<Option<Vec<u8>>, Error>
     ensures ok { IfOk result (λ field. IsFieldAt (document_tree document.entry) column.now
         (option_map (λ field. field.items) field)) }
     ensures memory { IfErr result (λ e. e ≡ Error.OutOfMemory) }
 {
-    field_of(
-        alloc,
-        first_value(document, &column.path),
-        column.value_type,
-        column.reads_dates,
-    )
+    let value = first_value(alloc, document, &column.path)?;
+    field_of(alloc, value, column.value_type, column.reads_dates)
 }
 
 // The field of a value in a column of a type; empty if there is none, or it is null. `None` if it

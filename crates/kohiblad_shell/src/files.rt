@@ -9,6 +9,7 @@ use crate::kind::{InputKind, input_kind};
 use crate::mark::pass_mark;
 use crate::messages::{misuse, name_kind, notice_mark, tell_failed};
 use crate::operation::{Job, Operation};
+use crate::outcome::LineWorker;
 use crate::output::Output;
 use crate::progress::{Metered, Progress};
 use crate::removal::path_count;
@@ -165,8 +166,8 @@ fn kind_of<R: BufRead>(form: Form, reader: &mut R) -> Option<InputKind> {
     }
 }
 
-/// Runs a job on the rows of each file, or of standard input if none is named, up to a fault at
-/// which the run ends. A search for faults goes on with the next file after a row that is cut off.
+/// Runs a job on the rows of each file, or of standard input if none is named, as `run_inputs` does
+/// it.
 pub fn run_files<W: Write, E: Write>(
     rt: &HostRuntime,
     job: Job<'_, '_>,
@@ -175,50 +176,81 @@ pub fn run_files<W: Write, E: Write>(
     writer: &mut W,
     errors: &mut E,
 ) -> Result<Summary, Halt> {
+    let inputs = Inputs {
+        names: files_of(job.operation, words_in(arguments).unwrap_or(&[])),
+        form: job.form,
+        stops_at_faults,
+        are_checked: matches!(job.operation, Operation::Check),
+        progress: job.watch.progress,
+    };
+    let mut worker = job;
+    let total = run_inputs(rt, &mut worker, inputs, writer, errors)?;
+    job.watch.is_whole.set(!total.is_stopped);
+    Ok(total)
+}
+
+/// The files of a run, standard input if none is named: in which form their rows stand, whether it
+/// ends at the first one that is wrong, whether it only looks for rows that are wrong, and how far
+/// it is.
+#[derive(Clone, Copy)]
+pub struct Inputs<'n, 'p> {
+    pub names: &'n [&'n str],
+    pub form: Form,
+    pub stops_at_faults: bool,
+    pub are_checked: bool,
+    pub progress: &'p Progress<'p>,
+}
+
+/// Answers the rows of each input up to a fault at which the run ends. A search for faults goes on
+/// with the next input after a row that is cut off.
+pub fn run_inputs<L: LineWorker, W: Write, E: Write>(
+    rt: &HostRuntime,
+    worker: &mut L,
+    inputs: Inputs<'_, '_>,
+    writer: &mut W,
+    errors: &mut E,
+) -> Result<Summary, Halt> {
     let mut total = Summary {
         rows: 0,
         faults: 0,
         is_stopped: false,
     };
-    let mut plan = Plan {
-        name: "-",
-        form: job.form,
-        stops_at_faults,
-    };
-    let goes_on = !stops_at_faults && matches!(job.operation, Operation::Check);
-    let files = files_of(job.operation, words_in(arguments).unwrap_or(&[]));
-    for name in inputs_of(files) {
-        plan.name = name;
-        let source = open_source(rt, *name)?;
-        total = total.with(run_source(rt, job, plan, source, writer, errors)?);
+    let goes_on = inputs.are_checked && !inputs.stops_at_faults;
+    for name in inputs_of(inputs.names) {
+        let summary = run_input(rt, worker, inputs, *name, writer, errors)?;
+        total = total.with(summary);
         if total.is_stopped && !goes_on {
             break;
         }
     }
-    job.watch.is_whole.set(!total.is_stopped);
     Ok(total)
 }
 
-// Runs a job on the rows of an input.
-fn run_source<W: Write, E: Write>(
+// Answers the rows of the input of this name.
+fn run_input<L: LineWorker, W: Write, E: Write>(
     rt: &HostRuntime,
-    job: Job<'_, '_>,
-    plan: Plan<'_>,
-    source: Source,
+    worker: &mut L,
+    inputs: Inputs<'_, '_>,
+    name: &str,
     writer: &mut W,
     errors: &mut E,
 ) -> Result<Summary, Halt> {
-    let progress = job.watch.progress;
-    let mut reader = buffered(rt, progress, source)?;
-    let kind = match job.operation {
-        Operation::Check => kind_of(plan.form, &mut reader),
-        _ => kind_after_mark(rt, plan.name, plan.form, &mut reader),
+    let plan = Plan {
+        name,
+        form: inputs.form,
+        stops_at_faults: inputs.stops_at_faults,
     };
-    let outcome = run::run(rt.alloc(), &job, &plan, &mut reader, writer, errors);
-    progress.clear();
+    let mut reader = buffered(rt, inputs.progress, open_source(rt, name)?)?;
+    let kind = if inputs.are_checked {
+        kind_of(plan.form, &mut reader)
+    } else {
+        kind_after_mark(rt, name, plan.form, &mut reader)
+    };
+    let outcome = run::run(rt.alloc(), worker, &plan, &mut reader, writer, errors);
+    inputs.progress.clear();
     let summary = outcome?;
     if summary.faults > 0 {
-        name_kind(rt, plan.name, kind);
+        name_kind(rt, name, kind);
     }
     Ok(summary)
 }

@@ -1,34 +1,111 @@
-//! The first value to which a path leads.
+//! What a path gives of a row.
 
-ghost use Rattle.std.specs.Prelude.{◌≡◌, is_some, option_map};
-ghost use Rattle.kohiblad_shell.specs.Words.{document_tree, first_tree, node_tree, selected};
+ghost use Rattle.std.specs.Prelude.{◌≡◌, ◌-◌, IfOk, length, map, option_map};
+ghost use Rattle.jsonb_path.specs.Found.{outcome_of};
+ghost use Rattle.jsonb_path.specs.Meaning.{exists_in, lone_truth};
+ghost use Rattle.jsonb_path.specs.PathParts.{is_test};
+ghost use Rattle.kohiblad_shell.specs.Asked.{asked, first_asked, first_of, is_surely, is_true};
+ghost use Rattle.kohiblad_shell.specs.Asked.{passes_path};
+ghost use Rattle.kohiblad_shell.specs.Words.{Wrong, document_tree, node_tree, plain_fault};
+ghost use Rattle.kohiblad_shell.specs.declared.outcome.Reason.TheVariants.{GivenUp};
 
+use crate::outcome::{LineFault, Reason, Unanswered};
 use jsonb::{Document, Node};
-use jsonb_functions::{Selector, get_path, select_first};
+use jsonb_path::{Outcome, Part, Path, PathError, Truth};
+use std::alloc::{AllocError, Global};
 
-/// The first value to which a path leads, as `select_first` returns it. Steps to one child, with
-/// which most paths begin, are looked up.
-#[tactic(auto, using(crate::proofs::FirstLaws::step_missed, crate::proofs::FirstLaws::step_found))]
-pub fn first_value<'a>(document: Document<'a>, path: &[Selector<'_>]) -> Option<Node<'a>>
-    ensures { option_map node_tree result
-        ≡ first_tree (selected path.now (document_tree document.entry)) }
+/// What a path gives of a row, without variables.
+pub fn asked<'a>(
+    alloc: Global,
+    document: Document<'a>,
+    path: &'a Path,
+) -> Result<Outcome<'a>, AllocError>
+    ensures { IfOk result (λ o. outcome_of o ≡ asked path.now (document_tree document.entry)) }
 {
-    let [selector, rest @ ..] = path else {
-        return select_first(document, path);
-    };
-    let Selector::Step(step) = selector else {
-        return select_first(document, path);
-    };
-    match get_path(document, &[*step])? {
-        Node::Container(inner) => first_value(inner, rest),
-        scalar if rest.is_empty() => Some(scalar),
-        _ => select_first(document, path),
+    match path.query(alloc, document, &[]) {
+        Ok(outcome) => Ok(outcome),
+        Err(_) => Err(AllocError),
     }
 }
 
-/// Whether a path leads to some value.
-pub fn has_value(document: Document<'_>, path: &[Selector<'_>]) -> bool
-    ensures { result ≡ is_some (first_tree (selected path.now (document_tree document.entry))) }
+/// The fault of a row of which a path is given up.
+pub fn given_up(error: PathError) -> Unanswered
+    ensures { result ≡ Wrong (plain_fault 0 (GivenUp error)) }
 {
-    first_value(document, path).is_some()
+    Unanswered::Wrong(LineFault::plain(0, Reason::GivenUp(error)))
+}
+
+/// The first value that a path gives of a row. An error after it does not count, and one before it
+/// is `None`.
+pub fn first_value<'a>(
+    alloc: Global,
+    document: Document<'a>,
+    path: &'a Path,
+) -> Result<Option<Node<'a>>, AllocError>
+    ensures { IfOk result (λ node. option_map node_tree node
+        ≡ first_asked path.now (document_tree document.entry)) }
+{
+    let outcome = asked(alloc, document, path)?;
+    Ok(first_of(&outcome.values))
+}
+
+// The first of these values.
+pub fn first_of<'a>(values: &[Node<'a>]) -> Option<Node<'a>>
+    ensures { option_map node_tree result ≡ first_of (map node_tree values.now) }
+{
+    match values {
+        [] => None,
+        [first, ..] => Some(*first),
+    }
+}
+
+/// Whether a row passes: the test is true of it, or the path is no test and gives a value.
+pub fn passes_path(alloc: Global, document: Document<'_>, path: &Path) -> Result<bool, AllocError>
+    ensures { IfOk result (λ passes. passes
+        ≡ passes_path path.now (document_tree document.entry)) }
+{
+    if is_test(path) {
+        is_true_of(alloc, document, path)
+    } else {
+        gives_value(alloc, document, path)
+    }
+}
+
+fn is_test(path: &Path) -> bool
+    ensures { result ≡ is_test path.now.parts (length path.now.parts - 1) }
+{
+    let parts = path.parts();
+    matches!(parts.get(parts.len() - 1), Some(Part::Test(_)))
+}
+
+// Whether a test is true of a row.
+fn is_true_of(alloc: Global, document: Document<'_>, path: &Path) -> Result<bool, AllocError>
+    ensures { IfOk result (λ is. is
+        ≡ is_surely (lone_truth (asked path.now (document_tree document.entry)).values)) }
+{
+    let outcome = asked(alloc, document, path)?;
+    Ok(is_surely(outcome.truth()))
+}
+
+fn is_surely(truth: Option<Truth>) -> bool
+    ensures { result ≡ is_surely truth }
+{
+    matches!(truth, Some(Truth::True))
+}
+
+// Whether a path gives a value of a row.
+fn gives_value(alloc: Global, document: Document<'_>, path: &Path) -> Result<bool, AllocError>
+    ensures { IfOk result (λ gives. gives
+        ≡ is_true (exists_in path.now.mode (asked path.now (document_tree document.entry)))) }
+{
+    match path.exists(alloc, document, &[]) {
+        Ok(truth) => Ok(is_true(truth)),
+        Err(_) => Err(AllocError),
+    }
+}
+
+fn is_true(truth: Truth) -> bool
+    ensures { result ≡ is_true truth }
+{
+    matches!(truth, Truth::True)
 }

@@ -7,7 +7,7 @@ ghost use Rattle.kohiblad_shell.specs.Words.{path_key, path_keys, row_key, tree_
 use crate::first::first_value;
 use jsonb::{Document, Error, Node, SortKey};
 use jsonb_comparable::{Sink, append_key, append_key_to, append_node};
-use jsonb_functions::Selector;
+use jsonb_path::Path;
 use std::alloc::Global;
 
 // A key that grows, as long as there is memory.
@@ -34,11 +34,7 @@ impl Sink for GrowingKey {
 /// The key of a row: the comparable keys of the first values to which the paths lead, one after
 /// another, or that of the row itself if there are no paths. For a path that leads nowhere the byte
 /// 0 stands, which is below the first byte of each comparable key. `OutOfMemory` is the only error.
-pub fn row_key(
-    alloc: Global,
-    document: Document<'_>,
-    paths: &[Vec<Selector<'_>>],
-) -> Result<Vec<u8>, Error>
+pub fn row_key(alloc: Global, document: Document<'_>, paths: &[Path]) -> Result<Vec<u8>, Error>
     ensures ok { IfOk result (λ key. key.items ≡ row_key paths.now (document_tree document.entry)) }
     ensures memory { IfErr result (λ e. e ≡ Error.OutOfMemory) }
 {
@@ -52,11 +48,7 @@ pub fn row_key(
 }
 
 // The keys of what the paths lead to, one after another.
-fn path_keys(
-    alloc: Global,
-    document: Document<'_>,
-    paths: &[Vec<Selector<'_>>],
-) -> Result<Vec<u8>, Error>
+fn path_keys(alloc: Global, document: Document<'_>, paths: &[Path]) -> Result<Vec<u8>, Error>
     ensures ok { IfOk result
         (λ key. key.items ≡ path_keys paths.now (document_tree document.entry)) }
     ensures memory { IfErr result (λ e. e ≡ Error.OutOfMemory) }
@@ -66,7 +58,8 @@ fn path_keys(
         is_whole: true,
     };
     for path in paths {
-        append_path_key(first_value(document, path), &mut key);
+        let value = first_value(alloc, document, path)?;
+        append_path_key(value, &mut key);
     }
     if key.is_whole {
         Ok(key.bytes)

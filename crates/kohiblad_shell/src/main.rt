@@ -43,6 +43,8 @@ mod spill;
 mod status;
 mod survey;
 mod survey_command;
+mod template;
+mod template_text;
 mod temporary;
 mod titles;
 mod watch;
@@ -65,7 +67,8 @@ use merge_command::write_merged;
 use messages::{failure, misuse, notice_missed, refused_line};
 use operand_kind::OperandKind;
 use operands::{
-    deciding_path, deciding_path_in, document_of, path_in, push_column, push_steps, steps_in,
+    deciding_path_in, document_of, path_in, push_column, push_path, push_steps, steps_in,
+    template_in,
 };
 use operation::Job;
 use range::ValueRange;
@@ -78,6 +81,9 @@ use std::env;
 use std::process::ExitCode;
 use survey_command::write_survey;
 use watch::Watch;
+
+// What `keys` makes of a row.
+const MEMBER_NAMES: &str = "[strict $.keyvalue().key]";
 
 fn main(rt: HostRuntime) -> ExitCode {
     ExitCode::from(shell(&rt))
@@ -120,6 +126,8 @@ fn run_command(rt: &HostRuntime, row: &CommandRow, arguments: &ArgMatches<'_>) -
         OperandKind::Path | OperandKind::Condition => with_path(rt, row, arguments),
         OperandKind::Value => with_value(rt, row, arguments),
         OperandKind::Names => with_names(rt, row, arguments),
+        OperandKind::Template => with_template(rt, row, operand_in(arguments), arguments),
+        OperandKind::MemberNames => with_member_names(rt, row, arguments),
         OperandKind::Steps => with_steps(rt, row, arguments),
         OperandKind::Removed => with_removals(rt, row, arguments),
         OperandKind::Columns => with_columns(rt, row, arguments),
@@ -257,12 +265,28 @@ fn with_names(rt: &HostRuntime, row: &CommandRow, arguments: &ArgMatches<'_>) ->
     }
 }
 
+// Runs a command that makes new rows by this text of a template.
+fn with_template(rt: &HostRuntime, row: &CommandRow, text: &str, arguments: &ArgMatches<'_>) -> u8 {
+    match template_in(rt, text) {
+        Ok(template) => run_operands(rt, row, Operands::Template(&template), arguments),
+        Err(status) => status,
+    }
+}
+
+// Runs the command for the names of members, or for comparable keys if it is given paths to them.
+fn with_member_names(rt: &HostRuntime, row: &CommandRow, arguments: &ArgMatches<'_>) -> u8 {
+    match arguments.get_strs("by") {
+        None => with_template(rt, row, MEMBER_NAMES, arguments),
+        Some(_) => with_paths(rt, row, arguments),
+    }
+}
+
 // Runs a command of keys by several paths.
 fn with_paths(rt: &HostRuntime, row: &CommandRow, arguments: &ArgMatches<'_>) -> u8 {
     let mut paths = Vec::new(rt.alloc());
     if let Some(texts) = arguments.get_strs("by") {
         for text in texts {
-            let path = match deciding_path(rt, *text) {
+            let path = match path_in(rt, *text) {
                 Ok(path) => path,
                 Err(status) => return status,
             };
@@ -286,9 +310,13 @@ fn with_path(rt: &HostRuntime, row: &CommandRow, arguments: &ArgMatches<'_>) -> 
     }
 }
 
-// Runs the command whose operands are a path without wildcards, ranges and filters, and a value.
+// Runs the command whose operands are a path of keys and indexes alone, and a value.
 fn with_steps(rt: &HostRuntime, row: &CommandRow, arguments: &ArgMatches<'_>) -> u8 {
-    let steps = match steps_in(rt, operand_in(arguments)) {
+    let path = match path_in(rt, operand_in(arguments)) {
+        Ok(path) => path,
+        Err(status) => return status,
+    };
+    let steps = match steps_in(rt, &path) {
         Ok(steps) => steps,
         Err(status) => return status,
     };
@@ -304,16 +332,22 @@ fn with_steps(rt: &HostRuntime, row: &CommandRow, arguments: &ArgMatches<'_>) ->
 // Runs the command whose operands are paths, which come before the files.
 fn with_removals(rt: &HostRuntime, row: &CommandRow, arguments: &ArgMatches<'_>) -> u8 {
     let mut paths = Vec::new(rt.alloc());
-    if let Err(status) = push_steps(rt, &mut paths, operand_in(arguments)) {
+    if let Err(status) = push_path(rt, &mut paths, operand_in(arguments)) {
         return status;
     }
     let words = words_in(arguments).unwrap_or(&[]);
     for text in &words[..path_count(words)] {
-        if let Err(status) = push_steps(rt, &mut paths, *text) {
+        if let Err(status) = push_path(rt, &mut paths, *text) {
             return status;
         }
     }
-    run_operands(rt, row, Operands::Removed(&paths), arguments)
+    let mut removed = Vec::new(rt.alloc());
+    for path in &paths {
+        if let Err(status) = push_steps(rt, &mut removed, path) {
+            return status;
+        }
+    }
+    run_operands(rt, row, Operands::Removed(&removed), arguments)
 }
 
 // Runs the command whose operands are paths, each with a type, which come before the files.

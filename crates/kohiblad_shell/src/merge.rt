@@ -76,7 +76,7 @@ impl From<Halt> for MergeEnd {
 /// After an error a beginning of these rows was written. `Faulty`: a row is wrong or cut off, or it
 /// is not sorted, since its key is below that of the row before it. `Halted`: a reader, the writer
 /// or an allocation failed.
-pub fn merge<L: LineWorker, R: BufRead, W: Write>(
+pub fn merge<L: LineWorker + Copy, R: BufRead, W: Write>(
     alloc: Global,
     worker: &L,
     form: Form,
@@ -96,7 +96,7 @@ pub fn merge<L: LineWorker, R: BufRead, W: Write>(
 }
 
 // Merges the rows, as `merge` does, without the last flush.
-fn merge_rows<L: LineWorker, R: BufRead, W: Write>(
+fn merge_rows<L: LineWorker + Copy, R: BufRead, W: Write>(
     alloc: Global,
     worker: &L,
     form: Form,
@@ -126,7 +126,7 @@ fn merge_rows<L: LineWorker, R: BufRead, W: Write>(
 }
 
 // The first row of each reader, where it has one.
-fn first_heads<L: LineWorker, R: BufRead>(
+fn first_heads<L: LineWorker + Copy, R: BufRead>(
     alloc: Global,
     worker: &L,
     form: Form,
@@ -149,7 +149,7 @@ fn first_heads<L: LineWorker, R: BufRead>(
 }
 
 // Reads the row after the last one of an input, if there is one. `row` is a buffer.
-fn next_head<L: LineWorker, R: BufRead>(
+fn next_head<L: LineWorker + Copy, R: BufRead>(
     alloc: Global,
     worker: &L,
     form: Form,
@@ -165,7 +165,9 @@ fn next_head<L: LineWorker, R: BufRead>(
         (R.remaining reader.old) input (option_map (λ h. h.now) last.entry) end) }
 {
     let number = number_after(last)?;
-    match answer_next(alloc, worker, form, reader, row)? {
+    // A copy, since what a worker is after a row is not asked for here.
+    let mut worker = *worker;
+    match answer_next(alloc, &mut worker, form, reader, row)? {
         Answer::Rows(lines) => {
             let head = head_of(alloc, &lines, input, number)?;
             if !stays_sorted(last, &head) {

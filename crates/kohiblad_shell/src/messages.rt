@@ -54,11 +54,28 @@ pub fn misuse(rt: &HostRuntime, what: &str) -> u8
 /// Reports a command line that is wrong, in the words of its parser.
 pub fn refused_line(rt: &HostRuntime, error: &clap::Error) -> u8 {
     let alloc = rt.alloc();
-    let Ok(text) = format!(in alloc; "{error}") else {
-        return failure(rt, Halt::Memory);
-    };
+    match format!(in alloc; "{error}") {
+        Ok(text) => tell_lines(rt, text.as_str()),
+        Err(_) => failure(rt, Halt::Memory),
+    }
+}
+
+/// Reports a text that is no path, by lines that show its place.
+pub fn refused_path(rt: &HostRuntime, report: &str) -> u8 {
+    let _ = misuse(rt, "this is not a path:");
+    tell_lines(rt, report)
+}
+
+/// Reports a text that is no template, by lines that show its place.
+pub fn refused_template(rt: &HostRuntime, report: &str) -> u8 {
+    let _ = misuse(rt, "this is not a template:");
+    tell_lines(rt, report)
+}
+
+// Writes the lines of a text, with escapes.
+fn tell_lines(rt: &HostRuntime, text: &str) -> u8 {
     for line in text.lines() {
-        let Ok(shown) = escaped_text(alloc, line) else {
+        let Ok(shown) = escaped_text(rt.alloc(), line) else {
             return failure(rt, Halt::Memory);
         };
         let _ = eprintln!(rt; "{shown}");

@@ -13,6 +13,10 @@ pub enum OperandKind {
     Value,
     /// Names of members.
     Names,
+    /// What new rows are made of.
+    Template,
+    /// Nothing, or the paths of comparable keys as an older version took them.
+    MemberNames,
     /// A path without wildcards, and a value.
     Steps,
     /// Paths without wildcards.
@@ -37,12 +41,16 @@ impl OperandKind {
             OperandKind::Condition => &[CONDITION],
             OperandKind::Value => &[VALUE],
             OperandKind::Names => &[NAMES],
+            OperandKind::Template => &[TEMPLATE],
             OperandKind::Steps => &[STEPS, NEW_VALUE],
             OperandKind::Removed => &[REMOVED],
             OperandKind::Columns => &[COLUMN, TYPE],
             OperandKind::Bounds => &[FROM, TO],
-            OperandKind::Nothing | OperandKind::Keys | OperandKind::Layout | OperandKind::Look =>
-                &[],
+            OperandKind::Nothing
+            | OperandKind::MemberNames
+            | OperandKind::Keys
+            | OperandKind::Layout
+            | OperandKind::Look => &[],
         }
     }
 }
@@ -142,4 +150,11 @@ const NAMES: Operand = Operand {
     name: "NAMES",
     help: "Names with commas between them, such as id,who",
     is_value: false,
+};
+
+const TEMPLATE: Operand = Operand {
+    id: "operand",
+    name: "TEMPLATE",
+    help: "A JSON text that may have paths for values, such as '{\"town\": $.customer.town}'",
+    is_value: true,
 };

@@ -6,13 +6,17 @@ ghost use Rattle.kohiblad_shell.specs.Words.{IsDocument, owned_bytes};
 use crate::extract::TypedPath;
 use crate::halt::Halt;
 use crate::input::Reading;
-use crate::messages::{failure, misuse};
+use crate::messages::{failure, misuse, refused_path, refused_template};
 use crate::operand_kind::ValueKind;
 use crate::outcome::{LineFault, Unanswered};
 use crate::row::parse_line;
+use crate::template::Template;
+use crate::template_text::template_of_text;
 use clap::ArgMatches;
 use jsonb::{Exponents, Node, OwnedJsonb};
-use jsonb_functions::{Selector, Step, read_path_text, steps_of_path};
+use jsonb_functions::Step;
+use jsonb_path::token::{PathFault, ReadError};
+use jsonb_path::{Path, steps_of};
 use jsonb_typed::{LeastType, parse_type};
 
 // How operands are read.
@@ -73,24 +77,52 @@ fn begins_json(text: &str) -> bool {
 }
 
 /// An operand as a path, or the status after its fault is reported.
-pub fn path_in<'a>(rt: &HostRuntime, text: &'a str) -> Result<Vec<Selector<'a>>, u8> {
-    match read_path_text(rt.alloc(), text) {
-        Ok(Some(path)) => Ok(path),
-        Ok(None) => Err(misuse(rt, "the operand is not a path, such as '$.price'")),
+pub fn path_in(rt: &HostRuntime, text: &str) -> Result<Path, u8> {
+    match Path::of_text(rt.alloc(), text) {
+        Ok(path) => Ok(path),
+        Err(ReadError::Refused(fault)) => Err(refused_text(rt, fault, text)),
+        Err(ReadError::OutOfMemory) => Err(failure(rt, Halt::Memory)),
+    }
+}
+
+// Reports where and why a text is no path.
+fn refused_text(rt: &HostRuntime, fault: PathFault, text: &str) -> u8 {
+    let report = fault.report(text);
+    match format!(in rt.alloc(); "{report}") {
+        Ok(report) => refused_path(rt, report.as_str()),
+        Err(_) => failure(rt, Halt::Memory),
+    }
+}
+
+/// An operand as a template, or the status after its fault is reported.
+pub fn template_in(rt: &HostRuntime, text: &str) -> Result<Template, u8> {
+    match template_of_text(rt.alloc(), text) {
+        Ok(template) => Ok(template),
+        Err(ReadError::Refused(fault)) => {
+            let report = fault.report(text);
+            match format!(in rt.alloc(); "{report}") {
+                Ok(report) => Err(refused_template(rt, report.as_str())),
+                Err(_) => Err(failure(rt, Halt::Memory)),
+            }
+        }
+        Err(ReadError::OutOfMemory) => Err(failure(rt, Halt::Memory)),
+    }
+}
+
+/// The steps of a path of keys and indexes alone, or the status after its fault is reported.
+pub fn steps_in<'a>(rt: &HostRuntime, path: &'a Path) -> Result<Vec<Step<'a>>, u8> {
+    match steps_of(rt.alloc(), path) {
+        Ok(Some(steps)) => Ok(steps),
+        Ok(None) => Err(misuse(rt, "the path may have keys and indexes alone")),
         Err(_) => Err(failure(rt, Halt::Memory)),
     }
 }
 
-/// The steps of a path without wildcards, ranges and filters, or the status after its fault is
-/// reported.
-pub fn steps_in<'a>(rt: &HostRuntime, text: &'a str) -> Result<Vec<Step<'a>>, u8> {
+/// Adds a path, or returns the status after its fault is reported.
+pub fn push_path(rt: &HostRuntime, paths: &mut Vec<Path>, text: &str) -> Result<(), u8> {
     let path = path_in(rt, text)?;
-    match steps_of_path(rt.alloc(), &path) {
-        Ok(Some(steps)) => Ok(steps),
-        Ok(None) => {
-            let what = "the path may have no wildcards, ranges and filters";
-            Err(misuse(rt, what))
-        }
+    match paths.push(path) {
+        Ok(()) => Ok(()),
         Err(_) => Err(failure(rt, Halt::Memory)),
     }
 }
@@ -99,9 +131,9 @@ pub fn steps_in<'a>(rt: &HostRuntime, text: &'a str) -> Result<Vec<Step<'a>>, u8
 pub fn push_steps<'a>(
     rt: &HostRuntime,
     paths: &mut Vec<Vec<Step<'a>>>,
-    text: &'a str,
+    path: &'a Path,
 ) -> Result<(), u8> {
-    let steps = steps_in(rt, text)?;
+    let steps = steps_in(rt, path)?;
     match paths.push(steps) {
         Ok(()) => Ok(()),
         Err(_) => Err(failure(rt, Halt::Memory)),
@@ -109,23 +141,8 @@ pub fn push_steps<'a>(
 }
 
 /// The path to the value that decides, which is the row itself if none is named.
-pub fn deciding_path_in<'a>(
-    rt: &HostRuntime,
-    arguments: &ArgMatches<'a>,
-) -> Result<Vec<Selector<'a>>, u8> {
-    match arguments.get_str("by") {
-        Some(text) => deciding_path(rt, text),
-        None => Ok(Vec::new(rt.alloc())),
-    }
-}
-
-/// A path after `--by`, or the status after its fault is reported.
-pub fn deciding_path<'a>(rt: &HostRuntime, text: &'a str) -> Result<Vec<Selector<'a>>, u8> {
-    match read_path_text(rt.alloc(), text) {
-        Ok(Some(path)) => Ok(path),
-        Ok(None) => Err(misuse(rt, "a path after --by is none, such as '$.price'")),
-        Err(_) => Err(failure(rt, Halt::Memory)),
-    }
+pub fn deciding_path_in(rt: &HostRuntime, arguments: &ArgMatches<'_>) -> Result<Path, u8> {
+    path_in(rt, arguments.get_str("by").unwrap_or("$"))
 }
 
 // The type of this name, or the status after its fault is reported.
@@ -141,10 +158,10 @@ const NO_TYPE: &str = "there is no such type; the types are boolean, int64, uint
     text, date, timestamp, timestamp_tz, interval, binary, nothing and mixed";
 
 /// Adds a path with its type, or returns the status after the fault of either is reported.
-pub fn push_column<'a>(
+pub fn push_column(
     rt: &HostRuntime,
-    columns: &mut Vec<TypedPath<'a>>,
-    path: &'a str,
+    columns: &mut Vec<TypedPath>,
+    path: &str,
     type_name: &str,
     reads_dates: bool,
 ) -> Result<(), u8> {

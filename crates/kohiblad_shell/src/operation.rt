@@ -10,9 +10,11 @@ ghost use Rattle.kohiblad_shell.specs.Words.{document_tree, encode_lower, framed
 ghost use Rattle.kohiblad_shell.specs.Words.{key_and_line, made_row, node_tree, owned_bytes};
 ghost use Rattle.kohiblad_shell.specs.Words.{raw_text, row_key, row_rule, text_of, value_line};
 ghost use Rattle.kohiblad_shell.specs.Words.{value_lines};
+ghost use Rattle.kohiblad_shell.specs.Operations.{IsFirstGiven, IsGiven};
+ghost use Rattle.jsonb_path.specs.Found.{outcome_of};
 
 use crate::extract::{TypedPath, csv_line};
-use crate::first::{first_value, has_value};
+use crate::first::{asked, first_of, given_up, passes_path};
 use crate::input::Form;
 use crate::key::row_key;
 use crate::outcome::{LineFault, LineWorker, Reason, Unanswered};
@@ -21,11 +23,11 @@ use crate::range::{ValueRange, is_in_range};
 use crate::removal::removed_row;
 use crate::row::{check_document, parse_line};
 use crate::show::shown_lines;
+use crate::template::{Template, built_row};
 use crate::watch::Watch;
 use jsonb::{Document, Error, Node, OwnedJsonb, RawJsonb, append_row};
-use jsonb_functions::{
-    Edit, Kept, Selector, Step, contains, edit_document, merge_patch, pick, select, strip_nulls,
-};
+use jsonb_functions::{Edit, Kept, Step, contains, edit_document, merge_patch, pick, strip_nulls};
+use jsonb_path::{Outcome, Path};
 use std::alloc::Global;
 
 /// How a value is written.
@@ -62,12 +64,12 @@ pub enum Operation<'a> {
     Check,
     /// Writes the value of the row as a compact text, or as its canonical document.
     Canonical,
-    /// Writes the first value to which a path leads.
-    Get(&'a [Selector<'a>], Style),
-    /// Writes all values to which a path leads.
-    Select(&'a [Selector<'a>], Style),
-    /// Writes the row if a path leads to some value.
-    Filter(&'a [Selector<'a>]),
+    /// Writes the first value that a path gives. A row of which it is given up is wrong.
+    Get(&'a Path, Style),
+    /// Writes all values that a path gives. A row of which it is given up is wrong.
+    Select(&'a Path, Style),
+    /// Writes the row if a test is true of it, or a path that is no test gives a value.
+    Filter(&'a Path),
     /// Writes the row if its value contains another.
     Contains(Document<'a>),
     /// Writes the changed value as a compact text, or as its canonical document.
@@ -82,11 +84,14 @@ pub enum Operation<'a> {
     /// Writes the text of the document.
     Decode(TextLayout),
     /// Writes the key of the row by these paths in hexadecimal.
-    Key(&'a [Vec<Selector<'a>>]),
+    Key(&'a [Path]),
     /// Keeps the key of the row by these paths and the row as it stands, each after its length.
-    Sort(&'a [Vec<Selector<'a>>]),
+    Sort(&'a [Path]),
     /// Writes the values at paths as a line of CSV. A row of which one is not of its type is wrong.
-    Extract(&'a [TypedPath<'a>]),
+    Extract(&'a [TypedPath]),
+    /// Writes the value that a template makes of the row, as a compact text or as its canonical
+    /// document. A row of which a path is given up is wrong.
+    Build(&'a Template),
     /// Writes the bytes of the document, part by part.
     Show(Look),
 }
@@ -107,17 +112,21 @@ pub enum Change<'a> {
 impl LineWorker for Job<'_, '_> {
     ghost rule = { row_rule };
 
-    fn answer(&self, alloc: Global, row: &[u8]) -> Result<Vec<u8>, Unanswered> {
+    ghost after = { λ job rows. job };
+
+    ghost keeps = { λ job rows line outcome is. is };
+
+    fn answer(&mut self, alloc: Global, row: &[u8]) -> Result<Vec<u8>, Unanswered> {
         match self.form {
             Form::Lines(reading) => {
                 let owned = parse_line(alloc, row, reading)?;
                 let document = Document::new_unchecked(owned.as_bytes());
-                self.watch.see(self.operation, document);
+                self.watch.see(alloc, self.operation, document)?;
                 row_lines(alloc, *self, row, document)
             }
             Form::Documents => {
                 let document = check_document(row)?;
-                self.watch.see(self.operation, document);
+                self.watch.see(alloc, self.operation, document)?;
                 row_lines(alloc, *self, row, document)
             }
         }
@@ -138,12 +147,18 @@ fn row_lines(
     match job.operation {
         Operation::Check => Ok(Vec::new(alloc)),
         Operation::Canonical => Ok(canonical_row(alloc, form, document)?),
-        Operation::Get(path, style) => Ok(first_line(alloc, first_value(document, path), style)?),
-        Operation::Select(path, style) => {
-            let nodes = select(alloc, document, path)?;
-            Ok(all_lines(alloc, &nodes, style)?)
+        Operation::Get(path, style) => {
+            let outcome = asked(alloc, document, path)?;
+            first_given(alloc, &outcome, style)
         }
-        Operation::Filter(path) => Ok(kept_row(alloc, form, row, has_value(document, path))?),
+        Operation::Select(path, style) => {
+            let outcome = asked(alloc, document, path)?;
+            all_given(alloc, &outcome, style)
+        }
+        Operation::Filter(path) => {
+            let is_kept = passes_path(alloc, document, path)?;
+            Ok(kept_row(alloc, form, row, is_kept)?)
+        }
         Operation::Contains(part) => {
             let is_kept = contains(alloc, document, part)?;
             Ok(kept_row(alloc, form, row, is_kept)?)
@@ -156,12 +171,16 @@ fn row_lines(
         Operation::Remove(paths) => {
             Ok(removed_row(alloc, form, document.as_bytes(), paths, job.watch)?)
         }
-        Operation::Range(range) => Ok(kept_row(alloc, form, row, is_in_range(document, range))?),
+        Operation::Range(range) => {
+            let is_kept = is_in_range(alloc, document, range)?;
+            Ok(kept_row(alloc, form, row, is_kept)?)
+        }
         Operation::Encode => Ok(framed_row(alloc, Form::Documents, document.as_bytes())?),
         Operation::Decode(layout) => Ok(document_line(alloc, document, layout)?),
         Operation::Key(paths) => Ok(key_line(alloc, document, paths)?),
         Operation::Sort(paths) => Ok(keyed_row(alloc, form, document, paths, row)?),
         Operation::Extract(columns) => typed_line(csv_line(alloc, document, columns)?),
+        Operation::Build(template) => built_row(alloc, form, document, template),
         Operation::Show(look) => Ok(shown_lines(alloc, document.as_bytes(), look)?),
     }
 }
@@ -246,11 +265,7 @@ fn framed_row(alloc: Global, form: Form, row: &[u8]) -> Result<Vec<u8>, Error>
 }
 
 // The key of a row by these paths in hexadecimal, with a line feed.
-fn key_line(
-    alloc: Global,
-    document: Document<'_>,
-    paths: &[Vec<Selector<'_>>],
-) -> Result<Vec<u8>, Error>
+fn key_line(alloc: Global, document: Document<'_>, paths: &[Path]) -> Result<Vec<u8>, Error>
     ensures ok { IfOk result (λ line. line.items
         ≡ encode_lower (row_key paths.now (document_tree document.entry)) ++ 10 ∷ []) }
     ensures memory { IfErr result (λ e. e ≡ Error.OutOfMemory) }
@@ -264,7 +279,7 @@ fn keyed_row(
     alloc: Global,
     form: Form,
     document: Document<'_>,
-    paths: &[Vec<Selector<'_>>],
+    paths: &[Path],
     row: &[u8],
 ) -> Result<Vec<u8>, Error>
     ensures ok { IfOk result (λ keyed. keyed.items ≡ key_and_line
@@ -298,6 +313,26 @@ fn kept_row(alloc: Global, form: Form, row: &[u8], is_kept: bool) -> Result<Vec<
         framed_row(alloc, form, row)
     } else {
         Ok(Vec::new(alloc))
+    }
+}
+
+// The line of the first value that a path gives, or the fault that it is given up.
+fn first_given(alloc: Global, outcome: &Outcome<'_>, style: Style) -> Result<Vec<u8>, Unanswered>
+    ensures { IsOutcome (IsFirstGiven style (outcome_of outcome.now)) result }
+{
+    match outcome.error {
+        None => Ok(first_line(alloc, first_of(&outcome.values), style)?),
+        Some(error) => Err(given_up(error)),
+    }
+}
+
+// The lines of all values that a path gives, or the fault that it is given up.
+fn all_given(alloc: Global, outcome: &Outcome<'_>, style: Style) -> Result<Vec<u8>, Unanswered>
+    ensures { IsOutcome (IsGiven style (outcome_of outcome.now)) result }
+{
+    match outcome.error {
+        None => Ok(all_lines(alloc, &outcome.values, style)?),
+        Some(error) => Err(given_up(error)),
     }
 }
 

@@ -1,12 +1,15 @@
 //! What an input's row gives: rows, or a fault.
 
-ghost use Rattle.std.specs.Prelude.{◌≡◌, IfOk, IfErr, string_bytes};
-ghost use Rattle.kohiblad_shell.specs.Words.{IsAnswer, LineRule, OutOfMemory, plain_fault};
-ghost use Rattle.kohiblad_shell.specs.Words.{fault_line, is_cut, reason_name, reason_text};
+ghost use Rattle.std.specs.Prelude.{◌≡◌, ℕ, List, IfOk, IfErr, OnErr, string_bytes};
+ghost use Rattle.kohiblad_shell.specs.Words.{IsAnswer, KeepsRule, LineRule, OutOfMemory};
+ghost use Rattle.kohiblad_shell.specs.Faults.{path_error_name};
+ghost use Rattle.kohiblad_shell.specs.Words.{fault_line, is_cut, plain_fault, reason_name};
+ghost use Rattle.kohiblad_shell.specs.Words.{reason_text};
 
 use crate::escape::escaped_text;
 use crate::expected::expected_text;
 use crate::halt::Halt;
+use jsonb_path::PathError;
 use std::alloc::{AllocError, Global};
 
 /// Why a row is wrong.
@@ -30,6 +33,8 @@ pub enum Reason {
     NotSorted,
     /// A value of it is not of the type that was asked for.
     NotOfType,
+    /// A path is given up that is asked of it.
+    GivenUp(PathError),
 }
 
 impl Reason {
@@ -47,6 +52,7 @@ impl Reason {
             Reason::Cut => "InvalidEOF",
             Reason::NotSorted => "NotSorted",
             Reason::NotOfType => "NotOfType",
+            Reason::GivenUp(error) => path_error_name(error),
         }
     }
 
@@ -55,6 +61,25 @@ impl Reason {
         ensures { result ≡ is_cut self }
     {
         self == Reason::Cut
+    }
+}
+
+// The word for why a path is given up.
+fn path_error_name(error: PathError) -> &'static str
+    ensures { result.now ≡ path_error_name error }
+{
+    match error {
+        PathError::MemberNotFound => "MemberNotFound",
+        PathError::ObjectNotFound => "ObjectNotFound",
+        PathError::ArrayNotFound => "ArrayNotFound",
+        PathError::InvalidSubscript => "InvalidSubscript",
+        PathError::NonNumericItem => "NonNumericItem",
+        PathError::SingletonRequired => "SingletonRequired",
+        PathError::NumberNotFound => "NumberNotFound",
+        PathError::DivisionByZero => "DivisionByZero",
+        PathError::OutOfRange => "OutOfRange",
+        PathError::UndefinedVariable => "UndefinedVariable",
+        PathError::BooleanRequired => "BooleanRequired",
     }
 }
 
@@ -99,14 +124,22 @@ impl From<AllocError> for Unanswered {
     }
 }
 
-/// Answers lines, each by itself.
+/// Answers lines, one after another, and may change with each.
 pub trait LineWorker {
     // What a line may give.
     ghost rule: { Self → LineRule };
 
-    /// The rows that the line gives, each with its line feed, or why it has none.
-    fn answer(&self, alloc: Global, line: &[u8]) -> Result<Vec<u8>, Unanswered>
-        ensures { IsAnswer (rule self.now) line.now result };
+    // What it is after a line gave these rows.
+    ghost after: { Self → List ℕ → Self };
+
+    ghost keeps: { KeepsRule rule after };
+
+    /// The rows that the line gives, each with its line feed, or why it has none: such a line
+    /// changes nothing, and no line changes what later ones may give.
+    fn answer(&mut self, alloc: Global, line: &[u8]) -> Result<Vec<u8>, Unanswered>
+        ensures answer { IsAnswer (rule self.old) line.now result }
+        ensures after { IfOk result (λ rows. self.new ≡ after self.old rows.items) }
+        ensures kept { OnErr result (self.new ≡ self.old) };
 }
 
 /// The line that reports a fault: the name of the input with escapes, the number of the line, that

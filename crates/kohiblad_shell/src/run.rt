@@ -4,7 +4,7 @@
 ghost use Rattle.std.specs.Prelude.{◌≡◌, ◌≤◌, ◌∷◌, [], Ok, IfOk, OnOk, OnErr, IfSome};
 ghost use Rattle.kohiblad_shell.specs.Words.{AnswersNext, Appends, AppendsPrefix, BeginsRun};
 ghost use Rattle.kohiblad_shell.specs.Words.{IsRun, Keeps, both, fault_line, of_reports};
-ghost use Rattle.kohiblad_shell.specs.Words.{row_count, stops_at};
+ghost use Rattle.kohiblad_shell.specs.Words.{after_answer, row_count, stops_at};
 
 use crate::halt::Halt;
 use crate::input::{Form, Found, read_row};
@@ -74,18 +74,20 @@ impl Summary {
 /// `Closed`: nobody reads what a writer writes. `Memory`: an allocation failed.
 pub fn run<L: LineWorker, R: BufRead, W: Write, E: Write>(
     alloc: Global,
-    worker: &L,
+    worker: &mut L,
     plan: &Plan<'_>,
     reader: &mut R,
     writer: &mut W,
     errors: &mut E,
 ) -> Result<Summary, Halt>
     ensures done { IfOk result (λ summary. IfSome (R.remaining reader.old) (λ input.
-        IsRun (L.rule worker.now) plan.now input (W.contents writer.old) (W.contents writer.new)
+        IsRun (L.rule worker.old) L.after worker.old worker.new plan.now input
+        (W.contents writer.old) (W.contents writer.new)
         (E.contents errors.old) (E.contents errors.new) summary)) }
     ensures beginning { OnErr result (IfSome (R.remaining reader.old) (λ input.
-        BeginsRun (L.rule worker.now) plan.now input (W.contents writer.old)
-        (W.contents writer.new) (E.contents errors.old) (E.contents errors.new))) }
+        BeginsRun (L.rule worker.old) L.after worker.old worker.new plan.now input
+        (W.contents writer.old) (W.contents writer.new)
+        (E.contents errors.old) (E.contents errors.new))) }
 {
     let outcome = take_lines(alloc, worker, plan, reader, writer, errors);
     match flush(writer) {
@@ -97,18 +99,20 @@ pub fn run<L: LineWorker, R: BufRead, W: Write, E: Write>(
 // Answers the lines, as `run` does, without the last flush.
 fn take_lines<L: LineWorker, R: BufRead, W: Write, E: Write>(
     alloc: Global,
-    worker: &L,
+    worker: &mut L,
     plan: &Plan<'_>,
     reader: &mut R,
     writer: &mut W,
     errors: &mut E,
 ) -> Result<Summary, Halt>
     ensures done { IfOk result (λ summary. IfSome (R.remaining reader.old) (λ input.
-        IsRun (L.rule worker.now) plan.now input (W.contents writer.old) (W.contents writer.new)
+        IsRun (L.rule worker.old) L.after worker.old worker.new plan.now input
+        (W.contents writer.old) (W.contents writer.new)
         (E.contents errors.old) (E.contents errors.new) summary)) }
     ensures beginning { OnErr result (IfSome (R.remaining reader.old) (λ input.
-        BeginsRun (L.rule worker.now) plan.now input (W.contents writer.old)
-        (W.contents writer.new) (E.contents errors.old) (E.contents errors.new))) }
+        BeginsRun (L.rule worker.old) L.after worker.old worker.new plan.now input
+        (W.contents writer.old) (W.contents writer.new)
+        (E.contents errors.old) (E.contents errors.new))) }
 {
     let mut row = Vec::new(alloc);
     let mut rows = 0;
@@ -156,13 +160,16 @@ pub enum Answer {
 /// `Memory`: an allocation failed.
 pub fn answer_next<L: LineWorker, R: BufRead>(
     alloc: Global,
-    worker: &L,
+    worker: &mut L,
     form: Form,
     reader: &mut R,
     row: &mut Vec<u8>,
 ) -> Result<Answer, Halt>
-    ensures { IfOk result (λ answer. AnswersNext (L.rule worker.now) form
+    ensures answer { IfOk result (λ answer. AnswersNext (L.rule worker.old) form
         (R.remaining reader.old) (R.remaining reader.new) answer) }
+    ensures after { IfOk result (λ answer.
+        worker.new ≡ after_answer L.after worker.old answer) }
+    ensures kept { OnErr result (worker.new ≡ worker.old) }
 {
     match read_row(form, reader, row)? {
         Found::End => Ok(Answer::End),

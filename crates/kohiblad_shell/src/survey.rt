@@ -1,133 +1,55 @@
 //! Counting what the values of rows are.
 
-ghost use Rattle.std.specs.Prelude.{◌≡◌, ◌≤◌, ℕ, List, IfOk, IfErr, IfSome, OnOk, OnErr};
-ghost use Rattle.std.specs.Prelude.{Err, string_bytes};
-ghost use Rattle.kohiblad_shell.specs.Words.{BeginsSurvey, CountsNext, IsRefusedRow, IsRow};
-ghost use Rattle.kohiblad_shell.specs.Words.{IsSurveyed, container_count_lines, count_line};
+ghost use Rattle.std.specs.Prelude.{◌≡◌, IfOk, IfErr, string_bytes};
+ghost use Rattle.kohiblad_shell.specs.Words.{IsDocument, IsRefusedRow, IsRow};
+ghost use Rattle.kohiblad_shell.specs.Words.{container_count_lines, count_line, document_rule};
 ghost use Rattle.kohiblad_shell.specs.Words.{extension_count_lines, length_lines};
 ghost use Rattle.kohiblad_shell.specs.Words.{number_count_lines, row_count_lines};
 ghost use Rattle.kohiblad_shell.specs.Words.{scale_lines, survey_lines, time_count_lines};
-ghost use Rattle.kohiblad_shell.specs.Words.{with_document};
+ghost use Rattle.kohiblad_shell.specs.Words.{with_row};
 
 use crate::first::first_value;
-use crate::halt::Halt;
-use crate::input::{Form, Found, read_row};
-use crate::outcome::{LineFault, Reason, Unanswered};
+use crate::input::Form;
+use crate::outcome::{LineWorker, Unanswered};
 use crate::row::{check_document, parse_line};
-use crate::run::{Plan, Summary, report_fault};
 use jsonb::Document;
-use jsonb_functions::Selector;
+use jsonb_path::Path;
 use jsonb_typed::{Scales, Survey};
 use std::alloc::{AllocError, Global};
-use std::io::{self, BufRead, Write};
 
-/// Counts the first value to which the path leads in each row of the reader, in order. The report
-/// of each row that is wrong goes to `errors`, and it is not counted. A run whose plan stops at
-/// faults ends at the first row that is wrong; every other run reads to the end, or to a document
-/// that is cut off.
-///
-/// After an error some rows from the first on were counted, and a prefix of the reports written.
-/// The errors are those of `run`.
-pub fn survey_rows<R: BufRead, E: Write>(
-    alloc: Global,
-    path: &[Selector<'_>],
-    plan: &Plan<'_>,
-    reader: &mut R,
-    survey: &mut Survey,
-    errors: &mut E,
-) -> Result<Summary, Halt>
-    ensures done { IfOk result (λ summary. IfSome (R.remaining reader.old) (λ input.
-        IsSurveyed path.now plan.now input survey.old survey.new
-        (E.contents errors.old) (E.contents errors.new) summary)) }
-    ensures beginning { OnErr result (IfSome (R.remaining reader.old) (λ input.
-        BeginsSurvey path.now plan.now input survey.old survey.new
-        (E.contents errors.old) (E.contents errors.new))) }
-{
-    let mut row = Vec::new(alloc);
-    let mut rows = 0;
-    let mut faults = 0;
-    'counting: for before in 0..u64::MAX {
-        match count_next(alloc, path, plan.form, reader, &mut row, survey)? {
-            Counted::Row => rows += 1,
-            Counted::Wrong(fault) => {
-                // No rows are written that would come before the report.
-                report_fault(alloc, plan.name, before + 1, fault, &mut io::sink(), errors)?;
-                faults += 1;
-                if plan.stops_at(fault) {
-                    return Ok(Summary {
-                        rows,
-                        faults,
-                        is_stopped: true,
-                    });
-                }
-            }
-            Counted::End => {
-                return Ok(Summary {
-                    rows,
-                    faults,
-                    is_stopped: false,
-                });
-            }
-        }
-    }
-    Err(Halt::Read)
+/// Counts the first value to which the path leads in each row, and gives the row's document.
+#[derive(Clone, Copy)]
+pub struct ValueCounter<'a> {
+    pub path: &'a Path,
+    pub form: Form,
+    pub survey: Survey,
 }
 
-// What came of the next row of an input.
-enum Counted {
-    // It was counted.
-    Row,
-    // It is wrong.
-    Wrong(LineFault),
-    // No row is left.
-    End,
-}
+impl LineWorker for ValueCounter<'_> {
+    ghost rule = { λ counter. document_rule counter.form };
 
-// Reads the next row, in place of what `row` held, and counts its value.
-fn count_next<R: BufRead>(
-    alloc: Global,
-    path: &[Selector<'_>],
-    form: Form,
-    reader: &mut R,
-    row: &mut Vec<u8>,
-    survey: &mut Survey,
-) -> Result<Counted, Halt>
-    ensures ok { IfOk result (λ next. CountsNext path.now form
-        (R.remaining reader.old) (R.remaining reader.new) survey.old survey.new next) }
-    ensures kept { OnErr result (survey.new ≡ survey.old) }
-{
-    match read_row(form, reader, row)? {
-        Found::End => Ok(Counted::End),
-        Found::Row => match count_row(alloc, path, form, row, survey) {
-            Ok(()) => Ok(Counted::Row),
-            Err(Unanswered::Wrong(fault)) => Ok(Counted::Wrong(fault)),
-            Err(Unanswered::OutOfMemory) => Err(Halt::Memory),
-        },
-        Found::Cut => Ok(Counted::Wrong(LineFault::plain(row.len(), Reason::Cut))),
+    ghost after = { with_row };
+
+    ghost keeps = { λ counter rows line outcome is. is };
+
+    fn answer(&mut self, alloc: Global, row: &[u8]) -> Result<Vec<u8>, Unanswered> {
+        let bytes = row_document(alloc, self.form, row)?;
+        let value = first_value(alloc, Document::new_unchecked(&bytes), self.path)?;
+        self.survey.add_member(value);
+        Ok(bytes)
     }
 }
 
-// Counts the value of a row.
-fn count_row(
-    alloc: Global,
-    path: &[Selector<'_>],
-    form: Form,
-    row: &[u8],
-    survey: &mut Survey,
-) -> Result<(), Unanswered>
-    ensures counted { OnOk result ((document : List ℕ) × (IsRow form row.now document
-        × (survey.new ≡ with_document path.now survey.old document))) }
+// The document of a row.
+fn row_document(alloc: Global, form: Form, row: &[u8]) -> Result<Vec<u8>, Unanswered>
+    ensures row { IfOk result (λ bytes. IsRow form row.now bytes.items) }
+    ensures document { IfOk result (λ bytes. IsDocument bytes.items) }
     ensures refused { IfErr result (IsRefusedRow form row.now) }
-    ensures kept { OnErr result (survey.new ≡ survey.old) }
 {
     match form {
-        Form::Lines(reading) => {
-            let owned = parse_line(alloc, row, reading)?;
-            survey.add_member(first_value(Document::new_unchecked(owned.as_bytes()), path));
-        }
-        Form::Documents => survey.add_member(first_value(check_document(row)?, path)),
+        Form::Lines(reading) => Ok(parse_line(alloc, row, reading)?.to_vec()),
+        Form::Documents => Ok(check_document(row)?.as_bytes().to_vec(alloc)?),
     }
-    Ok(())
 }
 
 /// The lines of a survey: each count that is not 0 with its name.

@@ -2,11 +2,12 @@
 
 ghost use Rattle.kohiblad_shell.specs.Words.{IsDocument};
 
-use crate::first::has_value;
+use crate::first::{first_value, passes_path};
 use crate::operation::{Change, Operation};
 use crate::progress::Progress;
 use jsonb::Document;
-use jsonb_functions::{Selector, Step, get_path};
+use jsonb_functions::{Step, get_path};
+use jsonb_path::Path;
 use std::alloc::{AllocError, Global};
 use std::cell::Cell;
 
@@ -39,13 +40,19 @@ impl<'a> Watch<'a> {
 
     /// Notes the document of a row, and to which paths it has a value of those that led to none in
     /// the rows before.
-    pub fn see(&self, operation: Operation<'_>, document: Document<'_>) {
+    pub fn see(
+        &self,
+        alloc: Global,
+        operation: Operation<'_>,
+        document: Document<'_>,
+    ) -> Result<(), AllocError> {
         self.progress.count_row();
         for (index, has_led) in self.have_led.iter().enumerate() {
-            if !has_led.get() && leads(operation, index, document) {
+            if !has_led.get() && leads(alloc, operation, index, document)? {
                 has_led.set(true);
             }
         }
+        Ok(())
     }
 
     /// Notes whether a removal finds something in these bytes of a document, by its path; so many
@@ -84,28 +91,32 @@ fn has_end(bytes: &[u8], path: &[Step<'_>]) -> bool
 }
 
 // Whether the path of an operation after so many others, or the name, leads to a value.
-fn leads(operation: Operation<'_>, index: usize, document: Document<'_>) -> bool {
-    if let Operation::Change(Change::Pick(names)) = operation {
-        return match names.get(index) {
+fn leads(
+    alloc: Global,
+    operation: Operation<'_>,
+    index: usize,
+    document: Document<'_>,
+) -> Result<bool, AllocError> {
+    match operation {
+        Operation::Change(Change::Pick(names)) => Ok(match names.get(index) {
             Some(name) => get_path(document, &[Step::Key(*name)]).is_some(),
             None => false,
-        };
-    }
-    match path_at(operation, index) {
-        Some(path) => has_value(document, path),
-        None => false,
+        }),
+        Operation::Filter(path) => passes_path(alloc, document, path),
+        other => match path_at(other, index) {
+            Some(path) => Ok(first_value(alloc, document, path)?.is_some()),
+            None => Ok(false),
+        },
     }
 }
 
 // The path of an operation after so many others, of those that may be watched.
-fn path_at<'a>(operation: Operation<'a>, index: usize) -> Option<&'a [Selector<'a>]> {
+fn path_at<'a>(operation: Operation<'a>, index: usize) -> Option<&'a Path> {
     match operation {
-        Operation::Get(path, _) | Operation::Select(path, _) | Operation::Filter(path) => {
-            Some(path)
-        }
+        Operation::Get(path, _) | Operation::Select(path, _) => Some(path),
         Operation::Range(range) => Some(range.path),
-        Operation::Sort(paths) => paths.get(index).map(|path| path.as_slice()),
-        Operation::Extract(columns) => columns.get(index).map(|column| column.path.as_slice()),
+        Operation::Sort(paths) => paths.get(index),
+        Operation::Extract(columns) => columns.get(index).map(|column| &column.path),
         _ => None,
     }
 }

@@ -1,7 +1,6 @@
 use Rattle.std.proofs.Common.{◌≡◌, ◌<◌, ℕ, List, ◌++◌, length, take, ap, ap₂, sym, ◌∙◌, arith}
 use Rattle.std.proofs.lemmas.Grind.{common_steps}
 use Rattle.jsonb.specs.Document.{document_tree}
-use Rattle.jsonb_functions.specs.Selected.{selected, first_tree}
 use Rattle.kohiblad_shell.specs.Keys.{path_key, path_keys}
 use Rattle.kohiblad_shell.proofs.KeyLaws.{path_keys-more}
 use Rattle.kohiblad_shell.proofs.key.path_keys.Goals as goal
@@ -13,8 +12,7 @@ loop-path-preserved c = λ whole.
     let low : c.loop-path.path-index < length c.args.paths.now = omega arith in
     items
     ∙ ap₂ (λ (a b : List ℕ). a ++ b) (c.loop-path.invariant old)
-    (ap path_key (c.first_value.ensures
-    ∙ ap (λ p. first_tree (selected p t)) c.deref.ensures.value))
+    (ap path_key c.in_ok-value.ensures)
     ∙ sym (path_keys-more c.args.paths.now c.loop-path.path-index c.path-item.result t low
     c.path-item.is)
 

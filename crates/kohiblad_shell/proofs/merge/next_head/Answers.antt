@@ -14,7 +14,7 @@ returns-then-not-stays_sorted-clause-fault g c =
         next_unsorted (g.L.LineWorker.rule c.args.worker.now) c.args.form
             (g.R.Read.remaining c.args.reader.now) (g.R.Read.remaining c.answer_next.new.reader)
             (option_map (λ h. h.now) c.args.last) c.in-Rows.lines c.in_ok-head-in-Rows.head
-            (rw c.in-Rows.is at c.in_ok-lines.ensures)
+            (rw c.in-Rows.is at c.in_ok-lines.ensures.answer)
             (rw c.deref.ensures.value at c.in_ok-head-in-Rows.ensures.row) not,
       ),
     )
@@ -28,6 +28,6 @@ returns-in-Wrong-clause-fault g c =
         next_wrong (g.L.LineWorker.rule c.args.worker.now) c.args.form
             (g.R.Read.remaining c.args.reader.now) (g.R.Read.remaining c.answer_next.new.reader)
             (option_map (λ h. h.now) c.args.last) c.in-Wrong.fault
-            (rw c.in-Wrong.is at c.in_ok-lines.ensures),
+            (rw c.in-Wrong.is at c.in_ok-lines.ensures.answer),
       ),
     )
