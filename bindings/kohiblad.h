@@ -70,7 +70,12 @@
  * depth; that of kohiblad_concat may nest one level deeper than that.
  * kohiblad_merge_patch takes KOHIBLAD_PATCH_LEVEL_STACK bytes for each level. parse, text_fault and
  * text_expected do not recurse, but the depth given to kohiblad_parse is also how deep its document
- * nests. The calls without a depth do not recurse.
+ * nests. The calls without a depth do not recurse, but for those that take a path of SQL/JSON:
+ * kohiblad_path_query, _path_exists, _path_match, _path_fault, _path_report and _path_print take up
+ * to 11 KB for each level of parentheses, filters, subscripts and signs of the path, of which it
+ * has at most 64, and then up to 1,900 bytes for each of the 400 levels at most of its operators
+ * and other parts. So KOHIBLAD_PATH_STACK bytes are enough for any path, beside those for the
+ * document's levels.
  *
  * NULL is allowed for bytes, texts, offsets, values, states, out and order whose length is 0, and
  * for `key` of kohiblad_next. A `length`, a `count`, a cursor and `value` of kohiblad_next are
@@ -95,6 +100,7 @@
 #define KOHIBLAD_EDIT_LEVEL_STACK 2048
 #define KOHIBLAD_PATCH_LEVEL_STACK 2432
 #define KOHIBLAD_CALL_STACK 8192
+#define KOHIBLAD_PATH_STACK 1048576
 
 /* The room that is enough for the words of a fault. */
 #define KOHIBLAD_WORDS_ROOM 512
@@ -154,7 +160,18 @@ enum kohiblad_status {
     KOHIBLAD_TRAILING_DATA = 21,          /* there are bytes after the end of the file */
     KOHIBLAD_WRONG_LENGTH = 22,           /* a length does not fit the number of rows */
     KOHIBLAD_OUT_OF_FORM = 23,            /* what is in the file is out of form */
-    KOHIBLAD_NOT_READ_BACK = 24           /* the file did not give its rows back */
+    KOHIBLAD_NOT_READ_BACK = 24,          /* the file did not give its rows back */
+    KOHIBLAD_MEMBER_NOT_FOUND = 25,       /* of a path: an object has no such member */
+    KOHIBLAD_OBJECT_NOT_FOUND = 26,       /* of a path: a value is no object */
+    KOHIBLAD_ARRAY_NOT_FOUND = 27,        /* of a path: a value is no array */
+    KOHIBLAD_INVALID_SUBSCRIPT = 28,      /* of a path: no index, or out of bounds */
+    KOHIBLAD_NON_NUMERIC_ITEM = 29,       /* of a path: a value to be rounded is no number */
+    KOHIBLAD_SINGLETON_REQUIRED = 30,     /* of a path: an operand is not one number */
+    KOHIBLAD_NUMBER_NOT_FOUND = 31,       /* of a path: a value after a sign is no number */
+    KOHIBLAD_DIVISION_BY_ZERO = 32,       /* of a path: a remainder by zero */
+    KOHIBLAD_OUT_OF_RANGE = 33,           /* of a path: a computed number does not fit */
+    KOHIBLAD_UNDEFINED_VARIABLE = 34,     /* of a path: a variable is not given */
+    KOHIBLAD_BOOLEAN_REQUIRED = 35        /* of a path: there is no one boolean or null */
 };
 
 /* What may come in a text: kohiblad_text_expected returns the sum of some of them. */
@@ -180,6 +197,49 @@ enum kohiblad_expected_class {
     KOHIBLAD_EXPECTED_S = 0x40000,
     KOHIBLAD_EXPECTED_U = 0x80000,       /* and that of the escape that ends a surrogate pair */
     KOHIBLAD_EXPECTED_END = 0x100000     /* the text may end */
+};
+
+/* Why a text is no path, as kohiblad_path_fault says it. */
+enum kohiblad_path_reason {
+    KOHIBLAD_PATH_UNCLOSED_COMMENT = 1,
+    KOHIBLAD_PATH_UNCLOSED_TEXT = 2,
+    KOHIBLAD_PATH_INVALID_ESCAPE = 3, /* a backslash begins no escape */
+    KOHIBLAD_PATH_INVALID_NUMBER = 4, /* a number goes on with a letter or another digit */
+    KOHIBLAD_PATH_EXPECTED = 5,       /* something else is expected: enum kohiblad_path_expected */
+    KOHIBLAD_PATH_LEFT_OUT = 6,       /* it is not read here: enum kohiblad_path_left_out */
+    KOHIBLAD_PATH_TOO_DEEP = 7        /* parentheses, filters, subscripts and signs: 256 levels */
+};
+
+/* What may come where a text is no path. */
+enum kohiblad_path_expected {
+    KOHIBLAD_PATH_EXPECTED_KEY = 1,          /* or `*`, `**` or a method, after a point */
+    KOHIBLAD_PATH_EXPECTED_LEVEL = 2,        /* of `.**`: a number below 2^31, or `last` */
+    KOHIBLAD_PATH_EXPECTED_KEY_OR_VALUE = 3, /* after `.keyvalue()` */
+    KOHIBLAD_PATH_EXPECTED_VALUE = 4,
+    KOHIBLAD_PATH_EXPECTED_TEXT = 5,         /* or a variable, after `starts with` */
+    KOHIBLAD_PATH_EXPECTED_MARK = 6,         /* the character `mark` */
+    KOHIBLAD_PATH_EXPECTED_EXPRESSION = 7,   /* and no test, before this place */
+    KOHIBLAD_PATH_EXPECTED_TEST = 8,         /* and no expression, before this place */
+    KOHIBLAD_PATH_EXPECTED_END = 9           /* or an operator or an accessor */
+};
+
+/* What stands where something else is expected. */
+enum kohiblad_path_found {
+    KOHIBLAD_PATH_FOUND_END = 1,
+    KOHIBLAD_PATH_FOUND_WORD = 2,
+    KOHIBLAD_PATH_FOUND_TEXT = 3, /* in quotes */
+    KOHIBLAD_PATH_FOUND_VARIABLE = 4,
+    KOHIBLAD_PATH_FOUND_NUMBER = 5,
+    KOHIBLAD_PATH_FOUND_MARK = 6  /* one character, or two that are one operator */
+};
+
+/* What PostgreSQL reads in a path, and this library does not. */
+enum kohiblad_path_left_out {
+    KOHIBLAD_PATH_DOUBLE = 1,      /* `.double()` */
+    KOHIBLAD_PATH_DATETIME = 2,    /* `.datetime()` */
+    KOHIBLAD_PATH_WIDE_NUMBER = 3, /* past 128 bits or a scale of 255 */
+    KOHIBLAD_PATH_DIVISION = 4,    /* `/` */
+    KOHIBLAD_PATH_LIKE_REGEX = 5   /* `like_regex` */
 };
 
 /* The kinds of values, as kohiblad_kind returns them. */
@@ -237,6 +297,17 @@ struct kohiblad_fault {
 struct kohiblad_expected {
     uint32_t status;
     uint32_t classes; /* the sum of some of enum kohiblad_expected_class */
+};
+
+/* Where and why a text is no path. */
+struct kohiblad_path_refusal {
+    uint32_t status;
+    uint32_t reason;   /* enum kohiblad_path_reason, or 0 */
+    uint64_t offset;   /* of what cannot stand there */
+    uint32_t expected; /* enum kohiblad_path_expected, or 0 */
+    uint32_t mark;     /* the character of the mark that is expected, or 0 */
+    uint32_t found;    /* enum kohiblad_path_found, or 0 */
+    uint32_t left_out; /* enum kohiblad_path_left_out, or 0 */
 };
 
 /* The state of a walk: the index of the next child, and the offsets of its key and value. */
@@ -455,6 +526,17 @@ static inline const char *kohiblad_status_text(uint32_t status) {
     case KOHIBLAD_WRONG_LENGTH: return "WrongLength";
     case KOHIBLAD_OUT_OF_FORM: return "OutOfForm";
     case KOHIBLAD_NOT_READ_BACK: return "NotReadBack";
+    case KOHIBLAD_MEMBER_NOT_FOUND: return "MemberNotFound";
+    case KOHIBLAD_OBJECT_NOT_FOUND: return "ObjectNotFound";
+    case KOHIBLAD_ARRAY_NOT_FOUND: return "ArrayNotFound";
+    case KOHIBLAD_INVALID_SUBSCRIPT: return "InvalidSubscript";
+    case KOHIBLAD_NON_NUMERIC_ITEM: return "NonNumericItem";
+    case KOHIBLAD_SINGLETON_REQUIRED: return "SingletonRequired";
+    case KOHIBLAD_NUMBER_NOT_FOUND: return "NumberNotFound";
+    case KOHIBLAD_DIVISION_BY_ZERO: return "DivisionByZero";
+    case KOHIBLAD_OUT_OF_RANGE: return "OutOfRange";
+    case KOHIBLAD_UNDEFINED_VARIABLE: return "UndefinedVariable";
+    case KOHIBLAD_BOOLEAN_REQUIRED: return "BooleanRequired";
     default: return "Unknown";
     }
 }
@@ -490,6 +572,17 @@ static inline const char *kohiblad_status_reason(uint32_t status) {
     case KOHIBLAD_WRONG_LENGTH: return "a length does not fit the number of rows";
     case KOHIBLAD_OUT_OF_FORM: return "what is in the file is out of form";
     case KOHIBLAD_NOT_READ_BACK: return "the file did not give its rows back";
+    case KOHIBLAD_MEMBER_NOT_FOUND: return "the path asks for a member that is not there";
+    case KOHIBLAD_OBJECT_NOT_FOUND: return "the path asks for the members of what is no object";
+    case KOHIBLAD_ARRAY_NOT_FOUND: return "the path asks for the items of what is no array";
+    case KOHIBLAD_INVALID_SUBSCRIPT: return "a subscript of the path is no index, or out of bounds";
+    case KOHIBLAD_NON_NUMERIC_ITEM: return "the path rounds what is no number";
+    case KOHIBLAD_SINGLETON_REQUIRED: return "an operand of the path is not one number";
+    case KOHIBLAD_NUMBER_NOT_FOUND: return "what is after a sign of the path is no number";
+    case KOHIBLAD_DIVISION_BY_ZERO: return "the path takes a remainder by zero";
+    case KOHIBLAD_OUT_OF_RANGE: return "a number that the path computes does not fit";
+    case KOHIBLAD_UNDEFINED_VARIABLE: return "a variable of the path is not given";
+    case KOHIBLAD_BOOLEAN_REQUIRED: return "the path gives no one boolean or null";
     default: return "the status is unknown";
     }
 }
@@ -1731,6 +1824,68 @@ static inline uint32_t kohiblad_index_keys(const uint8_t *bytes, size_t size, si
 static inline uint32_t kohiblad_top_keys(const uint8_t *bytes, size_t size, size_t depth,
     uint64_t *out, size_t room, size_t *count) KOHIBLAD_INLINE("kohiblad_top_keys");
 
+/* Whether a text is a path of SQL/JSON, and where and why it is not. OK, with the length of the
+ * text, if it is one; INVALID_UTF8 if the text is not UTF-8; OTHER_KIND if it is not a path, at the
+ * byte of the offset and by the reason; OUT_OF_MEMORY if an allocation fails. If the reason is that
+ * something else is expected there, `expected` says what, with `mark` the character of a mark that
+ * is expected, and `found` what is there. If it is left out here, `left_out` says what. Other
+ * fields are 0, and with every other status but OK and OTHER_KIND all of them. */
+static inline struct kohiblad_path_refusal kohiblad_path_fault(const uint8_t *path,
+    size_t path_size) KOHIBLAD_INLINE("kohiblad_path_fault");
+
+/* Copies why a text is not a path of SQL/JSON to `out`: the text about the place as a line, and on
+ * the next one a caret under the place, what may come there, what was found, and of some texts how
+ * they are written here. INVALID_UTF8 if the text is not UTF-8; NONE if it is a path; OUT_OF_MEMORY
+ * if an allocation fails. */
+static inline uint32_t kohiblad_path_report(const uint8_t *path, size_t path_size, uint8_t *out,
+    size_t room, size_t *length) KOHIBLAD_INLINE("kohiblad_path_report");
+
+/* Copies the text of a path of SQL/JSON as PostgreSQL prints a `jsonpath` to `out`: `lax` is left
+ * out, keys are quoted, and an operator stands in parentheses unless it binds tighter than the one
+ * around it. INVALID_UTF8 if the path is not UTF-8; OTHER_KIND if the text is not a path;
+ * OUT_OF_MEMORY if an allocation fails. */
+static inline uint32_t kohiblad_path_print(const uint8_t *path, size_t path_size, uint8_t *out,
+    size_t room, size_t *length) KOHIBLAD_INLINE("kohiblad_path_print");
+
+/* Copies the canonical document of the array of all values that a path of SQL/JSON gives of a
+ * document to `out`. The path is a text as PostgreSQL reads its `jsonpath`, and `variables` the
+ * document of an object: each member is the variable of this name. No bytes are no variables. With
+ * `silent` 0 an error that gives the path up is the status, which is the name of the error;
+ * otherwise the values before it are copied, and only UNDEFINED_VARIABLE stays a status.
+ * INVALID_UTF8 if the path is not UTF-8; then INVALID_JSONB if the bytes or the variables are not a
+ * document of at most this depth; then OTHER_KIND if the text is not a path, or the variables are
+ * not an object; then the status of the error; INVALID_JSONB also if the array exceeds a limit of
+ * the format; OUT_OF_MEMORY if an allocation fails. */
+static inline uint32_t kohiblad_path_query(const uint8_t *bytes, size_t size, const uint8_t *path,
+    size_t path_size, const uint8_t *variables, size_t variables_size, uint32_t silent,
+    size_t depth, uint8_t *out, size_t room, size_t *length) KOHIBLAD_INLINE("kohiblad_path_query");
+
+/* Whether a path of SQL/JSON gives a value of a document, as 0 or 1. The path is a text as
+ * PostgreSQL reads its `jsonpath`, and `variables` the document of an object: each member is the
+ * variable of this name. No bytes are no variables. An error that gives the path up is the status,
+ * which is the name of the error, unless the path is not strict and a value comes before the error;
+ * with a `silent` other than 0 the status is NONE in its place, but for UNDEFINED_VARIABLE.
+ * INVALID_UTF8 if the path is not UTF-8; then INVALID_JSONB if the bytes or the variables are not a
+ * document of at most this depth; then OTHER_KIND if the text is not a path, or the variables are
+ * not an object; OUT_OF_MEMORY if an allocation fails. */
+static inline struct kohiblad_truth kohiblad_path_exists(const uint8_t *bytes, size_t size,
+    const uint8_t *path, size_t path_size, const uint8_t *variables, size_t variables_size,
+    uint32_t silent, size_t depth) KOHIBLAD_INLINE("kohiblad_path_exists");
+
+/* The truth that a path of SQL/JSON gives of a document, as 0 or 1, as `jsonb_path_match` of
+ * PostgreSQL: of its one value, which is a boolean; NONE if it is null. The path is a text as
+ * PostgreSQL reads its `jsonpath`, and `variables` the document of an object: each member is the
+ * variable of this name. No bytes are no variables. An error that gives the path up is the status,
+ * which is the name of the error, and BOOLEAN_REQUIRED if there is another number of values or
+ * another value; with a `silent` other than 0 these are hidden, but for UNDEFINED_VARIABLE: then
+ * the answer is that of the one value before the error, or NONE. INVALID_UTF8 if the path is not
+ * UTF-8; then INVALID_JSONB if the bytes or the variables are not a document of at most this depth;
+ * then OTHER_KIND if the text is not a path, or the variables are not an object; OUT_OF_MEMORY if
+ * an allocation fails. */
+static inline struct kohiblad_truth kohiblad_path_match(const uint8_t *bytes, size_t size,
+    const uint8_t *path, size_t path_size, const uint8_t *variables, size_t variables_size,
+    uint32_t silent, size_t depth) KOHIBLAD_INLINE("kohiblad_path_match");
+
 /* The exports of the library. */
 uint32_t kohiblad_export_version(void) KOHIBLAD_EXPORT("kohiblad_version");
 uint32_t kohiblad_export_status_name(uint32_t status, uint8_t *out, size_t room, size_t *length)
@@ -2034,6 +2189,21 @@ uint32_t kohiblad_export_index_keys(const uint8_t *bytes, size_t size, size_t de
     size_t room, size_t *count) KOHIBLAD_EXPORT("kohiblad_index_keys");
 uint32_t kohiblad_export_top_keys(const uint8_t *bytes, size_t size, size_t depth, uint64_t *out,
     size_t room, size_t *count) KOHIBLAD_EXPORT("kohiblad_top_keys");
+struct kohiblad_path_refusal kohiblad_export_path_fault(const uint8_t *path, size_t path_size)
+    KOHIBLAD_EXPORT("kohiblad_path_fault");
+uint32_t kohiblad_export_path_report(const uint8_t *path, size_t path_size, uint8_t *out,
+    size_t room, size_t *length) KOHIBLAD_EXPORT("kohiblad_path_report");
+uint32_t kohiblad_export_path_print(const uint8_t *path, size_t path_size, uint8_t *out,
+    size_t room, size_t *length) KOHIBLAD_EXPORT("kohiblad_path_print");
+uint32_t kohiblad_export_path_query(const uint8_t *bytes, size_t size, const uint8_t *path,
+    size_t path_size, const uint8_t *variables, size_t variables_size, uint32_t silent,
+    size_t depth, uint8_t *out, size_t room, size_t *length) KOHIBLAD_EXPORT("kohiblad_path_query");
+struct kohiblad_truth kohiblad_export_path_exists(const uint8_t *bytes, size_t size,
+    const uint8_t *path, size_t path_size, const uint8_t *variables, size_t variables_size,
+    uint32_t silent, size_t depth) KOHIBLAD_EXPORT("kohiblad_path_exists");
+struct kohiblad_truth kohiblad_export_path_match(const uint8_t *bytes, size_t size,
+    const uint8_t *path, size_t path_size, const uint8_t *variables, size_t variables_size,
+    uint32_t silent, size_t depth) KOHIBLAD_EXPORT("kohiblad_path_match");
 
 /* Whether two blocks have a byte in common. */
 static inline bool kohiblad_meet(const void *left, size_t left_size,
@@ -3160,6 +3330,49 @@ static inline uint32_t kohiblad_top_keys(const uint8_t *bytes, size_t size, size
         return KOHIBLAD_OVERLAP;
     return kohiblad_export_top_keys(kohiblad_in(bytes), size, depth, kohiblad_uint64s_out(out),
         room, count);
+}
+static inline struct kohiblad_path_refusal kohiblad_path_fault(const uint8_t *path,
+    size_t path_size) {
+    return kohiblad_export_path_fault(kohiblad_in(path), path_size);
+}
+static inline uint32_t kohiblad_path_report(const uint8_t *path, size_t path_size, uint8_t *out,
+    size_t room, size_t *length) {
+    if (!kohiblad_is_room(out, room, length)
+        || !kohiblad_is_apart(out, room, length, path, path_size))
+        return KOHIBLAD_OVERLAP;
+    return kohiblad_export_path_report(kohiblad_in(path), path_size, kohiblad_out(out), room,
+        length);
+}
+static inline uint32_t kohiblad_path_print(const uint8_t *path, size_t path_size, uint8_t *out,
+    size_t room, size_t *length) {
+    if (!kohiblad_is_room(out, room, length)
+        || !kohiblad_is_apart(out, room, length, path, path_size))
+        return KOHIBLAD_OVERLAP;
+    return kohiblad_export_path_print(kohiblad_in(path), path_size, kohiblad_out(out), room,
+        length);
+}
+static inline uint32_t kohiblad_path_query(const uint8_t *bytes, size_t size, const uint8_t *path,
+    size_t path_size, const uint8_t *variables, size_t variables_size, uint32_t silent,
+    size_t depth, uint8_t *out, size_t room, size_t *length) {
+    if (!kohiblad_is_room(out, room, length)
+        || !kohiblad_is_apart(out, room, length, bytes, size)
+        || !kohiblad_is_apart(out, room, length, path, path_size)
+        || !kohiblad_is_apart(out, room, length, variables, variables_size))
+        return KOHIBLAD_OVERLAP;
+    return kohiblad_export_path_query(kohiblad_in(bytes), size, kohiblad_in(path), path_size,
+        kohiblad_in(variables), variables_size, silent, depth, kohiblad_out(out), room, length);
+}
+static inline struct kohiblad_truth kohiblad_path_exists(const uint8_t *bytes, size_t size,
+    const uint8_t *path, size_t path_size, const uint8_t *variables, size_t variables_size,
+    uint32_t silent, size_t depth) {
+    return kohiblad_export_path_exists(kohiblad_in(bytes), size, kohiblad_in(path), path_size,
+        kohiblad_in(variables), variables_size, silent, depth);
+}
+static inline struct kohiblad_truth kohiblad_path_match(const uint8_t *bytes, size_t size,
+    const uint8_t *path, size_t path_size, const uint8_t *variables, size_t variables_size,
+    uint32_t silent, size_t depth) {
+    return kohiblad_export_path_match(kohiblad_in(bytes), size, kohiblad_in(path), path_size,
+        kohiblad_in(variables), variables_size, silent, depth);
 }
 
 static inline uint32_t kohiblad_next(const uint8_t *bytes, size_t size,

@@ -134,7 +134,7 @@ class ByteSpan {
 /* The bytes of a document, which are elsewhere. Any bytes may be given. */
 class View {
   public:
-    constexpr View() = default;
+    constexpr View() : data_(nullptr), size_(0) {}
     constexpr View(const std::uint8_t *data, std::size_t size) : data_(data), size_(size) {}
     View(const Bytes &bytes) : View(bytes.data(), bytes.size()) {}
     constexpr const std::uint8_t *data() const { return data_; }
@@ -162,15 +162,30 @@ class View {
     Node operator[](std::string_view name) const;
     Node operator[](std::size_t index) const;
     Node find_at(std::string_view path, std::size_t depth = usual_depth) const;
-    /* The values that a path with wildcards and filters selects, in place: `$.lines[*].price`, or
-     * `$.lines[*]?(@.price > 2)`. OTHER_KIND if the text is not a path. */
+    /* The array of all values that a path of SQL/JSON gives, as `$.lines[*] ? (@.price > 2)`, and
+     * whether it gives one. `matches` is what a test says, as `$.total > 100`: NONE if that is
+     * unknown. `variables` is an object, or no bytes; a silent call passes over the errors that
+     * give a path up. OTHER_KIND if the text is not a path, for the reason that `path_report` has
+     * in words. A path takes up to KOHIBLAD_PATH_STACK bytes of stack. */
+    Result<Document> query(std::string_view path, View variables = View(), bool silent = false,
+                           std::size_t depth = usual_depth) const;
+    Result<bool> path_exists(std::string_view path, View variables = View(), bool silent = false,
+                             std::size_t depth = usual_depth) const {
+        return truth(kohiblad_path_exists(data_, size_, bytes_of(path), path.size(),
+                                          variables.data_, variables.size_, silent, depth));
+    }
+    Result<bool> matches(std::string_view path, View variables = View(), bool silent = false,
+                         std::size_t depth = usual_depth) const {
+        return truth(kohiblad_path_match(data_, size_, bytes_of(path), path.size(), variables.data_,
+                                         variables.size_, silent, depth));
+    }
+    /* The values that an older path text selects, in place: `$.lines[*].price`, or
+     * `$.lines[*]?(@.price > 2)`; `[#-1]` is the last item there. OTHER_KIND if the text is not
+     * such a path. */
     Result<std::vector<Node>> select(std::string_view path, std::size_t depth = usual_depth) const;
     /* Whether it is an object with this key, or an array with this text among its items. */
     Result<bool> exists(std::string_view name, std::size_t depth = usual_depth) const {
-        const kohiblad_truth it
-            = kohiblad_exists(data_, size_, bytes_of(name), name.size(), depth);
-        if (it.status != KOHIBLAD_OK) return Status(it.status);
-        return it.value != 0;
+        return truth(kohiblad_exists(data_, size_, bytes_of(name), name.size(), depth));
     }
 
     bool is_document(std::size_t depth = usual_depth) const {
@@ -213,11 +228,7 @@ class View {
         if (it.status != KOHIBLAD_OK) return Status(it.status);
         return it;
     }
-    Result<bool> boolean() const {
-        const kohiblad_truth it = kohiblad_as_boolean(data_, size_);
-        if (it.status != KOHIBLAD_OK) return Status(it.status);
-        return it.value != 0;
-    }
+    Result<bool> boolean() const { return truth(kohiblad_as_boolean(data_, size_)); }
     Result<std::string_view> string() const {
         const kohiblad_place it = kohiblad_as_string(data_, size_);
         if (it.status != KOHIBLAD_OK) return Status(it.status);
@@ -244,10 +255,7 @@ class View {
     }
     Result<bool> contains(View other, std::size_t steps = SIZE_MAX,
                           std::size_t depth = usual_depth) const {
-        const kohiblad_truth it = kohiblad_contains(data_, size_, other.data_, other.size_, depth,
-                                                    steps);
-        if (it.status != KOHIBLAD_OK) return Status(it.status);
-        return it.value != 0;
+        return truth(kohiblad_contains(data_, size_, other.data_, other.size_, depth, steps));
     }
 
     /* The same as documents of their own. */
@@ -269,6 +277,10 @@ class View {
     Result<Document> concat(View other, std::size_t depth = usual_depth) const;
 
   private:
+    static Result<bool> truth(kohiblad_truth it) {
+        if (it.status != KOHIBLAD_OK) return Status(it.status);
+        return it.value != 0;
+    }
     Result<Bytes> path_in(std::string_view path, std::size_t depth) const {
         return written<Bytes>(2 * path.size() + 64, [&](auto *out, auto room, auto *length) {
             return kohiblad_path_in(data_, size_, bytes_of(path), path.size(), depth, out, room,
@@ -278,8 +290,8 @@ class View {
     Result<Document> edited(std::string_view path, std::uint32_t edit, View value,
                             std::size_t depth) const;
 
-    const std::uint8_t *data_ = nullptr;
-    std::size_t size_ = 0;
+    const std::uint8_t *data_;
+    std::size_t size_;
 };
 
 /* A value in place: the entry of a document and its payload, which are elsewhere; or the status of
@@ -553,6 +565,13 @@ inline std::string fault_words(std::string_view text, std::size_t depth = usual_
                          sizeof words);
     return words;
 }
+/* Why a text is not a path of SQL/JSON, in words of two lines with a caret under the place. The
+ * status is NONE if it is one. */
+inline Result<std::string> path_report(std::string_view path) {
+    return written<std::string>(512, [&](auto *out, auto room, auto *length) {
+        return kohiblad_path_report(bytes_of(path), path.size(), out, room, length);
+    });
+}
 inline kohiblad_fault fault_of(std::string_view text, std::size_t depth = usual_depth) {
     return kohiblad_text_fault(bytes_of(text), text.size(), depth, KOHIBLAD_EXPONENTS_ALLOWED);
 }
@@ -632,6 +651,13 @@ inline Node View::find_at(std::string_view path, std::size_t depth) const {
     const Result<Bytes> steps = path_in(path, depth);
     if (!steps) return steps.status();
     return Node(*this, kohiblad_get_path(data_, size_, steps->data(), steps->size(), depth));
+}
+inline Result<Document> View::query(std::string_view path, View variables, bool silent,
+                                    std::size_t depth) const {
+    return Document::made(size_ + 64, [&](auto *out, auto room, auto *length) {
+        return kohiblad_path_query(data_, size_, bytes_of(path), path.size(), variables.data_,
+                                   variables.size_, silent, depth, out, room, length);
+    });
 }
 inline Result<std::vector<Node>> View::select(std::string_view path, std::size_t depth) const {
     std::vector<kohiblad_place> places;

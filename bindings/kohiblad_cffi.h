@@ -40,7 +40,18 @@ enum kohiblad_status {
     KOHIBLAD_TRAILING_DATA = 21,
     KOHIBLAD_WRONG_LENGTH = 22,
     KOHIBLAD_OUT_OF_FORM = 23,
-    KOHIBLAD_NOT_READ_BACK = 24
+    KOHIBLAD_NOT_READ_BACK = 24,
+    KOHIBLAD_MEMBER_NOT_FOUND = 25,
+    KOHIBLAD_OBJECT_NOT_FOUND = 26,
+    KOHIBLAD_ARRAY_NOT_FOUND = 27,
+    KOHIBLAD_INVALID_SUBSCRIPT = 28,
+    KOHIBLAD_NON_NUMERIC_ITEM = 29,
+    KOHIBLAD_SINGLETON_REQUIRED = 30,
+    KOHIBLAD_NUMBER_NOT_FOUND = 31,
+    KOHIBLAD_DIVISION_BY_ZERO = 32,
+    KOHIBLAD_OUT_OF_RANGE = 33,
+    KOHIBLAD_UNDEFINED_VARIABLE = 34,
+    KOHIBLAD_BOOLEAN_REQUIRED = 35
 };
 
 enum kohiblad_expected_class {
@@ -65,6 +76,45 @@ enum kohiblad_expected_class {
     KOHIBLAD_EXPECTED_S = 0x40000,
     KOHIBLAD_EXPECTED_U = 0x80000,
     KOHIBLAD_EXPECTED_END = 0x100000
+};
+
+enum kohiblad_path_reason {
+    KOHIBLAD_PATH_UNCLOSED_COMMENT = 1,
+    KOHIBLAD_PATH_UNCLOSED_TEXT = 2,
+    KOHIBLAD_PATH_INVALID_ESCAPE = 3,
+    KOHIBLAD_PATH_INVALID_NUMBER = 4,
+    KOHIBLAD_PATH_EXPECTED = 5,
+    KOHIBLAD_PATH_LEFT_OUT = 6,
+    KOHIBLAD_PATH_TOO_DEEP = 7
+};
+
+enum kohiblad_path_expected {
+    KOHIBLAD_PATH_EXPECTED_KEY = 1,
+    KOHIBLAD_PATH_EXPECTED_LEVEL = 2,
+    KOHIBLAD_PATH_EXPECTED_KEY_OR_VALUE = 3,
+    KOHIBLAD_PATH_EXPECTED_VALUE = 4,
+    KOHIBLAD_PATH_EXPECTED_TEXT = 5,
+    KOHIBLAD_PATH_EXPECTED_MARK = 6,
+    KOHIBLAD_PATH_EXPECTED_EXPRESSION = 7,
+    KOHIBLAD_PATH_EXPECTED_TEST = 8,
+    KOHIBLAD_PATH_EXPECTED_END = 9
+};
+
+enum kohiblad_path_found {
+    KOHIBLAD_PATH_FOUND_END = 1,
+    KOHIBLAD_PATH_FOUND_WORD = 2,
+    KOHIBLAD_PATH_FOUND_TEXT = 3,
+    KOHIBLAD_PATH_FOUND_VARIABLE = 4,
+    KOHIBLAD_PATH_FOUND_NUMBER = 5,
+    KOHIBLAD_PATH_FOUND_MARK = 6
+};
+
+enum kohiblad_path_left_out {
+    KOHIBLAD_PATH_DOUBLE = 1,
+    KOHIBLAD_PATH_DATETIME = 2,
+    KOHIBLAD_PATH_WIDE_NUMBER = 3,
+    KOHIBLAD_PATH_DIVISION = 4,
+    KOHIBLAD_PATH_LIKE_REGEX = 5
 };
 
 enum kohiblad_kind_number {
@@ -116,6 +166,16 @@ struct kohiblad_fault {
 struct kohiblad_expected {
     uint32_t status;
     uint32_t classes;
+};
+
+struct kohiblad_path_refusal {
+    uint32_t status;
+    uint32_t reason;
+    uint64_t offset;
+    uint32_t expected;
+    uint32_t mark;
+    uint32_t found;
+    uint32_t left_out;
 };
 
 struct kohiblad_cursor {
@@ -527,3 +587,17 @@ uint32_t kohiblad_index_keys(const uint8_t *bytes, size_t size, size_t depth, ui
     size_t room, size_t *count);
 uint32_t kohiblad_top_keys(const uint8_t *bytes, size_t size, size_t depth, uint64_t *out,
     size_t room, size_t *count);
+struct kohiblad_path_refusal kohiblad_path_fault(const uint8_t *path, size_t path_size);
+uint32_t kohiblad_path_report(const uint8_t *path, size_t path_size, uint8_t *out, size_t room,
+    size_t *length);
+uint32_t kohiblad_path_print(const uint8_t *path, size_t path_size, uint8_t *out, size_t room,
+    size_t *length);
+uint32_t kohiblad_path_query(const uint8_t *bytes, size_t size, const uint8_t *path,
+    size_t path_size, const uint8_t *variables, size_t variables_size, uint32_t silent,
+    size_t depth, uint8_t *out, size_t room, size_t *length);
+struct kohiblad_truth kohiblad_path_exists(const uint8_t *bytes, size_t size, const uint8_t *path,
+    size_t path_size, const uint8_t *variables, size_t variables_size, uint32_t silent,
+    size_t depth);
+struct kohiblad_truth kohiblad_path_match(const uint8_t *bytes, size_t size, const uint8_t *path,
+    size_t path_size, const uint8_t *variables, size_t variables_size, uint32_t silent,
+    size_t depth);

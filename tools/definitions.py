@@ -38,7 +38,7 @@ file. `tools/pages --write` makes this page of the code.
 Below definitions are examples of them, which are proved with the crates: bytes and what they mean,
 two values and their order, a text and its value, a path and what it selects. So a definition that
 said something else would fail there. `hex` is the bytes that hexadecimal digits spell, and `codes`
-those of a text; `minus n` is -n; `whole n`, `string s`, `items` and `members` are the trees of an
+those of a text; `neg n` is -n; `whole n`, `string s`, `items` and `members` are the trees of an
 unsigned integer, a string, an array and an object; `scaled v s` and `wide v s` are decimals of 64
 and of 128 bits; and `P → ⊥` says that P does not hold.
 

@@ -38,6 +38,7 @@ STRUCTS = {
     "KohibladInteger": "struct kohiblad_integer", "KohibladTruth": "struct kohiblad_truth",
     "KohibladExtension": "struct kohiblad_extension_value",
     "KohibladFault": "struct kohiblad_fault", "KohibladExpected": "struct kohiblad_expected",
+    "KohibladPathFault": "struct kohiblad_path_refusal",
     "KohibladSurvey": "struct kohiblad_survey_counts", "KohibladTaken": "struct kohiblad_taken",
     "KohibladInt128": "struct kohiblad_int128",
     "KohibladTimestampTz": "struct kohiblad_timestamp_tz",

@@ -41,6 +41,8 @@ static struct region given(const char *what) {
         { "names", region_of(names, names_size) },
         { "path", region_of(path, path_size) },
         { "path_text", region_of_text("$.c.g[0]") },
+        { "jsonpath", region_of_text("exists($.c.g[*] ? (@ != 1))") },
+        { "no_jsonpath", region_of_text("$.c.g[0:2]") },
         { "pointer", region_of_text("/c/g/0") },
         { "rows", region_of(rows, offsets[2]) },
         { "offsets", region_of(offsets, sizeof offsets) },

@@ -4,8 +4,10 @@ one of its calls answers, beside the answers that stand there.
     python3 border.py libkohiblad.so TESTS/LINES
 """
 import ctypes
+import os
 import sys
 
+HERE = os.path.dirname(os.path.abspath(__file__))
 LIBRARY = ctypes.CDLL(sys.argv[1])
 SIZE = ctypes.c_size_t
 NO_ROOM, NONE, TOO_DEEP = 11, 12, 13
@@ -58,10 +60,19 @@ class Cursor(ctypes.Structure):
     _fields_ = [("index", ctypes.c_uint64), ("key", ctypes.c_uint64), ("value", ctypes.c_uint64)]
 
 
+
+class PathFault(ctypes.Structure):
+    _fields_ = [("status", ctypes.c_uint32), ("reason", ctypes.c_uint32),
+                ("offset", ctypes.c_uint64), ("expected", ctypes.c_uint32),
+                ("mark", ctypes.c_uint32), ("found", ctypes.c_uint32),
+                ("left_out", ctypes.c_uint32)]
+
+
 for predicate in ("check", "is_canonical"):
     getattr(LIBRARY, "kohiblad_" + predicate).restype = ctypes.c_bool
 for answer, calls in ((Kind, "kind"), (Decimal, "as_decimal"), (Extension, "as_extension"),
-                      (Integer, "as_int64"), (Fault, "text_fault"), (Truth, "exists"),
+                      (Integer, "as_int64"), (Fault, "text_fault"), (Truth, "exists path_exists path_match"),
+                      (PathFault, "path_fault"),
                       (Expected, "text_expected"), (Place, "find_key find_index get_path")):
     for call in calls.split():
         getattr(LIBRARY, "kohiblad_" + call).restype = answer
@@ -142,8 +153,11 @@ def known_answers():
     names = ("Ok InvalidEOF InvalidJsonb InvalidJsonbHeader InvalidJsonbJEntry InvalidJsonbNumber "
              "InvalidJsonbExtension InvalidUtf8 ObjectDuplicateKey InvalidJson OutOfMemory NoRoom "
              "None TooDeep OtherKind PastRange Overlap BadNumber TooManySteps BadMagic "
-             "UnknownVersion TrailingData WrongLength OutOfForm NotReadBack Unknown").split()
-    assert [name_of(status) for status in range(26)] == names
+             "UnknownVersion TrailingData WrongLength OutOfForm NotReadBack MemberNotFound "
+             "ObjectNotFound ArrayNotFound InvalidSubscript NonNumericItem SingletonRequired "
+             "NumberNotFound DivisionByZero OutOfRange UndefinedVariable BooleanRequired "
+             "Unknown").split()
+    assert [name_of(status) for status in range(37)] == names
     for document, answer in (
             ("2000000060000005 10fffffffe", (0, 0x10, -2, 0, 0, 0, 0, 0)),
             ("2000000060000009 200000000000000007", (0, 0x20, 7, 0, 0, 0, 0, 0)),
@@ -508,7 +522,73 @@ def agreement(folder):
         print(f"{asked} lines of {program} are answered alike")
 
 
+
+# The status of an error of a path, by that of SQL.
+PATH_ERRORS = {"2203A": 25, "2203C": 26, "22039": 27, "22033": 28, "22036": 29, "22038": 30,
+               "2203B": 31, "22012": 32, "42704": 34}
+
+
+def query_examples():
+    """What paths of SQL/JSON give, as PostgreSQL answered, and where a text is none."""
+    asked = 0
+    for line in open(f"{HERE}/../paths/examples.txt", encoding="utf-8"):
+        if line.startswith("#") or not line.strip():
+            continue
+        text, path, values, *error = line.rstrip("\n").split("\t")
+        given = [parse(it.encode(), 100, 1)[1] for it in (text, values)]
+        path, is_strict = path.encode(), path.startswith("strict")
+        status = PATH_ERRORS[error[0]] if error else 0
+        # A silent call hides all errors but that of a variable that is not given.
+        for silent, shown in ((0, status), (1, status if status == 34 else 0)):
+            answer = ask("path_query", given[0], path, b"", silent, 100)
+            assert answer == ((shown, b"") if shown else (0, given[1])), (line, answer)
+            truth = tell("path_exists", given[0], path, b"", silent, 100)
+            if status and (is_strict or values == "[]"):
+                assert (truth.status, truth.value) == (shown or 12, 0), line
+            else:
+                assert (truth.status, truth.value) == (0, values != "[]"), line
+        asked += 1
+    assert asked > 30
+    number, variables = parse(b"2", 0)[1], parse(b'{"x": 2}', 1)[1]
+    two = parse(b"[2]", 1)[1]
+    assert ask("path_query", number, b"$ ? (@ == $x)", variables, 0, 1) == (0, two)
+    assert ask("path_query", number, b"$x", b"", 1, 0) == (34, b"")
+    assert ask("path_query", number, b"$", number, 0, 0) == (14, b"")
+    assert ask("path_query", number, b"$", variables, 0, 0) == (2, b"")
+    assert ask("path_query", number, b"$.", b"", 0, 0) == (14, b"")
+    assert ask("path_query", number, b"\xff", b"x", 0, 0) == (7, b"")
+    for text, path, silent, answer in (
+            (b"2", b"$ == 2", 0, (0, 1)), (b"2", b"$ > 2", 0, (0, 0)),
+            (b"2", b'$ > "b"', 0, (12, 0)), (b"2", b"$", 0, (35, 0)), (b"2", b"$", 1, (12, 0)),
+            (b"null", b"$", 0, (12, 0)), (b"[true, true]", b"$[*]", 0, (35, 0)),
+            (b'[{"b": true}, {}]', b"strict $[*].b", 0, (25, 0)),
+            (b'[{"b": true}, {}]', b"strict $[*].b", 1, (0, 1)),
+            (b"true", b"$x", 1, (34, 0))):
+        truth = tell("path_match", parse(text, 9)[1], path, b"", silent, 9)
+        assert (truth.status, truth.value) == answer, (text, path, silent)
+    for path, answer in ((b"$.a", (0, 0, 3, 0, 0, 0, 0)), (b"$.a[", (14, 5, 4, 4, 0, 1, 0)),
+                         (b"$.a[1", (14, 5, 5, 6, ord("]"), 1, 0)),
+                         (b'$."a', (14, 2, 2, 0, 0, 0, 0)),
+                         (b"$ / 2", (14, 6, 2, 0, 0, 0, 4)), (b"\xff", (7, 0, 0, 0, 0, 0, 0))):
+        fault = tell("path_fault", path)
+        found = tuple(getattr(fault, it) for it, _ in PathFault._fields_)
+        assert found == answer, (path, found)
+    for path, printed in ((b"lax $.a[*]", b'$."a"[*]'), (b"strict $.a+1", b'strict ($."a" + 1)')):
+        assert ask("path_print", path) == (0, printed), path
+    assert ask("path_print", b"$.") == (14, b"")
+    for path, report in (
+            (b"$.a = 1", "$.a = 1\n    ^ expected an operator, an accessor or the end at byte 4, "
+                         "found `=`; equal is `==`"),
+            (b"$[0:2]", "$[0:2]\n   ^ expected `]` at byte 3, found `:`; the first two items are "
+                        "`[0 to 1]`"),
+            (b"$..a", "$..a\n  ^ expected a key, `*`, `**` or a method at byte 2, found `.`; all "
+                      "levels are `.**`")):
+        assert ask("path_report", path) == (0, report.encode()), path
+    assert ask("path_report", b"$.a") == (12, b"")
+    assert ask("path_report", b"\xff") == (7, b"")
+
+
 for test in (known_answers, path_texts, spaced_paths, edits, refusals, faults, walks,
-             index_keys):
+             index_keys, query_examples):
     test()
 agreement(sys.argv[2])

@@ -69,7 +69,8 @@ static struct region given(const char *what) {
         { "pairs", in, in_size }, { "pair_offsets", pairs, sizeof pairs },
         { "file", file, file_size }, { "names", one_name, sizeof one_name },
         { "path", one_name, sizeof one_name }, { "types", type, sizeof type },
-        { "path_text", "$", 1 }, { "pointer", "/a", 2 }, { "key", "a", 1 },
+        { "path_text", "$", 1 }, { "jsonpath", "exists($.**)", 12 },
+        { "no_jsonpath", "$.a[0:2]", 8 }, { "pointer", "/a", 2 }, { "key", "a", 1 },
         { "places", &no_place, sizeof no_place }, { "data", "", 0 }, { "values", "", 0 },
         { "states", "", 0 },
     };

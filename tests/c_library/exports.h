@@ -398,6 +398,24 @@ static uint32_t call_index_keys(const struct arguments *it) {
 static uint32_t call_top_keys(const struct arguments *it) {
     return kohiblad_top_keys(BYTES(0), it->depth, ALL(1, uint64_t), ONE(2));
 }
+static uint32_t call_path_fault(const struct arguments *it) {
+    return kohiblad_path_fault(BYTES(0)).status;
+}
+static uint32_t call_path_report(const struct arguments *it) {
+    return kohiblad_path_report(BYTES(0), BYTES(1), ONE(2));
+}
+static uint32_t call_path_print(const struct arguments *it) {
+    return kohiblad_path_print(BYTES(0), BYTES(1), ONE(2));
+}
+static uint32_t call_path_query(const struct arguments *it) {
+    return kohiblad_path_query(BYTES(0), BYTES(1), BYTES(2), 0, it->depth, BYTES(3), ONE(4));
+}
+static uint32_t call_path_exists(const struct arguments *it) {
+    return kohiblad_path_exists(BYTES(0), BYTES(1), BYTES(2), 0, it->depth).status;
+}
+static uint32_t call_path_match(const struct arguments *it) {
+    return kohiblad_path_match(BYTES(0), BYTES(1), BYTES(2), 0, it->depth).status;
+}
 
 #undef BYTES
 #undef ALL
@@ -696,6 +714,23 @@ static const struct export exports[] = {
     { "top_keys", true, true, 256, KOHIBLAD_INVALID_JSONB,
       { READS(document, uint8_t), WRITES(VALUES, uint64_t), WRITES(COUNT, size_t) },
         call_top_keys },
+    { "path_fault", true, false, 0, KOHIBLAD_INVALID_JSONB,
+      { READS(jsonpath, uint8_t) }, call_path_fault },
+    { "path_report", true, false, 0, KOHIBLAD_INVALID_JSONB,
+      { READS(no_jsonpath, uint8_t), WRITES(VALUES, uint8_t), WRITES(COUNT, size_t) },
+        call_path_report },
+    { "path_print", true, false, 0, KOHIBLAD_INVALID_JSONB,
+      { READS(jsonpath, uint8_t), WRITES(VALUES, uint8_t), WRITES(COUNT, size_t) },
+        call_path_print },
+    { "path_query", true, true, 0, KOHIBLAD_INVALID_JSONB,
+      { READS(document, uint8_t), READS(jsonpath, uint8_t), READS(data, uint8_t),
+        WRITES(VALUES, uint8_t), WRITES(COUNT, size_t) }, call_path_query },
+    { "path_exists", true, true, 0, KOHIBLAD_INVALID_JSONB,
+      { READS(document, uint8_t), READS(jsonpath, uint8_t), READS(data, uint8_t) },
+        call_path_exists },
+    { "path_match", true, true, 0, KOHIBLAD_INVALID_JSONB,
+      { READS(document, uint8_t), READS(jsonpath, uint8_t), READS(data, uint8_t) },
+        call_path_match },
 };
 
 #undef READS

@@ -173,6 +173,24 @@ static void found() {
     assert(view.find_at("$.lines", 1).status() == KOHIBLAD_INVALID_JSONB);
     assert(*document_of("7").view().find_at("$").int64() == 7);
 
+    assert(view.query("$.lines[*] ? (@.price > 2).n")->view() == document_of("[1]"));
+    assert(view.query("$.lines.size()")->view() == document_of("[2]"));
+    assert(view.query("$.none")->view() == document_of("[]"));
+    assert(view.query("lines").status() == KOHIBLAD_OTHER_KIND);
+    assert(view.query("strict $.none").status() == KOHIBLAD_MEMBER_NOT_FOUND);
+    assert(view.query("strict $.none", View(), true)->view() == document_of("[]"));
+    const Document least = document_of(R"({"least": 2})");
+    assert(*view.path_exists("$.lines[*] ? (@.price > $least)", least));
+    assert(!*view.path_exists("$.lines[*] ? (@.price > 9)"));
+    assert(*view.matches("$.lines[*].price > $least", least));
+    assert(view.matches("$.lines[*].price > $least").status() == KOHIBLAD_UNDEFINED_VARIABLE);
+    assert(view.matches("$.customer.town > 2").status() == KOHIBLAD_NONE);
+    assert(view.matches("$.lines").status() == KOHIBLAD_BOOLEAN_REQUIRED);
+    assert(view.matches("$.lines", View(), true).status() == KOHIBLAD_NONE);
+    assert(kohiblad::path_report("$.lines").status() == KOHIBLAD_NONE);
+    const auto report = kohiblad::path_report("$.lines[0:2]");
+    assert(report->find("\n         ^ expected `]` at byte 9") == 12);
+
     const auto prices = view.select("$.lines[*].price");
     assert(prices->size() == 2 && *prices->at(0).text() == "1.50");
     assert(*view.select("$.lines[*]?(@.price > 2).n")->at(0).int64() == 1);
