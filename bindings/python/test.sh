@@ -47,9 +47,13 @@ trap 'rm -rf "$scratch"' EXIT
 cp -r "$top/$name" "$scratch/python"
 cp -r "$top/bindings/examples" "$scratch/examples"
 cp -r "$top/tests/lines/jsonb_probe" "$scratch/lines"
+mkdir "$scratch/docs" "$scratch/tests"
+cp "$top/docs/PATHS.md" "$scratch/docs"
+cp -r "$top/tests/paths" "$scratch/tests"
 cd "$scratch/python"
 packages=${PYTHONPATH:-}
 export HOME=$scratch KOHIBLAD_LIBRARY=$library KOHIBLAD_LINES=$scratch/lines
+export KOHIBLAD_PATHS=$scratch/tests/paths
 export PYTHONPATH=$scratch/python/src PYTHONWARNINGS=error::SyntaxWarning
 
 run "$python" --version

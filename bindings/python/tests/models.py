@@ -106,46 +106,6 @@ def at_path(value, path):
     return [value]
 
 
-def _number_of(bound, count):
-    """The index of an item, counted from 0, that a bound of a path's text means."""
-    return count + int(bound[1:] or 0) if bound.startswith("#") else int(bound)
-
-
-# Filters, with the path of each and whether what is at its end is to be null.
-_FILTERS = {
-    "?(@ == null)": ([], True),
-    "?(@ != null)": ([], False),
-    '?(@."a" == null)': (['."a"'], True),
-    "?(@[0] <> null)": (["[0]"], False),
-    '?(@."b"[#-1] < null)': (['."b"', "[#-1]"], False),
-}
-
-
-def selected(value, path):
-    """All values to which a path leads, whose steps are written as in the path's text."""
-    if not path:
-        return [value]
-    step, inside = path[0], []
-    if step in _FILTERS:
-        steps, is_null = _FILTERS[step]
-        inside = [value for it in selected(value, steps) if (it is None) == is_null]
-    elif isinstance(value, dict):
-        if step == ".*":
-            inside = [value[name] for name in sorted(value, key=str.encode)]
-        elif step.startswith('."'):
-            inside = [value[name] for name in value if step == f'."{name}"']
-    elif isinstance(value, list) and step.startswith("["):
-        if step == "[*]":
-            inside = value
-        elif " to " in step:
-            first, last = (_number_of(it, len(value)) for it in step[1:-1].split(" to "))
-            inside = value[max(first, 0):max(last + 1, 0)]
-        else:
-            number = _number_of(step[1:-1], len(value))
-            inside = value[number:number + 1] if number >= 0 else []
-    return [it for child in inside for it in selected(child, path[1:])]
-
-
 def edited(value, path, edit, new=None):
     """A copy after an edit, as "Edits" of docs/FUNCTIONS.md says it: put, insert or remove."""
     if not path:
@@ -293,12 +253,6 @@ class FewNames(Values):
             self._random.shuffle(some)
             return some
         return value if self._random.random() < .95 else self._any_scalar()
-
-    def wild_path(self, depth):
-        """The steps of a path with wildcards, as they are written."""
-        steps = (".*", "[*]", "[0]", "[#-1]", "[#]", "[1 to #-1]", "[0 to 0]", "[#-2 to 7]",
-                 *(f'."{name}"' for name in ("", "a", "b", "é")), *_FILTERS)
-        return [self._random.choice(steps) for _ in range(self._random.randint(0, depth))]
 
     def path(self, value):
         """A path that mostly leads to something in a value."""

@@ -78,13 +78,24 @@ class ExpectedTest(unittest.TestCase):
 
     def test_paths_are_quoted(self):
         row = Document.of([1])
-        for call in (row.select, row.path_of):
-            for path in ("$.a[", b"$.a["):
-                with self.assertRaises(PathError) as refused:
-                    call(path)
-                self.assertEqual(refused.exception.message, "the text is not a path: '$.a['")
-            with self.assertRaisesRegex(PathError, "x{60}[.][.]'"):
-                call("x" * 100)
+        for path in ("$.a[", b"$.a["):
+            with self.assertRaises(PathError) as refused:
+                row.path_of(path)
+            self.assertEqual(refused.exception.message, "the text is not a path: '$.a['")
+            with self.assertRaises(PathError) as refused:
+                row.select(path)
+            self.assertEqual(refused.exception.message, "the text is not a path")
+            self.assertEqual(refused.exception.report,
+                             "$.a[\n    ^ expected a value at byte 4, found the end")
+        with self.assertRaisesRegex(PathError, "x{60}[.][.]'"):
+            row.path_of("x" * 100)
+        # So much of a long text is shown, with escapes for what a terminal might obey.
+        with self.assertRaises(PathError) as refused:
+            row.select("x" * 1000 + " \u202e")
+        self.assertEqual(refused.exception.report.split("\n")[0], "x" * 120)
+        with self.assertRaises(PathError) as refused:
+            row.select("\u202e")
+        self.assertEqual(refused.exception.report.split("\n")[0], "\\u202e")
 
 
 if __name__ == "__main__":

@@ -167,7 +167,8 @@ class StackTest(unittest.TestCase):
             told = dict(re.findall("^#define KOHIBLAD_([A-Z_]*STACK) ([0-9]+)$", file.read(), re.M))
         self.assertEqual({name: int(it) for name, it in told.items()}, {
             "LEVEL_STACK": library.LEVEL_STACK, "EDIT_LEVEL_STACK": library.EDIT_LEVEL_STACK,
-            "PATCH_LEVEL_STACK": library.PATCH_LEVEL_STACK, "CALL_STACK": _stack._CALL_STACK})
+            "PATCH_LEVEL_STACK": library.PATCH_LEVEL_STACK, "CALL_STACK": _stack._CALL_STACK,
+            "PATH_STACK": library.PATH_STACK})
 
     def test_the_words_of_the_error(self):
         deepest = Document.of(nested(kohiblad.DEPTH))

@@ -14,9 +14,10 @@ from ._document import (ArrayDocument, Document, ObjectDocument, ScalarDocument,
                         loads)
 from ._errors import (ExtensionError, FloatError, InvalidDocumentError, InvalidTextError,
                       KohibladError, KohibladWarning, NumberError, OutOfMemoryError, PathError,
-                      TooDeepError, TooManyStepsError, UnfitError)
+                      QueryError, TooDeepError, TooManyStepsError, UnfitError)
 from ._files import read, read_lines, write
 from ._library import IS_NATIVE
+from ._paths import Path
 from ._scalars import Date, Interval, Opaque, Scalar, Timestamp, TimestampTz
 from ._slices import read_path
 from ._stack import DEPTH
@@ -24,6 +25,6 @@ from ._stack import DEPTH
 __all__ = ["ArrayDocument", "DEPTH", "Date", "Document", "DocumentPath", "ExtensionError",
            "FloatError", "IS_NATIVE", "Interval", "InvalidDocumentError", "InvalidTextError",
            "KohibladError", "KohibladWarning", "NumberError", "ObjectDocument", "Opaque",
-           "OutOfMemoryError", "PathError", "Scalar", "ScalarDocument", "Timestamp", "TimestampTz",
-           "TooDeepError", "TooManyStepsError", "UnfitError", "Value", "dumps", "loads", "read",
-           "read_lines", "read_path", "write"]
+           "OutOfMemoryError", "Path", "PathError", "QueryError", "Scalar", "ScalarDocument",
+           "Timestamp", "TimestampTz", "TooDeepError", "TooManyStepsError", "UnfitError", "Value",
+           "dumps", "loads", "read", "read_lines", "read_path", "write"]

@@ -17,6 +17,7 @@ from ._errors import KohibladError, PathError, TooDeepError, warn
 from ._expected import fault_of, quoted_path
 from ._exports import Place
 from ._library import IS_NATIVE, exports
+from ._paths import PathText, data_of_path, path_refused
 from ._scalars import Scalar, scalar_of
 from ._stack import DEPTH
 
@@ -271,28 +272,65 @@ class Document:
         type_, at, size = place
         return _child_of(type_, self._data[at:at + size])
 
-    def select(self, path: Union[str, bytes]) -> List["Child"]:
-        """All values that a path with wildcards selects, in the order in which they are stored.
+    def select(self, path: PathText, variables: Any = None, *,
+               silent: bool = False) -> List["Child"]:
+        """All values that a path of SQL/JSON gives, in their order.
 
         >>> row = Document.parse('{"tags": [{"of": 1}, {"of": null}, {}]}')
-        >>> row.select("$.tags[*].of"), row.select("$.tags[#-1]"), row.select("$.none[*]")
+        >>> row.select("$.tags[*].of"), row.select("$.tags[last]"), row.select("$.none[*]")
         ([1, None], [<ObjectDocument {}>], [])
+        >>> row.select("$.tags[*] ? (@.of < $most)", {"most": 5}), row.select("$.tags.size()")
+        ([<ObjectDocument {"of":1}>], [3])
 
-        The path is a text: ``$``, and then ``.name`` or ``."any name"`` for the value of a key,
-        ``[0]`` for an item, ``[#-1]`` for the last one, ``[*]`` for each item, ``[0 to #-2]`` for
-        those from one to another, and ``.*`` for each value of an object. ``?(@.of == 1)`` keeps a
-        value if what is at the path after ``@`` compares so with a literal, ``?(exists(@.of))`` if
-        there is something, and ``?(!exists(@.of))`` if there is nothing; ``&&`` and ``||`` join
-        these, in groups in parentheses, and ``!`` turns a group. PathError: it is none. Scalars
-        come as Python values, and arrays and objects as documents.
+        The path is a text or a ``Path``; docs/PATHS.md has the language. ``variables`` is a dict or
+        an object document: each member is the variable of this name. Scalars come as Python values,
+        and arrays and objects as documents. PathError: it is no path. QueryError: the path is given
+        up, as ``strict $.none`` is; with ``silent`` the values before that are the answer, and only
+        a variable that is not given is an error.
         """
+        data = data_of_path(path)
         try:
-            if IS_NATIVE:
-                return native.select(self._data, path)
-            places = library.places_of(self._data, bytes_of_text(path))
-        except PathError as error:
-            raise library.error_of(error.status, quoted_path(path)) from None
-        return [_child_of(type_, self._data[at:at + size]) for type_, at, size in places]
+            found = library.made_of(self._data, library.path_values, self._data, data,
+                                    _variables_of(variables), silent)
+        except KohibladError as error:
+            raise path_refused(data, error.status) from None
+        return list(cast(ArrayDocument, _of_checked(found)))
+
+    def matches(self, path: PathText, variables: Any = None, *,
+                silent: bool = False) -> Optional[bool]:
+        """What a test says of this document: None if it is unknown.
+
+        >>> row = Document.parse('{"total": 120, "note": "n/a"}')
+        >>> row.matches("$.total > 100"), row.matches("$.note > 100")
+        (True, None)
+
+        The path is to give one value, a boolean or null. QueryError: it gives another, or the path
+        is given up; with ``silent`` the answer is then None.
+        """
+        return self._truth_of(exports.path_match, path, variables, silent)
+
+    def exists(self, path: PathText, variables: Any = None, *,
+               silent: bool = False) -> Optional[bool]:
+        """Whether a path gives a value of this document.
+
+        >>> row = Document.parse('{"lines": [{"price": 3}, {"price": 5}]}')
+        >>> row.exists("$.lines[*] ? (@.price > 4)"), row.exists("$.none")
+        (True, False)
+
+        A test always gives one: ``matches`` says which. QueryError: the path is given up before it
+        is known; with ``silent`` the answer is then None.
+        """
+        return self._truth_of(exports.path_exists, path, variables, silent)
+
+    def _truth_of(self, call: Any, path: PathText, variables: Any,
+                  silent: bool) -> Optional[bool]:
+        data = data_of_path(path)
+        truth = library.path_truth(call, self._data, data, _variables_of(variables), silent)
+        if truth.status == library.NONE:
+            return None
+        if truth.status != library.OK:
+            raise path_refused(data, truth.status)
+        return bool(truth.value)
 
     def path_of(self, text: Union[str, bytes]) -> List[Step]:
         """The steps that a text gives in this document, for ``get_path``, ``set`` and the others.
@@ -784,6 +822,16 @@ def _of_checked(data: bytes) -> Document:
 def _data_of(value: Any) -> bytes:
     """The bytes of a document, or of that of a Python value."""
     return (value if isinstance(value, Document) else Document.of(value))._data
+
+
+def _variables_of(variables: Any) -> bytes:
+    """The bytes of the document of variables; none if there are none."""
+    if variables is None:
+        return b""
+    found = variables if isinstance(variables, Document) else Document.of(variables)
+    if not isinstance(found, ObjectDocument):
+        raise TypeError(f"variables are a dict or an object, not {type(variables).__name__}")
+    return found._data
 
 
 def steps_of_text(text: Union[str, bytes]) -> Tuple[Step, ...]:

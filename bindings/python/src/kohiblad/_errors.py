@@ -78,7 +78,19 @@ class InvalidTextError(KohibladError):
 
 
 class PathError(KohibladError):
-    """The text is not a path."""
+    """The text is not a path.
+
+    Of a path of SQL/JSON ``offset`` is the byte where it stops being one, and ``report`` the text
+    about that place, with a caret under it on the next line, and what may come there.
+    """
+    report = ""
+
+    def __str__(self) -> str:
+        return ":\n".join(it for it in (super().__str__(), self.report) if it)
+
+
+class QueryError(KohibladError):
+    """A path of SQL/JSON is given up: ``name`` says why, as ``MemberNotFound``."""
 
 
 class NumberError(KohibladError):

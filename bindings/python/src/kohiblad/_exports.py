@@ -25,6 +25,12 @@ class Expected(Structure):
     _fields_ = [("status", c_uint32), ("classes", c_uint32)]
 
 
+class PathRefusal(Structure):
+    _fields_ = [("status", c_uint32), ("reason", c_uint32), ("offset", c_uint64),
+                ("expected", c_uint32), ("mark", c_uint32), ("found", c_uint32),
+                ("left_out", c_uint32)]
+
+
 class Cursor(Structure):
     _fields_ = [("index", c_uint64), ("key", c_uint64), ("value", c_uint64)]
 
@@ -219,4 +225,10 @@ PROTOTYPES: Dict[str, Tuple[Any, ...]] = {
     "select_within": (c_uint32, *_BLOCK, *_BLOCK, c_size_t, c_size_t, *_BLOCK, c_void_p),
     "index_keys": (c_uint32, *_BLOCK, c_size_t, *_BLOCK, c_void_p),
     "top_keys": (c_uint32, *_BLOCK, c_size_t, *_BLOCK, c_void_p),
+    "path_fault": (PathRefusal, *_BLOCK),
+    "path_report": (c_uint32, *_BLOCK, *_BLOCK, c_void_p),
+    "path_print": (c_uint32, *_BLOCK, *_BLOCK, c_void_p),
+    "path_query": (c_uint32, *_BLOCK, *_BLOCK, *_BLOCK, c_uint32, c_size_t, *_BLOCK, c_void_p),
+    "path_exists": (Truth, *_BLOCK, *_BLOCK, *_BLOCK, c_uint32, c_size_t),
+    "path_match": (Truth, *_BLOCK, *_BLOCK, *_BLOCK, c_uint32, c_size_t),
 }

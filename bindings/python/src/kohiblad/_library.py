@@ -18,7 +18,8 @@ from typing import (Any, Callable, Dict, Generator, Iterator, List, Optional, Se
 
 from . import __version__, _stack
 from ._errors import (ExtensionError, InvalidDocumentError, InvalidTextError, KohibladError,
-                      NumberError, OutOfMemoryError, PathError, TooDeepError, TooManyStepsError)
+                      NumberError, OutOfMemoryError, PathError, QueryError, TooDeepError,
+                      TooManyStepsError)
 from ._exports import PROTOTYPES, Cursor, Place, SurveyCounts, Truth, TypedColumn, ValueKind
 from ._stack import DEPTH
 
@@ -45,6 +46,8 @@ TRAILING_DATA = 21
 WRONG_LENGTH = 22
 OUT_OF_FORM = 23
 NOT_READ_BACK = 24
+# Why a path of SQL/JSON is given up, from the first on.
+PATH_ERRORS = range(25, 36)
 
 # What `edit` does at the end of a path.
 PUT = 0
@@ -73,6 +76,9 @@ NO_LIMIT = 2**64 - 1
 # The stack that is enough for each level of a document: of most calls, of those that edit, and of a
 # merge patch.
 LEVEL_STACK, EDIT_LEVEL_STACK, PATCH_LEVEL_STACK = 1024, 2048, 2432
+# What a path of SQL/JSON takes of stack at most, and for each character that may nest it.
+PATH_STACK, _PATH_LEVEL_STACK = 1 << 20, 12 << 10
+_NESTING = b"([?!+-*/%<>=&|"
 # How many bytes of a document a level takes at least, but for the last one.
 _LEVEL_SIZE = 8
 
@@ -118,6 +124,7 @@ _ERRORS: Dict[int, Type[KohibladError]] = {
     WRONG_LENGTH: InvalidDocumentError,
     OUT_OF_FORM: InvalidDocumentError,
     NOT_READ_BACK: InvalidDocumentError,
+    **dict.fromkeys(PATH_ERRORS, QueryError),
 }
 
 
@@ -471,25 +478,30 @@ def path_of_text(document: bytes, text: bytes) -> bytes:
                      fitting(LEVEL_STACK, document))
 
 
-def places_of(document: bytes, path: bytes) -> List[Tuple[int, int, int]]:
-    """The type, offset and length of each value that the path of a text selects.
+def expect_path_carried(path: bytes) -> None:
+    """TooDeepError: a path may nest deeper than the stack that is left to this thread carries."""
+    levels = 2 + len(path) - len(path.translate(None, _NESTING))
+    if not depth_left(min(PATH_STACK, levels * _PATH_LEVEL_STACK)):
+        raise error_of(TOO_DEEP, "the path may take more stack than is left to this thread")
 
-    PathError: the text is not a path.
-    """
-    size, each = len(document), ctypes.sizeof(Place)
-    depth, room = fitting(LEVEL_STACK, document), _room_of(0)
-    status = exports.select(document, size, path, len(path), depth, room.address,
-                            room.size // each, room.length_address)
-    if status == NO_ROOM:
-        room = _Room(each * room.length.value)
-        status = exports.select(document, size, path, len(path), depth, room.address,
-                                room.size // each, room.length_address)
-    if status != OK:
-        raise error_of(status)
-    found = ctypes.string_at(room.address, each * room.length.value)
-    if room.size == _Room.USUAL_SIZE:
-        _spare_rooms.append(room)
-    return [(type_, at, length) for type_, at, length in _PLACE.iter_unpack(found)]
+
+def path_values(document: bytes, path: bytes, variables: bytes, silent: bool) -> bytes:
+    """The document of the array of all values that a path of SQL/JSON gives."""
+    expect_path_carried(path)
+    if IS_NATIVE:
+        made: bytes = native.path_query(document, path, variables, silent)
+        return made
+    return result_of(exports.path_query, guess_of(document), document, len(document), path,
+                     len(path), variables, len(variables), silent,
+                     fitting(LEVEL_STACK, document, variables))
+
+
+def path_truth(call: Callable[..., Truth], document: bytes, path: bytes, variables: bytes,
+               silent: bool) -> Truth:
+    """What a call says of a path of SQL/JSON."""
+    expect_path_carried(path)
+    return call(document, len(document), path, len(path), variables, len(variables), silent,
+                fitting(LEVEL_STACK, document, variables))
 
 
 def status_name(status: int) -> str:

@@ -2,9 +2,12 @@
 #include "native.h"
 
 /* What a document is made by. */
-enum change_call { CHANGE_CONCAT, CHANGE_EDIT, CHANGE_MERGE_PATCH, CHANGE_STRIP_NULLS };
+enum change_call {
+    CHANGE_CONCAT, CHANGE_EDIT, CHANGE_MERGE_PATCH, CHANGE_PATH_QUERY, CHANGE_STRIP_NULLS
+};
 
-/* What a call is made of: documents, and of an edit its number. */
+/* What a call is made of: documents, of an edit its number, and of a query the text of its path in
+ * place of another document, its variables as the value, and whether it is silent. */
 struct change {
     enum change_call call;
     struct input data, other, value;
@@ -22,6 +25,10 @@ static uint32_t make_change(const struct library *library, const struct change *
     case CHANGE_MERGE_PATCH:
         return library->merge_patch(data->at, data->size, other->at, other->size, MOST_DEPTH,
                                     room->at, room->size, &room->length);
+    case CHANGE_PATH_QUERY:
+        return library->path_query(data->at, data->size, other->at, other->size, value->at,
+                                   value->size, it->edit, MOST_DEPTH, room->at, room->size,
+                                   &room->length);
     case CHANGE_STRIP_NULLS:
         return library->strip_nulls(data->at, data->size, MOST_DEPTH, room->at, room->size,
                                     &room->length);
@@ -36,11 +43,13 @@ static uint32_t make_change(const struct library *library, const struct change *
 static bool carries(struct state *state, const struct change *it)
 {
     if (it->call == CHANGE_EDIT) return true;
+    bool is_query = it->call == CHANGE_PATH_QUERY;
+    const struct input *other = is_query ? &it->value : &it->other;
     size_t depth = depth_left(it->call == CHANGE_MERGE_PATCH ? KOHIBLAD_PATCH_LEVEL_STACK
-                              : it->call == CHANGE_STRIP_NULLS ? KOHIBLAD_LEVEL_STACK
+                              : is_query || it->call == CHANGE_STRIP_NULLS ? KOHIBLAD_LEVEL_STACK
                               : KOHIBLAD_EDIT_LEVEL_STACK);
     if (fits(state, it->data.at, it->data.size, depth)
-        && (!it->other.at || fits(state, it->other.at, it->other.size, depth)))
+        && (!other->at || fits(state, other->at, other->size, depth)))
         return true;
     raise_too_deep(state, depth);
     return false;
@@ -80,6 +89,21 @@ PyObject *native_edit(PyObject *module, PyObject *const *arguments, Py_ssize_t c
     long edit = PyLong_AsLong(arguments[2]);
     if (edit == -1 && PyErr_Occurred()) return NULL;
     it.edit = (uint32_t)edit;
+    return changed(state, &it);
+}
+
+/* The document of the array of all values that a path gives. The package has tested that the
+ * thread's stack carries the path. */
+PyObject *native_path_query(PyObject *module, PyObject *const *arguments, Py_ssize_t count)
+{
+    struct state *state = state_of(module);
+    struct change it = { .call = CHANGE_PATH_QUERY };
+    if (!state || !has_count(count, 4) || !open_data(arguments[0], &it.data)
+        || !open_data(arguments[1], &it.other) || !open_data(arguments[2], &it.value))
+        return NULL;
+    int silent = PyObject_IsTrue(arguments[3]);
+    if (silent < 0) return NULL;
+    it.edit = (uint32_t)silent;
     return changed(state, &it);
 }
 

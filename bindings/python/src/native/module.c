@@ -416,8 +416,8 @@ static PyMethodDef functions[] = {
     FAST(bind), FAST(check), FAST(concat), FAST(contains), ONE(count), ONE(depth_left), ONE(dumps),
     FAST(edit), NO(end_uses), FAST(item), ONE(key), ONE(kind), ONE(loads), FAST(member),
     FAST(merge_patch), ONE(names), NO(new_use), ONE(of), FAST(of_extension), ONE(pairs),
-    FAST(parse), ONE(releases), FAST(select), ONE(strip_nulls), ONE(to_canonical), ONE(to_pretty),
-    ONE(to_string), ONE(value), ONE(values),
+    FAST(parse), FAST(path_query), ONE(releases), ONE(strip_nulls), ONE(to_canonical),
+    ONE(to_pretty), ONE(to_string), ONE(value), ONE(values),
     { NULL, NULL, 0, NULL },
 };
 

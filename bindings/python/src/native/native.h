@@ -41,7 +41,7 @@ static inline PyObject *Py_NewRef(PyObject *object)
     EXPORT(build_array) EXPORT(build_object) EXPORT(canonical) EXPORT(check) EXPORT(concat) \
     EXPORT(copy) EXPORT(edit) EXPORT(find_index) EXPORT(find_key) EXPORT(key) EXPORT(kind) \
     EXPORT(merge_patch) EXPORT(next) EXPORT(of_extension) EXPORT(parse) EXPORT(pretty) \
-    EXPORT(print) EXPORT(select) EXPORT(strip_nulls)
+    EXPORT(path_query) EXPORT(print) EXPORT(strip_nulls)
 
 /* They are of the header's types. */
 struct library {
@@ -166,6 +166,7 @@ PyObject *native_kind(PyObject *module, PyObject *data);
 PyObject *native_loads(PyObject *module, PyObject *text);
 PyObject *native_member(PyObject *module, PyObject *const *arguments, Py_ssize_t count);
 PyObject *native_merge_patch(PyObject *module, PyObject *const *arguments, Py_ssize_t count);
+PyObject *native_path_query(PyObject *module, PyObject *const *arguments, Py_ssize_t count);
 PyObject *native_names(PyObject *module, PyObject *data);
 PyObject *native_of(PyObject *module, PyObject *value);
 PyObject *native_of_extension(PyObject *module, PyObject *const *arguments, Py_ssize_t count);
@@ -174,7 +175,6 @@ PyObject *native_parse(PyObject *module, PyObject *const *arguments, Py_ssize_t 
 PyObject *native_end_uses(PyObject *module, PyObject *unused);
 PyObject *native_new_use(PyObject *module, PyObject *unused);
 PyObject *native_releases(PyObject *module, PyObject *exported);
-PyObject *native_select(PyObject *module, PyObject *const *arguments, Py_ssize_t count);
 PyObject *native_strip_nulls(PyObject *module, PyObject *data);
 PyObject *native_to_canonical(PyObject *module, PyObject *data);
 PyObject *native_to_pretty(PyObject *module, PyObject *data);

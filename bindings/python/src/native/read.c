@@ -354,68 +354,6 @@ PyObject *native_item(PyObject *module, PyObject *const *arguments, Py_ssize_t c
     return child_of(state, input.at, &place);
 }
 
-/* Places that a path selects: most are few. */
-struct places {
-    struct kohiblad_place near[16], *at;
-    size_t count;
-};
-
-/* Finds what the path of a text selects. False with an exception: the text is not a path, the
- * document nests deeper than the thread's stack carries, or there is no memory. Otherwise the caller
- * frees the places that are not near. */
-static bool find_places(struct state *state, const struct input *input, const struct input *path,
-                        struct places *places)
-{
-    size_t room = sizeof places->near / sizeof *places->near;
-    size_t depth = depth_left(KOHIBLAD_LEVEL_STACK);
-    uint32_t status;
-    if (!fits(state, input->at, input->size, depth)) {
-        raise_too_deep(state, depth);
-        return false;
-    }
-    places->at = places->near;
-    status = state->library.select(input->at, input->size, path->at, path->size, MOST_DEPTH,
-                                   places->at, room, &places->count);
-    if (status == KOHIBLAD_NO_ROOM) {
-        room = places->count;
-        if (!(places->at = PyMem_New(struct kohiblad_place, room))) {
-            PyErr_NoMemory();
-            return false;
-        }
-        status = state->library.select(input->at, input->size, path->at, path->size, MOST_DEPTH,
-                                       places->at, room, &places->count);
-    }
-    if (!status) return true;
-    if (places->at != places->near) PyMem_Free(places->at);
-    if (status == KOHIBLAD_OTHER_KIND)
-        raise_made(PyObject_CallFunction(state->error_of, "ks", (unsigned long)status,
-                                         "the text is not a path"));
-    else raise_status(state, status);
-    return false;
-}
-
-PyObject *native_select(PyObject *module, PyObject *const *arguments, Py_ssize_t count)
-{
-    struct state *state = state_of(module);
-    struct input input, path;
-    struct places places;
-    if (!state || !has_count(count, 2) || !open_data(arguments[0], &input)
-        || !open_text(state, arguments[1], &path))
-        return NULL;
-    bool is_found = find_places(state, &input, &path, &places);
-    Py_DECREF(path.owner);
-    if (!is_found) return NULL;
-    PyObject *list = PyList_New((Py_ssize_t)places.count);
-    size_t seen = 0;
-    for (size_t i = 0; list && i < places.count; i++) {
-        PyObject *child = may_go_on(&seen) ? child_of(state, input.at, &places.at[i]) : NULL;
-        if (child) PyList_SET_ITEM(list, (Py_ssize_t)i, child);
-        else Py_CLEAR(list);
-    }
-    if (places.at != places.near) PyMem_Free(places.at);
-    return list;
-}
-
 /* What an iterator returns of each child. */
 enum what { NAMES, VALUES, PAIRS };
 
