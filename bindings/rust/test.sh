@@ -49,7 +49,7 @@ need pkg-config "${PKG_CONFIG:-pkg-config}" --version
 needed=$(sed -n 's|^const NEEDED: &str = "\(.*\)";$|\1|p' build.rs)
 "${PKG_CONFIG:-pkg-config}" --exists "$needed" || fail "pkg-config finds no $needed"
 cargo=(--offline --locked --quiet)
-for name_of_stack in CALL_STACK LEVEL_STACK EDIT_LEVEL_STACK PATCH_LEVEL_STACK; do
+for name_of_stack in CALL_STACK LEVEL_STACK EDIT_LEVEL_STACK PATCH_LEVEL_STACK PATH_STACK; do
     bytes=$(sed -n "s/^pub const $name_of_stack: usize = \([0-9]*\);$/\1/p" src/lib.rs)
     grep -q "^#define KOHIBLAD_$name_of_stack $bytes$" ../kohiblad.h ||
         fail "$name_of_stack is not that of kohiblad.h"
@@ -108,6 +108,7 @@ done < "$scratch/rows" > "$scratch/types"
 returned() {
     local in=src self=
     case $1 in
+        JsonPath::*) in=src/json_path.rs self=JsonPath ;;
         OwnedJsonb::*) in=src/owned.rs self=OwnedJsonb ;;
         RawJsonb::*) in=src/raw.rs self="RawJsonb<'a>" ;;
         bytes::*) in=src/bytes.rs ;;

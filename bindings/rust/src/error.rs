@@ -48,6 +48,11 @@ pub enum Error {
     TooDeep,
     /// The value is of another kind.
     OtherKind,
+    /// The text is no path of SQL/JSON.
+    InvalidPath {
+        /// At which byte it stops being one.
+        offset: usize,
+    },
     /// The number does not fit the type: it is too large, or has digits after its point.
     PastRange,
     /// The call took more steps than it may.
@@ -64,6 +69,28 @@ pub enum Error {
     OutOfForm,
     /// The file did not give its rows back when it was read again.
     NotReadBack,
+    /// A path asks for a member that is not there.
+    MemberNotFound,
+    /// A path asks for the members of what is no object.
+    ObjectNotFound,
+    /// A path asks for the items of what is no array.
+    ArrayNotFound,
+    /// A subscript of a path is no index, or out of bounds.
+    InvalidSubscript,
+    /// A path rounds what is no number.
+    NonNumericItem,
+    /// An operand in a path is not one number.
+    SingletonRequired,
+    /// What is after a sign in a path is no number.
+    NumberNotFound,
+    /// A path takes a remainder by zero.
+    DivisionByZero,
+    /// A number that a path computes does not fit.
+    OutOfRange,
+    /// A variable of a path is not given.
+    UndefinedVariable,
+    /// A path gives no one boolean or null.
+    BooleanRequired,
     /// A status that this version of the crate does not know.
     Unknown(u32),
 }
@@ -98,6 +125,17 @@ impl Error {
             22 => Error::WrongLength,
             23 => Error::OutOfForm,
             24 => Error::NotReadBack,
+            25 => Error::MemberNotFound,
+            26 => Error::ObjectNotFound,
+            27 => Error::ArrayNotFound,
+            28 => Error::InvalidSubscript,
+            29 => Error::NonNumericItem,
+            30 => Error::SingletonRequired,
+            31 => Error::NumberNotFound,
+            32 => Error::DivisionByZero,
+            33 => Error::OutOfRange,
+            34 => Error::UndefinedVariable,
+            35 => Error::BooleanRequired,
             _ => Error::Unknown(status),
         }
     }
@@ -122,7 +160,7 @@ impl Error {
             Error::BadNumber { .. } => "BadNumber",
             Error::OutOfMemory => "OutOfMemory",
             Error::TooDeep => "TooDeep",
-            Error::OtherKind => "OtherKind",
+            Error::OtherKind | Error::InvalidPath { .. } => "OtherKind",
             Error::PastRange => "PastRange",
             Error::TooManySteps => "TooManySteps",
             Error::BadMagic => "BadMagic",
@@ -131,6 +169,17 @@ impl Error {
             Error::WrongLength => "WrongLength",
             Error::OutOfForm => "OutOfForm",
             Error::NotReadBack => "NotReadBack",
+            Error::MemberNotFound => "MemberNotFound",
+            Error::ObjectNotFound => "ObjectNotFound",
+            Error::ArrayNotFound => "ArrayNotFound",
+            Error::InvalidSubscript => "InvalidSubscript",
+            Error::NonNumericItem => "NonNumericItem",
+            Error::SingletonRequired => "SingletonRequired",
+            Error::NumberNotFound => "NumberNotFound",
+            Error::DivisionByZero => "DivisionByZero",
+            Error::OutOfRange => "OutOfRange",
+            Error::UndefinedVariable => "UndefinedVariable",
+            Error::BooleanRequired => "BooleanRequired",
             Error::Unknown(_) => "Unknown",
         }
     }
@@ -156,6 +205,7 @@ impl Error {
             Error::OutOfMemory => "an allocation failed",
             Error::TooDeep => "the text nests deeper than the depth",
             Error::OtherKind => "it is of another kind than the call takes",
+            Error::InvalidPath { .. } => NO_PATH,
             Error::PastRange => "the number is too large, or has too many digits after its point",
             Error::TooManySteps => "the call took more steps than it may",
             Error::BadMagic => "the bytes do not begin as a file of typed columns",
@@ -164,12 +214,23 @@ impl Error {
             Error::WrongLength => "a length does not fit the number of rows",
             Error::OutOfForm => "what is in the file is out of form",
             Error::NotReadBack => "the file did not give its rows back",
+            Error::MemberNotFound => "the path asks for a member that is not there",
+            Error::ObjectNotFound => "the path asks for the members of what is no object",
+            Error::ArrayNotFound => "the path asks for the items of what is no array",
+            Error::InvalidSubscript => "a subscript of the path is no index, or out of bounds",
+            Error::NonNumericItem => "the path rounds what is no number",
+            Error::SingletonRequired => "an operand of the path is not one number",
+            Error::NumberNotFound => "what is after a sign of the path is no number",
+            Error::DivisionByZero => "the path takes a remainder by zero",
+            Error::OutOfRange => "a number that the path computes does not fit",
+            Error::UndefinedVariable => "a variable of the path is not given",
+            Error::BooleanRequired => "the path gives no one boolean or null",
             Error::Unknown(_) => "the status is unknown",
         }
     }
 
-    /// Where a text stops being JSON: how many bytes of it begin some JSON text. `None` of the
-    /// errors that are of no place in a text.
+    /// Where a text stops being JSON, or a path: how many bytes of it begin some JSON text, or are
+    /// before what the path is refused for. `None` of the errors that are of no place in a text.
     ///
     /// ```
     /// let refused = kohiblad::OwnedJsonb::parse("[1,]", 64).unwrap_err();
@@ -177,7 +238,9 @@ impl Error {
     /// ```
     pub fn offset(&self) -> Option<usize> {
         match *self {
-            Error::InvalidJson { offset } | Error::BadNumber { offset } => Some(offset),
+            Error::InvalidJson { offset }
+            | Error::BadNumber { offset }
+            | Error::InvalidPath { offset } => Some(offset),
             _ => None,
         }
     }
@@ -191,10 +254,16 @@ impl From<Infallible> for Error {
     }
 }
 
-/// The name, and the place if there is one.
+/// The reason of a text that is no path.
+const NO_PATH: &str = "the text is no path of SQL/JSON";
+
+/// The name, or that the text is no path, and the place if there is one.
 impl fmt::Display for Error {
     fn fmt(&self, f: &mut fmt::Formatter<'_>) -> fmt::Result {
-        f.write_str(self.name())?;
+        f.write_str(match self {
+            Error::InvalidPath { .. } => NO_PATH,
+            _ => self.name(),
+        })?;
         match self.offset() {
             Some(offset) => write!(f, " at byte {offset}"),
             None => Ok(()),
@@ -224,7 +293,7 @@ mod tests {
 
     #[test]
     fn names_are_those_of_the_library() {
-        for status in 1..=25 {
+        for status in 1..=36 {
             let error = Error::of_status(status);
             if !matches!(error, Error::Unknown(_)) {
                 assert_eq!(error.name(), ffi::status_name(status));
@@ -235,7 +304,7 @@ mod tests {
 
     #[test]
     fn only_three_statuses_are_no_errors() {
-        let others: Vec<_> = (1..=24)
+        let others: Vec<_> = (1..=35)
             .filter(|&status| matches!(Error::of_status(status), Error::Unknown(_)))
             .map(ffi::status_name)
             .collect();

@@ -36,6 +36,18 @@ pub struct Expected {
 
 #[repr(C)]
 #[derive(Clone, Copy, Debug, Default)]
+pub struct PathRefusal {
+    pub status: u32,
+    pub reason: u32,
+    pub offset: u64,
+    pub expected: u32,
+    pub mark: u32,
+    pub found: u32,
+    pub left_out: u32,
+}
+
+#[repr(C)]
+#[derive(Clone, Copy, Debug, Default)]
 pub struct Cursor {
     pub index: u64,
     pub key: u64,
@@ -1152,4 +1164,52 @@ extern "C" {
         room: usize,
         count: *mut usize,
     ) -> u32;
+    pub fn kohiblad_path_fault(path: *const u8, path_size: usize) -> PathRefusal;
+    pub fn kohiblad_path_report(
+        path: *const u8,
+        path_size: usize,
+        out: *mut u8,
+        room: usize,
+        length: *mut usize,
+    ) -> u32;
+    pub fn kohiblad_path_print(
+        path: *const u8,
+        path_size: usize,
+        out: *mut u8,
+        room: usize,
+        length: *mut usize,
+    ) -> u32;
+    pub fn kohiblad_path_query(
+        bytes: *const u8,
+        size: usize,
+        path: *const u8,
+        path_size: usize,
+        variables: *const u8,
+        variables_size: usize,
+        silent: u32,
+        depth: usize,
+        out: *mut u8,
+        room: usize,
+        length: *mut usize,
+    ) -> u32;
+    pub fn kohiblad_path_exists(
+        bytes: *const u8,
+        size: usize,
+        path: *const u8,
+        path_size: usize,
+        variables: *const u8,
+        variables_size: usize,
+        silent: u32,
+        depth: usize,
+    ) -> Truth;
+    pub fn kohiblad_path_match(
+        bytes: *const u8,
+        size: usize,
+        path: *const u8,
+        path_size: usize,
+        variables: *const u8,
+        variables_size: usize,
+        silent: u32,
+        depth: usize,
+    ) -> Truth;
 }

@@ -18,13 +18,14 @@ use core::cmp::Ordering;
 
 pub(crate) use crate::exports::Cursor;
 use crate::exports::*;
-use crate::stack::depth_left;
-use crate::{Error, EDIT_LEVEL_STACK, LEVEL_STACK, MAX_DEPTH, PATCH_LEVEL_STACK};
+use crate::stack::{depth_left, depth_left_beside};
+use crate::{Error, EDIT_LEVEL_STACK, LEVEL_STACK, MAX_DEPTH, PATCH_LEVEL_STACK, PATH_STACK};
 
 const OK: u32 = 0;
 const INVALID_EOF: u32 = 1;
 const NO_ROOM: u32 = 11;
 const NONE: u32 = 12;
+const OTHER_KIND: u32 = 14;
 
 /// The room that is tried first for a result of unknown length.
 const FIRST_ROOM: usize = 64;
@@ -77,6 +78,13 @@ type OfTwo = unsafe extern "C" fn(
 /// An export that says whether something is true of a document and other bytes, within a depth.
 type Asking = unsafe extern "C" fn(*const u8, usize, *const u8, usize, usize) -> Truth;
 
+/// An export that says what a path of SQL/JSON says of a document, within a depth.
+type PathAsking =
+    unsafe extern "C" fn(*const u8, usize, *const u8, usize, *const u8, usize, u32, usize) -> Truth;
+
+/// An export from the text of a path to bytes.
+type OfPathText = unsafe extern "C" fn(*const u8, usize, *mut u8, usize, *mut usize) -> u32;
+
 /// An export that builds a document of rows, within a depth.
 type Building = unsafe extern "C" fn(
     *const u8,
@@ -115,6 +123,14 @@ pub(crate) enum Progress {
 pub(crate) struct Child<'a> {
     pub(crate) key: Option<&'a [u8]>,
     pub(crate) value: Part<'a>,
+}
+
+/// What is asked of a document by a path of SQL/JSON. No bytes are no variables.
+#[derive(Clone, Copy, Debug)]
+pub(crate) struct Asked<'a> {
+    pub(crate) path: &'a str,
+    pub(crate) variables: &'a [u8],
+    pub(crate) is_silent: bool,
 }
 
 /// Byte strings one after another, with the offset of each and the end of the last.
@@ -224,7 +240,11 @@ pub(crate) fn reading_depth() -> usize {
 /// The depth within which a call reads these documents that takes so much stack for each level.
 /// `TooDeep` if one nests deeper.
 pub(crate) fn fitting(level_stack: usize, documents: &[&[u8]]) -> Result<usize, Error> {
-    let depth = depth_left(level_stack);
+    fitting_within(depth_left(level_stack), documents)
+}
+
+/// The depth, if no document nests deeper. `TooDeep` if one does.
+fn fitting_within(depth: usize, documents: &[&[u8]]) -> Result<usize, Error> {
     let fits = |bytes: &&[u8]| {
         depth == MAX_DEPTH || bytes.len() / LEVEL_SIZE < depth || check(bytes, depth)
     };
@@ -972,31 +992,123 @@ pub(crate) fn get_path<'a>(bytes: &'a [u8], path: &[u8]) -> Result<Option<Part<'
     optional(place.status, || part_at(bytes, &place))
 }
 
-/// What is made of the values that the path of a text selects.
-pub(crate) fn select<'a, T>(
-    bytes: &'a [u8],
-    path: &str,
-    made_of: impl Fn(Part<'a>) -> T,
-) -> Result<Vec<T>, Error> {
-    let depth = fitting(LEVEL_STACK, &[bytes])?;
-    select_by(bytes, made_of, |places, count| {
-        // SAFETY: as above, of the bytes, the path and the buffer for the places.
+/// The bytes of a path that may nest it, and what each takes of stack at most.
+const NESTING: &[u8] = b"([?!+-*/%<>=&|";
+const PATH_LEVEL_STACK: usize = 12 << 10;
+
+/// What a path takes of stack at most. `TooDeep` if the thread has less.
+fn stack_of_path(path: &str) -> Result<usize, Error> {
+    let nesting = path.bytes().filter(|byte| NESTING.contains(byte)).count();
+    let stack = (2 + nesting).saturating_mul(PATH_LEVEL_STACK);
+    let stack = stack.min(PATH_STACK);
+    match depth_left_beside(stack, 1) {
+        0 => Err(Error::TooDeep),
+        _ => Ok(stack),
+    }
+}
+
+/// The depth within which a path is asked of a document. `TooDeep` if the stack that is left does
+/// not carry the path, and beside it the document or the variables.
+fn depth_of_path(bytes: &[u8], asked: &Asked<'_>) -> Result<usize, Error> {
+    let stack = stack_of_path(asked.path)?;
+    let depth = depth_left_beside(stack, LEVEL_STACK);
+    fitting_within(depth, &[bytes, asked.variables])
+}
+
+/// The document of the array of all values that a path gives.
+pub(crate) fn path_query(bytes: &[u8], asked: &Asked<'_>) -> Result<Vec<u8>, Error> {
+    let depth = depth_of_path(bytes, asked)?;
+    let Asked {
+        path, variables, ..
+    } = asked;
+    all_written(FIRST_ROOM, |out, room, length| {
+        // SAFETY: as above, of the document, the path and the variables, and the stack carries the
+        // path; the call writes `length` bytes.
         unsafe {
-            kohiblad_select(
+            kohiblad_path_query(
                 bytes.as_ptr(),
                 bytes.len(),
                 path.as_ptr(),
                 path.len(),
+                variables.as_ptr(),
+                variables.len(),
+                asked.is_silent.into(),
                 depth,
-                places.as_mut_ptr(),
-                places.capacity(),
-                count,
+                out,
+                room,
+                length,
             )
         }
     })
 }
 
-/// The same, of a call that takes at most so many steps.
+pub(crate) fn path_exists(bytes: &[u8], asked: &Asked<'_>) -> Result<Option<bool>, Error> {
+    path_truth(kohiblad_path_exists, bytes, asked)
+}
+
+pub(crate) fn path_match(bytes: &[u8], asked: &Asked<'_>) -> Result<Option<bool>, Error> {
+    path_truth(kohiblad_path_match, bytes, asked)
+}
+
+/// What an export says of a document; `None` if that is not known.
+fn path_truth(export: PathAsking, bytes: &[u8], asked: &Asked<'_>) -> Result<Option<bool>, Error> {
+    let depth = depth_of_path(bytes, asked)?;
+    let Asked {
+        path, variables, ..
+    } = asked;
+    // SAFETY: as above, of the document, the path and the variables, and the stack carries the
+    // path; each `PathAsking` export requires that alone.
+    let truth = unsafe {
+        export(
+            bytes.as_ptr(),
+            bytes.len(),
+            path.as_ptr(),
+            path.len(),
+            variables.as_ptr(),
+            variables.len(),
+            asked.is_silent.into(),
+            depth,
+        )
+    };
+    optional(truth.status, || truth.value != 0)
+}
+
+/// The text of a path as PostgreSQL prints it.
+pub(crate) fn path_print(path: &str) -> Result<Vec<u8>, Error> {
+    of_path_text(kohiblad_path_print, path)
+}
+
+/// Why a text is no path, in words.
+pub(crate) fn path_report(path: &str) -> Result<Vec<u8>, Error> {
+    of_path_text(kohiblad_path_report, path)
+}
+
+fn of_path_text(export: OfPathText, path: &str) -> Result<Vec<u8>, Error> {
+    stack_of_path(path)?;
+    all_written(path.len() + FIRST_ROOM, |out, room, length| {
+        // SAFETY: as above, of the path, which the stack carries; each `OfPathText` export requires
+        // that alone, and writes `length` bytes.
+        unsafe { export(path.as_ptr(), path.len(), out, room, length) }
+    })
+}
+
+/// The error of a text that is no path.
+pub(crate) fn path_fault(path: &str) -> Error {
+    if let Err(error) = stack_of_path(path) {
+        return error;
+    }
+    // SAFETY: as above, of the path, which the stack carries.
+    let fault = unsafe { kohiblad_path_fault(path.as_ptr(), path.len()) };
+    match fault.status {
+        // Within the text.
+        OTHER_KIND => Error::InvalidPath {
+            offset: fault.offset as usize,
+        },
+        status => Error::of_status(status),
+    }
+}
+
+/// What is made of the values that an older path text selects in at most so many steps.
 pub(crate) fn select_within<'a, T>(
     bytes: &'a [u8],
     path: &str,
@@ -1004,9 +1116,11 @@ pub(crate) fn select_within<'a, T>(
     made_of: impl Fn(Part<'a>) -> T,
 ) -> Result<Vec<T>, Error> {
     let depth = fitting(LEVEL_STACK, &[bytes])?;
-    select_by(bytes, made_of, |places, count| {
+    let mut places: Vec<Place> = with_room(FIRST_PLACES)?;
+    let mut count = 0;
+    loop {
         // SAFETY: as above, of the bytes, the path and the buffer for the places.
-        unsafe {
+        let status = unsafe {
             kohiblad_select_within(
                 bytes.as_ptr(),
                 bytes.len(),
@@ -1016,22 +1130,9 @@ pub(crate) fn select_within<'a, T>(
                 steps,
                 places.as_mut_ptr(),
                 places.capacity(),
-                count,
+                &mut count,
             )
-        }
-    })
-}
-
-/// What is made of the values whose places a call writes to the room of a buffer, with their count.
-fn select_by<'a, T>(
-    bytes: &'a [u8],
-    made_of: impl Fn(Part<'a>) -> T,
-    mut call: impl FnMut(&mut Vec<Place>, &mut usize) -> u32,
-) -> Result<Vec<T>, Error> {
-    let mut places: Vec<Place> = with_room(FIRST_PLACES)?;
-    let mut count = 0;
-    loop {
-        let status = call(&mut places, &mut count);
+        };
         if status != NO_ROOM {
             tested(status)?;
             break;

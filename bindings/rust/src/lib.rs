@@ -35,6 +35,18 @@
 //! # Ok::<(), kohiblad::Error>(())
 //! ```
 //!
+//! A [`JsonPath`] asks for values, or whether a test is true, in the language of PostgreSQL's
+//! `jsonpath`:
+//!
+//! ```
+//! use kohiblad::{JsonPath, OwnedJsonb};
+//!
+//! let row = OwnedJsonb::parse(r#"{"lines": [{"price": 3}, {"price": 5}]}"#, 64)?;
+//! let dear = JsonPath::parse("$.lines[*].price > 4")?;
+//! assert_eq!(dear.matches(row.as_raw())?, Some(true));
+//! # Ok::<(), kohiblad::Error>(())
+//! ```
+//!
 //! There is no floating point: a document with a double is refused as [`Error::InvalidJsonb`]. A
 //! JSON number with an exponent, as `1e5`, is refused by [`OwnedJsonb::parse`] as
 //! [`Error::BadNumber`], and means exactly its value to [`OwnedJsonb::parse_with_exponents`].
@@ -54,6 +66,7 @@ mod error;
 mod exports;
 #[allow(unsafe_code)]
 mod ffi;
+mod json_path;
 mod key;
 mod node;
 mod owned;
@@ -65,6 +78,7 @@ mod words;
 
 pub use children::{Items, Members};
 pub use error::Error;
+pub use json_path::{JsonPath, PathError, PathQuery, Values};
 pub use key::ComparableKey;
 pub use node::{ExtensionValue, Kind, Node, Number};
 pub use owned::OwnedJsonb;
@@ -109,6 +123,10 @@ pub const EDIT_LEVEL_STACK: usize = 2048;
 
 /// The same of [`RawJsonb::merge_patch`].
 pub const PATCH_LEVEL_STACK: usize = 2432;
+
+/// How many bytes of stack a [`JsonPath`] takes at most, beside those for the levels of the
+/// document. One that nests little takes less.
+pub const PATH_STACK: usize = 1048576;
 
 /// The version of the library: millions, thousands and ones. 9000 is 0.9.0.
 ///

@@ -7,8 +7,8 @@ use core::hash::{Hash, Hasher};
 use crate::node::text_of;
 use crate::stack::depth_left;
 use crate::{
-    ffi, ComparableKey, Error, ExtensionValue, Items, Kind, Members, Node, Number, OwnedJsonb,
-    Path, EDIT_LEVEL_STACK, LEVEL_STACK, MAX_DEPTH,
+    ffi, ComparableKey, Error, ExtensionValue, Items, JsonPath, Kind, Members, Node, Number,
+    OwnedJsonb, Path, PathError, Values, EDIT_LEVEL_STACK, LEVEL_STACK, MAX_DEPTH,
 };
 
 /// The result of a call that can only fail for bytes that are no document.
@@ -17,7 +17,7 @@ pub(crate) fn known<T>(result: Result<T, Error>) -> T {
 }
 
 /// A text that the library wrote, which is UTF-8.
-fn string_of(text: Vec<u8>) -> String {
+pub(crate) fn string_of(text: Vec<u8>) -> String {
     String::from_utf8(text).expect("texts are UTF-8")
 }
 
@@ -148,45 +148,44 @@ impl<'a> RawJsonb<'a> {
         Ok(ffi::get_path(self.bytes, path.as_bytes())?.map(Node::of_part))
     }
 
-    /// The values that the path of a text selects, in place and in the order in which they are
-    /// stored.
-    ///
-    /// The text is `$` and then its steps: `.name` or `."any name"` for a key, `[0]` for an item,
-    /// `[#-1]` for the last one, `[*]` for all items, `[0 to #-2]` for those from one to another,
-    /// and `.*` for all values of an object. `?(@.price < 3)` keeps a value if what is at the path
-    /// after `@` compares so with a literal, `?(exists(@.price))` if there is something, and
-    /// `?(!exists(@.price))` if there is nothing; `&&` and `||` join these, in groups in
-    /// parentheses, and `!` turns a group.
+    /// All values that the text of a [`JsonPath`] gives, in their order. Make a path by
+    /// [`JsonPath::parse`] to ask it of many documents, with variables, or whether it gives a value.
     ///
     /// ```
     /// use kohiblad::{Node, OwnedJsonb};
     ///
     /// let row = OwnedJsonb::parse(r#"{"tags": [{"of": "x"}, {"of": "y"}]}"#, 64)?;
     /// let all = row.as_raw().select("$.tags[*].of")?;
-    /// assert!(matches!(all[..], [Node::String("x"), Node::String("y")]));
-    /// let kept = row.as_raw().select("$.tags[*]?(@.of > \"x\").of")?;
-    /// assert!(matches!(kept[..], [Node::String("y")]));
+    /// assert_eq!(all.iter().map(|it| it.to_string()).collect::<Vec<_>>(), ["x", "y"]);
+    /// let kept = row.as_raw().select(r#"$.tags[*] ? (@.of > "x").of"#)?;
+    /// assert!(matches!(kept.first(), Some(Node::String("y"))));
     /// # Ok::<(), kohiblad::Error>(())
     /// ```
     ///
     /// # Errors
     ///
-    /// - [`Error::OtherKind`]: the text is not a path.
-    /// - [`Error::OutOfMemory`]: an allocation failed.
-    pub fn select(&self, path: &str) -> Result<Vec<Node<'a>>, Error> {
-        ffi::select(self.bytes, path, Node::of_part)
+    /// Those of [`JsonPath::parse`] and of [`JsonPath::query`].
+    pub fn select(&self, path: &str) -> Result<Values, PathError> {
+        Ok(JsonPath::parse(path)?.query(*self)?)
     }
 
-    /// The same, or `None` if it takes more than so many steps, for a path that others chose. There
-    /// is a step for each value that a step of the path is asked of, and one for each of its items
-    /// or members, or of the bytes of a text, or of binary or opaque data; a list of indexes takes
-    /// as many for each of them. A filter takes one for each comparison, `exists`, `&&`, `||`,
-    /// `!(`, `(` and `)`, and for a comparison or `exists` also one for each item, member or byte
-    /// of each value on the way of its path.
+    /// The values that an older path text selects, in place and in the order in which they are
+    /// stored, or `None` if it takes more than so many steps: for a path that others chose.
+    ///
+    /// In such a text `[#-1]` is the last item, each side of an operator has a space, filters
+    /// compare a path with a literal, and values of different kinds compare: null is more than all
+    /// others. `docs/FUNCTIONS.md` has the language.
+    ///
+    /// There is a step for each value that a step of the path is asked of, and one for each of its
+    /// items or members, or of the bytes of a text, or of binary or opaque data; a list of indexes
+    /// takes as many for each of them. A filter takes one for each comparison, `exists`, `&&`,
+    /// `||`, `!(`, `(` and `)`, and for a comparison or `exists` also one for each item, member or
+    /// byte of each value on the way of its path.
     ///
     /// # Errors
     ///
-    /// Those of `select`.
+    /// - [`Error::OtherKind`]: the text is not such a path.
+    /// - [`Error::OutOfMemory`]: an allocation failed.
     ///
     /// ```
     /// use kohiblad::OwnedJsonb;

@@ -25,7 +25,12 @@ const OWN_FRAMES: usize = 2048;
 /// assert_eq!(depth, MAX_DEPTH);
 /// ```
 pub fn depth_left(level_stack: usize) -> usize {
-    let left = bytes_left().saturating_sub(CALL_STACK + OWN_FRAMES);
+    depth_left_beside(0, level_stack)
+}
+
+/// The same beside so many bytes of stack that the call takes.
+pub(crate) fn depth_left_beside(stack: usize, level_stack: usize) -> usize {
+    let left = bytes_left().saturating_sub(CALL_STACK + OWN_FRAMES + stack);
     (left / level_stack.max(1)).min(MAX_DEPTH)
 }
 

@@ -156,7 +156,8 @@ fn refuse_all(_: usize) {
         assert_eq!(raw.set(&path, 1).err(), refused);
         assert_eq!(raw.remove(&path).err(), refused);
         assert_eq!(raw.get_path(&path).err(), refused);
-        assert_eq!(raw.select("$").err(), refused);
+        assert_eq!(raw.select_within("$", 9).err(), refused);
+        assert_eq!(raw.select("$").err().map(Error::from), refused);
         assert!(std::panic::catch_unwind(|| raw.cmp(&raw)).is_err());
         assert!(std::panic::catch_unwind(|| raw.to_string()).is_err());
         assert!(std::panic::catch_unwind(|| raw.is_canonical()).is_err());

@@ -107,11 +107,11 @@ fn paths_lead_to_values_in_place() {
 }
 
 #[test]
-fn selection_is_of_all_values_in_stored_order() {
+fn older_paths_select_values_in_stored_order() {
     let row = parsed(r#"{"b":[1,[2,3],{"c":4}],"a":{"c":5}}"#);
     let selected = |path| -> Result<Vec<String>, Error> {
-        let nodes = row.as_raw().select(path)?;
-        Ok(nodes.into_iter().map(text_of).collect())
+        let nodes = row.as_raw().select_within(path, usize::MAX)?;
+        Ok(nodes.unwrap().into_iter().map(text_of).collect())
     };
     for (path, texts) in [
         ("$", &[r#"{"a":{"c":5},"b":[1,[2,3],{"c":4}]}"#][..]),
@@ -129,7 +129,9 @@ fn selection_is_of_all_values_in_stored_order() {
         assert_eq!(selected(path), Err(Error::OtherKind), "{path}");
     }
     let many = parsed(&format!("[{}0]", "0,".repeat(999)));
-    assert_eq!(many.as_raw().select("$[*]").unwrap().len(), 1000);
+    let all = many.as_raw().select_within("$[*]", 1001).unwrap();
+    assert_eq!(all.unwrap().len(), 1000);
+    assert!(many.as_raw().select_within("$[*]", 999).unwrap().is_none());
 }
 
 #[test]

@@ -5,7 +5,9 @@
 use std::fs;
 use std::path::Path;
 
-use kohiblad::{bytes, ComparableKey, Error, Kind, Node, OwnedJsonb, RawJsonb, MAX_DEPTH};
+use kohiblad::{
+    bytes, ComparableKey, Error, JsonPath, Kind, Node, OwnedJsonb, RawJsonb, MAX_DEPTH,
+};
 
 fn unhex(word: &str) -> Option<Vec<u8>> {
     let byte = |at| u8::from_str_radix(word.get(at..at + 2)?, 16).ok();
@@ -253,4 +255,51 @@ fn lines_of_jsonb_probe() {
 fn lines_of_jsonb_cli() {
     let count = compared("jsonb_cli", cli);
     assert!(count > 1500, "{count}");
+}
+
+/// The error of a path that ends with this SQLSTATE.
+fn error_of_state(state: &str) -> Error {
+    match state {
+        "2203A" => Error::MemberNotFound,
+        "2203C" => Error::ObjectNotFound,
+        "22039" => Error::ArrayNotFound,
+        "22033" => Error::InvalidSubscript,
+        "22036" => Error::NonNumericItem,
+        "22038" => Error::SingletonRequired,
+        "2203B" => Error::NumberNotFound,
+        "22012" => Error::DivisionByZero,
+        "42704" => Error::UndefinedVariable,
+        other => panic!("no state of a path: {other}"),
+    }
+}
+
+/// What PostgreSQL gave for paths of SQL/JSON.
+#[test]
+fn paths_give_what_postgresql_gave() {
+    let examples = Path::new(env!("CARGO_MANIFEST_DIR")).join("../../tests/paths/examples.txt");
+    let mut asked = 0;
+    for line in fs::read_to_string(examples).unwrap().lines() {
+        if line.is_empty() || line.starts_with('#') {
+            continue;
+        }
+        let mut cells = line.split('\t');
+        let mut cell = || cells.next().unwrap();
+        let row = OwnedJsonb::parse_with_exponents(cell(), 64).unwrap();
+        let path = JsonPath::parse(cell()).unwrap();
+        let wanted = OwnedJsonb::parse_with_exponents(cell(), 64).unwrap();
+        let error = cells.next().map(error_of_state);
+        let array = |values: kohiblad::Values| OwnedJsonb::array_of(values.iter()).unwrap();
+        let silent = path.silent().query(row.as_raw()).map(array);
+        let answer = path.query(row.as_raw()).map(array);
+        match error {
+            None => assert_eq!(answer, Ok(wanted.clone()), "{line}"),
+            Some(error) => assert_eq!(answer, Err(error), "{line}"),
+        }
+        match error {
+            Some(Error::UndefinedVariable) => assert_eq!(silent, answer, "{line}"),
+            _ => assert_eq!(silent, Ok(wanted), "{line}"),
+        }
+        asked += 1;
+    }
+    assert!(asked > 30);
 }

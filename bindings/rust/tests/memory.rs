@@ -5,7 +5,7 @@ use std::alloc::{GlobalAlloc, Layout, System};
 use std::cell::Cell;
 use std::ptr;
 
-use kohiblad::{bytes, read_path, Error, OwnedJsonb, Path};
+use kohiblad::{bytes, read_path, Error, JsonPath, OwnedJsonb, Path};
 
 thread_local! {
     /// How many allocations succeed before one is refused; `None` if all succeed.
@@ -119,6 +119,12 @@ fn refused_allocations_are_named() {
         };
         read_path(bytes.len(), read, &path())
     });
+    refuse_each("a path of SQL/JSON", || {
+        JsonPath::parse("$.list[*]").map_err(Error::from)
+    });
+    let all = JsonPath::parse("$.list[*]").unwrap();
+    refuse_each("query", || all.query(row));
+    refuse_each("query_first", || all.query_first(row));
     refuse_each("index_keys", || row.index_keys());
     refuse_each("sorted_order", || bytes::sorted_order([row, list]));
 }
