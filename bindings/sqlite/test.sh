@@ -52,7 +52,7 @@ version=$(sqlite3 -batch -cmd ".load $scratch/out/kohiblad" :memory: 'SELECT jb_
 [ "$version" = "$(pkg-config --modversion kohiblad)" ] || fail "the version $version"
 tests=$((tests + 3))
 
-scripts='documents read numbers paths each tree edits builders combine aggregates windows survey'
+scripts='documents read numbers paths queries each tree edits builders combine aggregates windows survey'
 scripts="$scripts subtypes binary changes schema order errors"
 for name in $scripts; do
     for encoding in UTF-8 UTF-16le UTF-16be; do run_script "$name" "$encoding"; done

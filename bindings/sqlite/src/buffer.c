@@ -19,9 +19,8 @@ static bool is_within_limit(const struct caller *caller, size_t length)
     return length <= (size_t)sqlite3_limit(database, SQLITE_LIMIT_LENGTH, -1);
 }
 
-/* After another status than KOHIBLAD_OK the buffer holds no memory. */
-static uint32_t try_fill(const struct caller *caller, struct buffer *buffer, writer *write,
-                         const void *input, size_t guess)
+uint32_t try_fill(const struct caller *caller, struct buffer *buffer, writer *write,
+                  const void *input, size_t guess)
 {
     size_t room = sizeof buffer->small;
     uint32_t status;

@@ -12,8 +12,9 @@
 #define KOHIBLAD_SQLITE_DEPTH 1000
 #endif
 
-/* How many steps jb_contains may take, which is a second or two. Without a limit it takes a product
- * of the lengths of both arguments. */
+/* How many steps jb_contains and a path of SQL/JSON may take, which is a second or two. Without a
+ * limit jb_contains takes a product of the lengths of both arguments, and a path a power of that of
+ * the document. */
 #ifndef KOHIBLAD_SQLITE_STEPS
 #define KOHIBLAD_SQLITE_STEPS 20000000
 #endif
@@ -21,6 +22,12 @@
 /* Headers before 3.45 have no name for this flag, and SQLite before 3.45 ignores it. */
 #ifndef SQLITE_RESULT_SUBTYPE
 #define SQLITE_RESULT_SUBTYPE 0x001000000
+#endif
+
+/* The most stack that a path of SQL/JSON may take beside that for the levels of the document. One
+ * that nests in brackets and operators takes at most so much for each. */
+#ifndef KOHIBLAD_SQLITE_PATH_STACK
+#define KOHIBLAD_SQLITE_PATH_STACK KOHIBLAD_PATH_STACK
 #endif
 
 /* The subtype of TEXT that is JSON: SQLite's JSON functions set and read it. */
@@ -162,8 +169,11 @@ size_t guess_of_rows(const struct rows *rows);
 
 /* buffer.c */
 
-/* Calls the writer with room for `guess` bytes, and again if it needs more. After `false` it has
- * reported the error and the buffer holds no memory. */
+/* Calls the writer with room for `guess` bytes, and again if it needs more. After another status
+ * than KOHIBLAD_OK the buffer holds no memory. */
+uint32_t try_fill(const struct caller *caller, struct buffer *buffer, writer *write,
+                  const void *input, size_t guess);
+/* The same. After `false` it has reported the error and the buffer holds no memory. */
 bool fill(const struct caller *caller, struct buffer *buffer, writer *write, const void *input,
           size_t guess);
 /* The same with the document of a value. */
@@ -237,6 +247,12 @@ uint32_t take_step(struct step *step, struct part *part);
 uint32_t follow_path(const char *name, struct bytes document, const struct buffer *path,
                      struct part *part, struct step *last, char **message);
 
+/* path_steps.c */
+
+/* How many steps a path of SQL/JSON takes at most in documents of so many bytes and levels. The text
+ * is one that the library reads. */
+double steps_of_path(struct bytes path, size_t size, size_t levels);
+
 /* These return codes of SQLite. */
 int register_functions(sqlite3 *database);  /* functions.c */
 int register_builders(sqlite3 *database);   /* builders.c */
@@ -244,5 +260,6 @@ int register_edits(sqlite3 *database);      /* edits.c */
 int register_aggregates(sqlite3 *database); /* aggregates.c */
 int register_each(sqlite3 *database);       /* each.c */
 int register_survey(sqlite3 *database);     /* survey.c */
+int register_queries(sqlite3 *database);    /* queries.c */
 
 #endif

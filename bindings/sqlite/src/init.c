@@ -15,5 +15,6 @@ int sqlite3_kohiblad_init(sqlite3 *database, char **message, const sqlite3_api_r
     if (code == SQLITE_OK) code = register_aggregates(database);
     if (code == SQLITE_OK) code = register_each(database);
     if (code == SQLITE_OK) code = register_survey(database);
+    if (code == SQLITE_OK) code = register_queries(database);
     return code;
 }

@@ -11,6 +11,13 @@ SELECT jb(replace(hex(zeroblob(500)), '0', '[') || '}');
 --! jb: InvalidJson: expected a value or ']' at byte 1000, found '}'
 SELECT length(jb_group_array(jb_at(doc, '$[0]'))) - length(doc) FROM deep;
 --> 0
+-- Paths of SQL/JSON: what they give nests one level deeper, and they may nest themselves.
+SELECT jb_query(doc, '$') FROM deep;
+--! jb_query: InvalidJsonb
+SELECT jb_length(jb_query(doc, '$[0]')), jb_query_first(doc, '$') = doc,
+    jb_path_exists(doc, '$' || replace(hex(zeroblob(25)), '00', '[*] ? (exists(@')
+        || replace(hex(zeroblob(25)), '00', '))')) FROM deep;
+--> 1|1|1
 -- Changes and containment, at the bottom and of the whole.
 SELECT jb_valid(jb_remove(doc, '$' || replace(hex(zeroblob(999)), '00', '[0]'))),
     jb_contains(doc, doc), jb_exists(doc, 'x'), jb_length(jb_concat(doc, doc)) FROM deep;

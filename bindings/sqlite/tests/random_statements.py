@@ -88,6 +88,28 @@ def path():
     return quoted(made)
 
 
+def query():
+    """A path of SQL/JSON, or a text that is none."""
+    if random.random() < 0.1:
+        return random.choice(["NULL", "5", "''", "'$.'", "'$[0:2]'", "x'00'", "'$.a = 1'",
+                              "'$' || replace(hex(zeroblob(70)), '00', '?(@')",
+                              "replace(hex(zeroblob(900)), '00', '1+') || '1'"])
+    steps = [".a", ".b", ".*", ".**", ".**{1 to 2}", "[*]", "[0]", "[last]", "[0 to last - 1]",
+             "[0, 0]", ".size()", ".abs()", ".type()", ".keyvalue().value", '."%s"' % "x y",
+             " ? (@ > 1)", " ? (@.a == @.b)", " ? (exists(@.a[*]))", " ? (@ == $x)",
+             ' ? (@ starts with "x" || !(@[*] == $[*])) /* a */']
+    made = random.choice(["", "", "strict "]) + "$"
+    made += "".join(random.choice(steps) for _ in range(random.randrange(5)))
+    made += random.choice(["", "", " > 1", " + $.a", " == $x", " is unknown"])
+    return quoted(made)
+
+
+def question():
+    variables = random.choice(["", ", '{\"x\": 1}'", ", '{}', 1", ", " + document(),
+                               ", jb_object('x', %s), %d" % (sql_value(), random.randrange(2))])
+    return "%s, %s%s" % (document(), query(), variables)
+
+
 def statement():
     doc, other, at = document(), document(), path()
     name = quoted(random.choice(LETTERS))
@@ -122,6 +144,10 @@ def statement():
         "SELECT jb_text(jb_group_object(fullkey, document)) FROM %s(%s)" % (table, doc),
         "SELECT jb_text(jb_survey(document, %s)) FROM %s(%s)" % (at, table, doc),
         "SELECT jb_text(jb_survey(%s, fullkey)) FROM jb_tree(%s)" % (other, doc),
+        "SELECT jb_text(jb_query(%s))" % question(),
+        "SELECT jb_text(jb_query_first(%s)), jb_path_exists(%s)" % (question(), question()),
+        "SELECT jb_path_match(%s), jb_path_exists(%s)" % (question(), question()),
+        "SELECT value, jb_query(document, %s) FROM jb_each(jb_query(%s))" % (query(), question()),
         "SELECT t.key, e.key FROM jb_tree(%s) t, jb_each(t.document) e WHERE e.key = %s"
         % (doc, name),
     ])
@@ -156,6 +182,8 @@ def long_statement():
         "SELECT length(jb_pretty(jb(%s))), length(jb_patch(jb(%s), x)) FROM a" % (deep, deep),
         "SELECT sum(jb_compare(x, y) + jb_compare(jb_text(x), x)) FROM a, n WHERE n.i < 50",
         "SELECT jb_valid(jb_concat(x, y)), jb_exists(x, 'a'), jb_exists(y, 'a') FROM a",
+        "SELECT jb_length(jb_query(x, '$[*] ? (@ > $least)', jb_object('least', i))) FROM a, n",
+        "SELECT jb_path_exists(y, '$.** ? (@.k > 100000)'), jb_path_match(x, '$[*] > $[*]') FROM a",
         "SELECT jb_exists_any(x, jb_group_array('k' || i)), jb_exists_all(x, x) FROM a, n",
     ])
 
