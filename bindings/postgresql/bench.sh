@@ -107,7 +107,18 @@ measure "\`doc @@ '\$.price > 100'\`" "$(in_all "doc @@ '\$.price > 100'")"
 measure "\`doc @? '\$.tags[*] ? (@ == \"t3\")'\`" "$(in_all "doc @? '\$.tags[*] ? (@ == \"t3\")'")"
 measure "\`doc @@ '\$.city starts with \"city 7\" && \$.id > 9'\`" \
     "$(in_all "doc @@ '\$.city starts with \"city 7\" && \$.id > 9'")"
+measure "\`doc @? '\$.tags[0,1][0] ? (@ == \"t3\")'\`" \
+    "$(in_all "doc @? '\$.tags[0,1][0] ? (@ == \"t3\")'")"
+measure "\`doc @@ '\$.price > \$.id'\`" "$(in_all "doc @@ '\$.price > \$.id'")"
+measure "\`doc @@ '\$.price.type() == \"number\"'\`" \
+    "$(in_all "doc @@ '\$.price.type() == \"number\"'")"
 measure "\`doc @@ 'strict \$.price > 100'\`" "$(in_all "doc @@ 'strict \$.price > 100'")"
+measure "\`doc @@ '\$.price * 2 > \$.id'\`" "$(in_all "doc @@ '\$.price * 2 > \$.id'")"
+measure "\`doc @? '\$.tags.size() ? (@ > 2)'\`" "$(in_all "doc @? '\$.tags.size() ? (@ > 2)'")"
+measure "\`TYPE_path_exists(doc, '\$.price ? (@ > \$x)', '{\"x\": 100}')\`" \
+    "$(in_all "TYPE_path_exists(doc, '\$.price ? (@ > \$x)', '{\"x\": 100}')")"
+measure "\`doc @? '\$.** ? (@ == \"t3\")'\`" "$(in_all "doc @? '\$.** ? (@ == \"t3\")'")"
+measure "\`doc @@ '\$.price.double() > 100'\`" "$(in_all "doc @@ '\$.price.double() > 100'")"
 measure 'GIN index built' 'CREATE INDEX built ON in_TYPE USING gin (doc)' 'DROP INDEX built'
 measure 'GIN index built, `TYPE_path_ops`' \
     'CREATE INDEX built ON in_TYPE USING gin (doc TYPE_path_ops)' 'DROP INDEX built'

@@ -145,20 +145,24 @@ BEGIN
     EXECUTE 'SELECT count(*) FROM unheld WHERE ' || condition INTO by_scan;
     RETURN by_index || ' ' || by_scan;
 END $$;
-SELECT found_unheld($$ d @? 'strict $.a' $$), found_unheld($$ d @@ 'strict $.a == 1' $$),
-    found_unheld($$ d @? 'strict $.a ? (@ == 1)' $$), found_unheld($$ d @> '{"a":1}' $$);
-SELECT count(*) FILTER (WHERE d @? 'strict $'), count(*) FILTER (WHERE d @? 'strict $' IS NULL),
-    count(*) FILTER (WHERE kohiblad_path_exists(d, 'strict $', silent => true)),
-    count(*) FILTER (WHERE kohiblad_path_exists_tz(d, 'strict $', silent => true)),
-    count(*) FILTER (WHERE kohiblad_path_match(d, 'strict $.a == 1', silent => true)),
-    count(kohiblad_path_query_first(d, 'strict $.a', silent => true)),
-    sum(kohiblad_array_length(kohiblad_path_query_array(d, 'strict $.a', silent => true)))
+SELECT found_unheld($$ d @? '$.a ? (1/1 == 1)' $$),
+    found_unheld($$ d @@ '$.a == 1 && 1/1 == 1' $$),
+    found_unheld($$ d @? '$.a ? (@ == 1 && 1/1 == 1)' $$), found_unheld($$ d @> '{"a":1}' $$);
+SELECT count(*) FILTER (WHERE d @? '$ ? (1/1 == 1)'),
+    count(*) FILTER (WHERE d @? '$ ? (1/1 == 1)' IS NULL),
+    count(*) FILTER (WHERE kohiblad_path_exists(d, '$ ? (1/1 == 1)', silent => true)),
+    count(*) FILTER (WHERE kohiblad_path_exists_tz(d, '$ ? (1/1 == 1)', silent => true)),
+    count(*) FILTER (WHERE kohiblad_path_match(d, '$.a == 1/1', silent => true)),
+    count(kohiblad_path_query_first(d, '$.a ? (1/1 == 1)', silent => true)),
+    sum(kohiblad_array_length(kohiblad_path_query_array(d, '$.a ? (1/1 == 1)', silent => true)))
 FROM unheld;
-SELECT count(*), sum(it::int) FROM unheld, kohiblad_path_query(d, 'strict $.a', silent => true) it;
+SELECT count(*), sum(it::int)
+FROM unheld, kohiblad_path_query(d, '$.a ? (1/1 == 1)', silent => true) it;
 SELECT count(*) FROM (SELECT kohiblad_path_query(d, 'strict $.*', silent => true) FROM unheld) s;
-SELECT refusal($$ SELECT count(*) FROM unheld WHERE kohiblad_path_exists(d, 'strict $') $$);
-SELECT refusal($$ SELECT kohiblad_path_exists('[]', 'strict $', '{"x":"\u0000"}', true) $$);
--- Other paths are followed in the document itself.
+SELECT refusal($$ SELECT count(*) FROM unheld WHERE kohiblad_path_exists(d, '1/1') $$);
+SELECT refusal($$ SELECT kohiblad_path_exists('[]', '1/1', '{"x":"\u0000"}', true) $$);
+-- Other paths are followed in the document itself, by the library too.
+SELECT found_unheld($$ d @? 'strict $.a' $$), found_unheld($$ d @@ 'strict $.a == 1' $$);
 SELECT found_unheld($$ d @? '$.a' $$), found_unheld($$ d @@ '$.a == 1' $$),
     found_unheld($$ d @? '$.a ? (@ == 1)' $$), found_unheld($$ d @> '{"a":1}' $$);
 SELECT count(*) FILTER (WHERE d @? '$'), count(*) FILTER (WHERE d @? '$' IS NULL),

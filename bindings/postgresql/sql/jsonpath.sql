@@ -107,6 +107,64 @@ SELECT refusal($$ SELECT kohiblad_path_exists('[1]', '$[0]', '[]') $$),
 SELECT d @@ '$.d == "1"', d @? '$.d ? (@ == "1")', kohiblad_path_query_first(d, '$.d'),
     kohiblad_path_query_array(d, '$.*'), d @? '$.d', d @@ '$.n == 5'
 FROM (SELECT kohiblad_set('{"n":5}', '{d}', '\x20000000600000051000000001') AS d) s;
+-- Paths that the library follows: 300 random ones, with variables, give what the server's functions
+-- give, and the same errors.
+CREATE TABLE followed AS SELECT i, (one_of('{"lax ","strict "}') || CASE i % 6
+    WHEN 0 THEN '$' || random_steps(1) || one_of('{.abs(),.floor(),.ceiling(),.type(),.size()}')
+    WHEN 1 THEN format('$%s %s $%s', random_steps(1), one_of('{+,-,*,%}'), random_steps(1))
+    WHEN 2 THEN format('$%s ? (@ %s $%s)', random_steps(1), one_of('{==,<,>=}'), one_of('{x,y}'))
+    WHEN 3 THEN format('$.** ? (%s)', random_test(1, '@'))
+    WHEN 4 THEN format('$%s[$x to last]%s', random_steps(0), one_of('{"",.type(),.abs()}'))
+    ELSE format('%s$%s', one_of('{+,-}'), random_steps(1)) END)::jsonpath AS path
+    FROM generate_series(1, 300) i;
+SELECT count(*), count(*) FILTER (WHERE kohiblad_path_exists(d, path, vars::kohiblad, true)
+            IS NOT DISTINCT FROM jsonb_path_exists(j, path, vars, true)) AS finds,
+    count(*) FILTER (WHERE kohiblad_path_match(d, path, vars::kohiblad, true)
+            IS NOT DISTINCT FROM jsonb_path_match(j, path, vars, true)) AS says,
+    count(*) FILTER (WHERE kohiblad_path_query_array(d, path, vars::kohiblad, true)::jsonb::text
+            IS NOT DISTINCT FROM jsonb_path_query_array(j, path, vars, true)::text) AS gathers
+FROM followed p, (SELECT * FROM walked WHERE i <= 300) w,
+    (SELECT jsonb '{"x":1.5,"y":"a"}' AS vars) v;
+SELECT number, count(*), count(*) FILTER (WHERE of_jsonb IS NOT DISTINCT FROM of_kohiblad
+        OR same_json(of_jsonb, of_kohiblad))
+FROM (SELECT number, called(call, j::text, path, 'jsonb') AS of_jsonb,
+             called(call, j::text, path, 'kohiblad') AS of_kohiblad
+      FROM calls, walked w JOIN followed p ON p.i = 1 + w.i % 300 WHERE w.i <= 600) s
+GROUP BY number ORDER BY number;
+-- Numbers keep their digits, and arithmetic has those of numeric; strings stay as they are.
+SELECT path, kohiblad_path_query_array('{"a":[1.50,2,-0.75],"b":"\u0000\"é","c":{"d":null}}',
+                                       path, '{"x":2.0,"y":["u",{"v":[]}]}', true)
+FROM unnest(string_to_array('strict $.a[*];strict $.a[0] + $.a[1];$.a[0] * $.a[2];$.a[1] % $x;'
+        || '-$.a[*];$.a[*].abs();$.a[*].floor();$.a[2].ceiling();$y;$y[1].v.type();$.a[$x];'
+        || 'strict $.b;strict $.c.d;$.a[last].abs() - $x;($.a[0] > $x) is unknown;strict $.a[5];strict $.x;'
+        || '$.a[0,1,$x] ? (@ > $x - 1).type();$.a[*] ? (@.abs() < $x)', ';')::jsonpath[]) path;
+-- The errors of the standard.
+SELECT path, refusal(format('SELECT kohiblad_path_query(%L, %L)', d, path)),
+    detail_of(format('SELECT kohiblad_path_query(%L, %L)', d, path)),
+    kohiblad_path_query_array(d::kohiblad, path::jsonpath, '{"x":"0"}', true)
+FROM (SELECT '{"a":[1,"x"],"b":null}' AS d) s, unnest(string_to_array('strict $.c;strict $.a.b;'
+    || 'strict $.b[0];strict $.a[2];$.a["x"];$.a[1].abs();$.a[*] + 1;-$.a;1 % ($.a[0] - 1);$.a[$x];'
+    || 'strict $.*.c', ';')) path;
+SELECT refusal($$ SELECT kohiblad_path_match('[1,2]', 'strict $[*]') $$),
+    detail_of($$ SELECT kohiblad_path_match('[1,2]', 'strict $[*]') $$),
+    kohiblad_path_match('[true,2]', 'strict $[0,1,2]', silent => true) IS NULL,
+    kohiblad_path_match('[true,2]', 'strict $[0,2]', silent => true);
+-- Who follows a path, as a session is told that listens to messages for debugging: a date and what
+-- takes long are left to the server.
+SET client_min_messages = debug1;
+SELECT '{"a":1}'::kohiblad @? '$.a';
+SELECT '{"a":1}'::kohiblad @? 'strict $.a', '{"a":1}'::kohiblad @? '$.a.abs()';
+SELECT kohiblad_path_query('{"a":1}', '$.a + $x', '{"x":2}');
+SELECT kohiblad_path_query('{"a":1}', '$.a', '{"x":2}');
+SELECT '{"a":{"b":1}}'::kohiblad @? '$.**.b';
+SELECT kohiblad_path_query('{"bb":1,"c":2}', '$.**.type()');
+SELECT kohiblad_path_query('{"bb":1,"c":2}', 'strict $.*');
+SELECT '{"a":1}'::kohiblad @? '$.a.double()', '{"a":1}'::kohiblad @? 'strict $.x ? (@ / 2 > 1)';
+SELECT kohiblad_path_exists('\x20000000600000051000000001', 'strict $ ? (@ == "1")');
+SELECT '1'::kohiblad @? '$ ? (1 == 1 || $x > 1)', '1'::kohiblad @? '-$';
+SELECT ('[' || repeat('1,', 3000) || '1]')::kohiblad @? 'strict $[*] ? (@ > $[*])';
+SELECT kohiblad_path_query('99999999999999999999999999999999999999', '-$ * $ * 0');
+RESET client_min_messages;
 -- Rows of a set are taken in parts too, beside others, and from a table.
 SELECT kohiblad_path_query('[1,[2],3]', '$[*]') AS it, generate_series(1, 2) AS i;
 SELECT it FROM (SELECT kohiblad_path_query('[1,2,3]', '$[*]') AS it LIMIT 2) s;

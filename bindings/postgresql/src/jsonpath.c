@@ -1,7 +1,9 @@
-/* Paths of SQL/JSON. Those that pathplan.c knows are followed in the document, and the others by
- * the server's own functions over a jsonb of it: what they return is read back as a document.
- * Numbers come back digit for digit; extension values are texts. */
+/* Paths of SQL/JSON. Those that pathplan.c knows are followed in the document, and those that
+ * pathtext.c knows by the library. The others are followed by the server's own functions over a
+ * jsonb of the document: what they return is read back as a document. Numbers come back digit for
+ * digit; extension values are texts. */
 #include "pathplan.h"
+#include "pathtext.h"
 #include "rows.h"
 
 #include "funcapi.h"
@@ -59,12 +61,19 @@ static bool put_documents(FunctionCallInfo fcinfo, FunctionCallInfo call) {
     return PG_NARGS() == 2 || put_jsonb(fcinfo, call, 2, false);
 }
 
+/* Who follows a path. */
+static const char BY_EXTENSION[] = "the extension";
+static const char BY_LIBRARY[] = "the library";
+static const char BY_SERVER[] = "the server";
+
 /* What a call keeps for the next one, which mostly has the same path. */
 typedef struct Kept {
     FmgrInfo server;       /* of the server's function, which keeps its own state in it */
-    MemoryContext context; /* of the path and its plan */
+    MemoryContext context; /* of the path, its plan and its text */
     JsonPath *path;
-    const PathPlan *plan; /* NULL if the server's engine follows the path */
+    const PathPlan *plan; /* NULL if it is not followed in the document */
+    PathText *text;       /* NULL if it has a plan, or the library does not follow it */
+    const char *follower; /* who the session was told to follow paths here */
 } Kept;
 
 static Kept *kept_of(FunctionCallInfo fcinfo) {
@@ -78,6 +87,13 @@ static Kept *kept_of(FunctionCallInfo fcinfo) {
     return kept;
 }
 
+/* Tells a session that listens to messages for debugging who follows the path, once. */
+static void tell_follower(Kept *kept, const char *follower) {
+    if (kept->follower == follower) return;
+    kept->follower = follower;
+    ereport(DEBUG1, (errmsg_internal("kohiblad: %s follows the path", follower)));
+}
+
 static void keep_path(Kept *kept, const JsonPath *path) {
     kept->path = NULL;
     MemoryContextReset(kept->context);
@@ -85,32 +101,49 @@ static void keep_path(Kept *kept, const JsonPath *path) {
     JsonPath *copy = palloc(VARSIZE(path));
     memcpy(copy, path, VARSIZE(path));
     kept->plan = plan_of_path(copy);
+    kept->text = kept->plan ? NULL : text_of_path(copy);
     kept->path = copy;
     MemoryContextSwitchTo(caller);
 }
 
-static const PathPlan *plan_of_argument(FunctionCallInfo fcinfo, Kept *kept) {
+/* What is kept of the path of a call. */
+static Kept *kept_of_path(FunctionCallInfo fcinfo) {
+    Kept *kept = kept_of(fcinfo);
     JsonPath *path = PG_GETARG_JSONPATH_P(1);
     bool is_kept = kept->path && VARSIZE(kept->path) == VARSIZE(path) &&
                    memcmp(kept->path, path, VARSIZE(path)) == 0;
     if (!is_kept) keep_path(kept, path);
     PG_FREE_IF_COPY(path, 1);
-    return kept->plan;
+    return kept;
 }
 
-/* The plan of a call without variables, NULL if the server's engine is needed. */
-static const PathPlan *plan_of_call(FunctionCallInfo fcinfo, Kept *kept) {
-    if (PG_NARGS() > 2) {
-        struct kohiblad_value_kind variables = kind_of(bytes_of(PG_GETARG_VARLENA_PP(2)));
-        if (variables.kind != KOHIBLAD_OBJECT || variables.count) return NULL;
-    }
-    return plan_of_argument(fcinfo, kept);
+/* Whether variables are given as the server's engine takes them, which refuses all but objects. */
+static bool are_variables(FunctionCallInfo fcinfo) {
+    return PG_NARGS() == 2 ||
+           kind_of(bytes_of(PG_GETARG_VARLENA_PP(2))).kind == KOHIBLAD_OBJECT;
+}
+
+/* The plan of a call, NULL if the path is not followed in the document. */
+static const PathPlan *plan_of_call(FunctionCallInfo fcinfo) {
+    const Kept *kept = kept_of_path(fcinfo);
+    return kept->plan && are_variables(fcinfo) ? kept->plan : NULL;
+}
+
+/* The question to the library, if that follows the path of a call. */
+static bool question_of_call(FunctionCallInfo fcinfo, Question *question) {
+    Kept *kept = kept_of_path(fcinfo);
+    if (!kept->text || !are_variables(fcinfo)) return false;
+    *question = (Question){.path = kept->text, .document = bytes_of(PG_GETARG_VARLENA_PP(0))};
+    if (PG_NARGS() > 2) question->variables = bytes_of(PG_GETARG_VARLENA_PP(2));
+    return is_for_library(question);
 }
 
 /* Calls a function of the server with the same arguments, but with documents as jsonb. A set takes
  * them in its first call alone. */
 static Datum call_with_jsonb(FunctionCallInfo fcinfo, PGFunction function) {
-    FmgrInfo *server = &kept_of(fcinfo)->server;
+    Kept *kept = kept_of(fcinfo);
+    FmgrInfo *server = &kept->server;
+    tell_follower(kept, BY_SERVER);
     LOCAL_FCINFO(call, 4);
     InitFunctionCallInfoData(*call, server, PG_NARGS(), PG_GET_COLLATION(), fcinfo->context,
                              fcinfo->resultinfo);
@@ -134,38 +167,107 @@ static Datum call_for_document(FunctionCallInfo fcinfo, PGFunction function) {
     return is_done || fcinfo->isnull ? result : document_of_jsonb(result);
 }
 
-static Datum answer_exists(FunctionCallInfo fcinfo, PGFunction function) {
-    const PathPlan *plan = plan_of_call(fcinfo, kept_of(fcinfo));
-    if (!plan) return call_with_jsonb(fcinfo, function);
+/* Whether the library tells that there is a value. A sign at the end passes over what is no number
+ * for the server's engine. */
+static bool library_finds_any(FunctionCallInfo fcinfo, bool *is_null, bool *answer) {
+    Question question;
+    if (!question_of_call(fcinfo, &question) || question.path->begins_signed) return false;
+    tell_follower(kept_of(fcinfo), BY_LIBRARY);
+    return ask_any(&question, is_silent(fcinfo), is_null, answer);
+}
+
+static bool library_finds_truth(FunctionCallInfo fcinfo, bool *is_null, bool *answer) {
+    Question question;
+    if (!question_of_call(fcinfo, &question)) return false;
+    tell_follower(kept_of(fcinfo), BY_LIBRARY);
+    return ask_match(&question, is_silent(fcinfo), is_null, answer);
+}
+
+/* Whether the library gives the array of all values: it has its own order of members. */
+static bool library_finds_all(FunctionCallInfo fcinfo, struct varlena **array) {
+    Question question;
+    if (!question_of_call(fcinfo, &question) || question.path->has_members) return false;
+    tell_follower(kept_of(fcinfo), BY_LIBRARY);
+    return ask_values(&question, is_silent(fcinfo), array);
+}
+
+static bool walk_finds_any(FunctionCallInfo fcinfo, bool *answer) {
+    const PathPlan *plan = plan_of_call(fcinfo);
+    if (!plan) return false;
     Sliced document;
     Part root = open_sliced(&document, PG_GETARG_RAW_VARLENA_P(0));
-    bool answer;
-    bool is_found = find_any(plan, &document, root, &answer);
+    bool is_found = find_any(plan, &document, root, answer);
     close_sliced(&document);
-    if (!is_found) return call_with_jsonb(fcinfo, function);
+    if (is_found) tell_follower(kept_of(fcinfo), BY_EXTENSION);
+    return is_found;
+}
+
+static Datum answer_exists(FunctionCallInfo fcinfo, PGFunction function) {
+    bool answer, is_null = false;
+    if (!walk_finds_any(fcinfo, &answer) && !library_finds_any(fcinfo, &is_null, &answer))
+        return call_with_jsonb(fcinfo, function);
+    if (is_null) PG_RETURN_NULL();
     PG_RETURN_BOOL(answer);
 }
 
-static Datum answer_match(FunctionCallInfo fcinfo, PGFunction function) {
-    const PathPlan *plan = plan_of_call(fcinfo, kept_of(fcinfo));
-    if (!plan) return call_with_jsonb(fcinfo, function);
+static bool walk_finds_truth(FunctionCallInfo fcinfo, bool *is_null, bool *answer) {
+    const PathPlan *plan = plan_of_call(fcinfo);
+    if (!plan) return false;
     Sliced document;
     Part root = open_sliced(&document, PG_GETARG_RAW_VARLENA_P(0));
     uint32_t type;
     bool is_found = find_truth(plan, &document, root, &type);
     close_sliced(&document);
-    if (!is_found) return call_with_jsonb(fcinfo, function);
-    if (type == KOHIBLAD_TYPE_NULL) PG_RETURN_NULL();
-    PG_RETURN_BOOL(type == KOHIBLAD_TYPE_TRUE);
+    if (!is_found) return false;
+    tell_follower(kept_of(fcinfo), BY_EXTENSION);
+    *is_null = type == KOHIBLAD_TYPE_NULL;
+    *answer = type == KOHIBLAD_TYPE_TRUE;
+    return true;
 }
 
-static bool values_of_call(FunctionCallInfo fcinfo, Parts *values) {
-    const PathPlan *plan = plan_of_call(fcinfo, kept_of(fcinfo));
+static Datum answer_match(FunctionCallInfo fcinfo, PGFunction function) {
+    bool answer, is_null;
+    if (!walk_finds_truth(fcinfo, &is_null, &answer) &&
+        !library_finds_truth(fcinfo, &is_null, &answer))
+        return call_with_jsonb(fcinfo, function);
+    if (is_null) PG_RETURN_NULL();
+    PG_RETURN_BOOL(answer);
+}
+
+static bool walk_finds_all(FunctionCallInfo fcinfo, Parts *values) {
+    const PathPlan *plan = plan_of_call(fcinfo);
     if (!plan) return false;
     /* The values are in the document, which lasts as long as the call's memory. */
     Sliced document;
     Part root = open_sliced(&document, PG_GETARG_RAW_VARLENA_P(0));
-    return find_values(plan, &document, root, values);
+    if (!find_values(plan, &document, root, values)) return false;
+    tell_follower(kept_of(fcinfo), BY_EXTENSION);
+    return true;
+}
+
+/* The items of an array that the library wrote. */
+static void take_items(const struct varlena *array, Parts *values) {
+    Bytes items = bytes_of(array);
+    struct kohiblad_cursor cursor;
+    struct kohiblad_place key, place;
+    *values = (Parts){.room = kind_of(items).count};
+    values->at = MemoryContextAllocHuge(CurrentMemoryContext,
+                                        (values->room + 1) * sizeof *values->at);
+    uint32_t status = kohiblad_begin(items.at, items.size, &cursor);
+    while (status == KOHIBLAD_OK && values->count < values->room) {
+        CHECK_FOR_INTERRUPTS();
+        status = kohiblad_next(items.at, items.size, &cursor, &key, &place);
+        if (status == KOHIBLAD_OK) values->at[values->count++] = part_at(items, place);
+    }
+    if (status != KOHIBLAD_OK) refuse(status, ERRCODE_INTERNAL_ERROR);
+}
+
+static bool values_of_call(FunctionCallInfo fcinfo, Parts *values) {
+    struct varlena *array;
+    if (walk_finds_all(fcinfo, values)) return true;
+    if (!library_finds_all(fcinfo, &array)) return false;
+    take_items(array, values);
+    return true;
 }
 
 static Datum answer_first(FunctionCallInfo fcinfo, PGFunction function) {
@@ -175,15 +277,21 @@ static Datum answer_first(FunctionCallInfo fcinfo, PGFunction function) {
     PG_RETURN_POINTER(document_of_part(values.at[0]));
 }
 
+static struct varlena *array_of_parts(const Parts *values) {
+    Rows *rows = new_rows();
+    for (size_t i = 0; i < values->count; i++) {
+        CHECK_FOR_INTERRUPTS();
+        add_part(rows, values->at[i]);
+    }
+    return array_of_rows(rows);
+}
+
 static Datum answer_array(FunctionCallInfo fcinfo, PGFunction function) {
     Parts values;
-    if (!values_of_call(fcinfo, &values)) return call_for_document(fcinfo, function);
-    Rows *rows = new_rows();
-    for (size_t i = 0; i < values.count; i++) {
-        CHECK_FOR_INTERRUPTS();
-        add_part(rows, values.at[i]);
-    }
-    PG_RETURN_POINTER(array_of_rows(rows));
+    struct varlena *array;
+    if (walk_finds_all(fcinfo, &values)) PG_RETURN_POINTER(array_of_parts(&values));
+    if (library_finds_all(fcinfo, &array)) PG_RETURN_POINTER(array);
+    return call_for_document(fcinfo, function);
 }
 
 /* Whether the caller takes a set as a whole, and the server's function has not begun one. */

@@ -56,8 +56,7 @@ static bool plan_whole(JsonPathItem *item, int64 *number) {
     return whole.status == KOHIBLAD_OK && -MAX_INDEX <= whole.value && whole.value <= MAX_INDEX;
 }
 
-/* A number, `last`, or `last` less a number. */
-static bool plan_index(JsonPathItem *item, Subscript *index) {
+bool plan_index(JsonPathItem *item, Subscript *index) {
     JsonPathItem left, right;
     *index = (Subscript){.is_from_last = item->type != jpiNumeric};
     if (jspHasNext(item)) return false;

@@ -64,6 +64,9 @@ typedef struct Parts {
  * a step or a mode that the server's engine alone has. */
 extern const PathPlan *plan_of_path(JsonPath *path);
 
+/* A number, `last`, or `last` less a number, that is an index for the server too. */
+extern bool plan_index(JsonPathItem *item, Subscript *index);
+
 /* The text of a key or a string in a path, and the document of a number, unless that is past the
  * format's limits. */
 extern Bytes string_of_item(JsonPathItem *item);

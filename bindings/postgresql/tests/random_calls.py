@@ -292,15 +292,18 @@ def many_texts():
 
 def jsonpath():
     """A random path of SQL/JSON, with a filter or a predicate."""
+    mode = random.choice(["", "", "strict "])
     steps = random.choice([0, 1, 2, 3, 3, 1000, 1200])
     path = "$" + "".join(random.choice([".a", ".b", '."é"', "[0]", "[*]", ".tags", ".*", "[last]",
                                         "[0, last - 1 to last]"])
                          for _ in range(steps))
+    path += random.choice(["", "", "", ".size()", ".abs()", ".type()", "[$x]", ".**"])
     condition = random.choice(["@ == 1", '@.a == "b" && @.b == null', "exists(@.a)", "@ > 1e400",
                                '@ == "\u20ac"', "@.a == true || @ == 1", "$[*] < @.*[*]",
+                               "@ > $x", "@.a + 1 > @.b", "@.size() == 2", "-@ * 2 % 3 < 1",
                                '!(@ starts with "a") && (@.a > 1.50) is unknown'])
-    return quoted(random.choice([path, f"{path} == 1", f"{path} ? ({condition})",
-                                 f'exists({path} ? ({condition})) && {path} == "a"']))
+    return quoted(mode + random.choice([path, f"{path} == 1", f"{path} ? ({condition})",
+                                        f'exists({path} ? ({condition})) && {path} == "a"']))
 
 
 def damaged_bytes():

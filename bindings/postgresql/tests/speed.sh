@@ -1,6 +1,6 @@
 #!/usr/bin/env bash
 # Times each operator of the extension beside jsonb, on random rows of 150 and of 350 bytes, which
-# have an array of objects, and prints the table of bench/DIARY.md, of which README.md has rows.
+# have an array of objects, and prints the table of bench/DIARY.md.
 #
 #     bindings/postgresql/tests/speed.sh [SECONDS [SEED [NAME]]]
 #

@@ -1,18 +1,22 @@
 #!/usr/bin/env python3
 """Asks PostgreSQL's own statements on jsonb of the type kohiblad, and compares the answers.
 
-    bindings/postgresql/tests/statements.sh [FOLDER]
+    bindings/postgresql/tests/statements.sh [--list] [FOLDER]
 
-The statements are those of src/test/regress/sql, jsonb.sql and jsonb_jsonpath.sql, in Debian's
-source package of the server, which tests/peers/run.py downloads into FOLDER, or into a scratch
-folder; without it they are passed over. Each is run in a session that has jsonb, and in four
-others: with `kohiblad` in place of `jsonb`; with `kohiblad` in place of the type `jsonb` alone,
-where kohiblad_compat is loaded; the same where the order of jsonb is set up; and as it is, where
-kohiblad_compat is loaded. The server is the one that PGHOST and PGUSER name, and PSQL its client.
+The statements are those of src/test/regress/sql, jsonb.sql, jsonb_jsonpath.sql and jsonpath.sql.
+FOLDER has the sources of the server, or is where tests/peers/run.py downloads Debian's source
+package; without it that is a scratch folder. Without the sources the statements are passed over.
+Those of jsonpath.sql only read paths: here each path is followed in one document (DOCUMENT).
+
+Each statement is run in a session that has jsonb, and in four others: with `kohiblad` in place of
+`jsonb`; with `kohiblad` in place of the type `jsonb` alone, where kohiblad_compat is loaded; the
+same where the order of jsonb is set up; and as it is, where kohiblad_compat is loaded. The server
+is the one that PGHOST and PGUSER name, and PSQL its client.
 
 Two answers are the same if both are errors with one SQLSTATE, or have the same rows in any order.
 Values are compared as JSON where both are JSON, also inside of arrays and records. Statements whose
-answers cannot be the same are left out by name (LEFT_OUT). A line has the counts of each session.
+answers cannot be the same are left out by name (LEFT_OUT). A line has the counts of each session,
+and how many of the statements had a path followed by whom, as the messages of the extension say.
 
     --list    prints each statement whose answers differ, with both
 """
@@ -37,11 +41,16 @@ LEFT_OUT = {
     r"'1(\.3)?e1000?'|'12345\.0{45}5'": "a number past the format's 128 bits",
 }
 REGRESS = "src/test/regress"
-SCRIPTS = ["jsonb", "jsonb_jsonpath"]
+SCRIPTS = ["jsonb", "jsonb_jsonpath", "jsonpath"]
 DATA = "data/jsonb.data"
 MARK = "-- statement"
+# The message, at level DEBUG1, that says which code follows a path.
+FOLLOWED = re.compile(r"^DEBUG:  kohiblad: (.*) follows the path$")
+# The document in which the paths of jsonpath.sql are followed: a path is a literal with its type.
+DOCUMENT = '{"a": [{"b": 1, "c": "x"}, [2, "y", null]], "b": {"c": [true, -2.5]}, "c": "z"}'
+PATH = re.compile(r"(E?'(?:[^']|'')*')::jsonpath\b")
 # What all sessions set, and which schemas one has beside.
-SETTINGS = "-c datestyle=postgres,mdy -c timezone=PST8PDT"
+SETTINGS = "-c datestyle=postgres,mdy -c timezone=PST8PDT -c client_min_messages=debug1"
 PATHS = {"of_order": " -c search_path=kohiblad_compat,public"}
 FIELD_ENDS = {"(": ")", "{": "}"}
 
@@ -115,9 +124,10 @@ def meaning(text, depth=0):
 class Answer:
     """What the server says to a statement."""
 
-    def __init__(self, state, output):
+    def __init__(self, state, output, followed=frozenset()):
         self.state = state
         self.output = output
+        self.followed = followed
         rows = csv.reader(io.StringIO(output))
         self.rows = collections.Counter(repr(tuple(meaning(it) for it in row)) for row in rows)
 
@@ -131,29 +141,48 @@ class Answer:
         return self.state if self.state != "00000" else self.output.strip()
 
 
+def parts_between_marks(text):
+    """What a session printed for each statement, with the last word of the mark after it."""
+    part = []
+    for line in io.StringIO(text):
+        if line.startswith(MARK):
+            yield "".join(part), line.split()[-1]
+            part = []
+        else:
+            part.append(line)
+
+
+def followers(messages):
+    """Who followed paths, by the messages for a statement."""
+    found = map(FOLLOWED.match, messages.splitlines())
+    return frozenset(it[1] for it in found if it)
+
+
 def ask(statements, data, database):
     """The answers to statements, in one session."""
-    lines = ["\\set VERBOSITY sqlstate", "\\pset null <NULL>"]
+    lines = ["\\set VERBOSITY terse", "\\pset null <NULL>"]
     for number, statement in enumerate(statements):
         lines.append(statement.replace(":'filename'", "STDIN") + ";")
         if statement.startswith("COPY"):
             lines.append(data.rstrip("\n") + "\n\\.")
-        lines.append(f"\\echo '{MARK}' {number} :SQLSTATE")
+        lines.append(f"\\echo '{MARK}' {number} :SQLSTATE\n\\warn '{MARK}' {number}")
     run = subprocess.run(
         [os.environ.get("PSQL", "psql"), "-XqAt", "--csv", "-d", database],
         input="\n".join(lines) + "\n", capture_output=True, check=False, encoding="utf-8",
         env={**os.environ, "PGCLIENTENCODING": "UTF8",
              "PGOPTIONS": SETTINGS + PATHS.get(database, "")})
-    answers, output = [], ""
-    for line in io.StringIO(run.stdout):
-        if line.startswith(MARK):
-            answers.append(Answer(line.split()[-1], output))
-            output = ""
-        else:
-            output += line
+    shown = zip(parts_between_marks(run.stdout), parts_between_marks(run.stderr))
+    answers = [Answer(state, output, followers(messages))
+               for (output, state), (messages, _) in shown]
     if len(answers) != len(statements):
         raise SystemExit(f"the server broke down after {statements[len(answers)]}\n{run.stderr}")
     return answers
+
+
+def in_document(statement):
+    """A statement of jsonpath.sql with each path followed in a document, and not only read."""
+    follows = rf"jsonb_path_query_array(jsonb '{DOCUMENT}', \1::jsonpath, '{{}}', true)"
+    return PATH.sub(lambda found: found.expand(follows), statement)
 
 
 def with_type(statement):
@@ -175,41 +204,67 @@ def reason_of(statement):
     return next((why for what, why in LEFT_OUT.items() if re.search(what, statement)), None)
 
 
+def files_of_tree(folder, names):
+    """The scripts and their data by name, of the sources in a folder, or as many as it has."""
+    found = {}
+    for name in names:
+        path = f"{folder}/{REGRESS}/{name}"
+        if os.path.exists(path):
+            with open(path, encoding="utf-8") as file:
+                found[name] = file.read()
+    return found
+
+
+def files_of_archive(archive, names):
+    """The scripts and their data by name, of the sources in an archive, or as many as it has."""
+    found = {}
+    with tarfile.open(archive) as tar:
+        for member in tar:
+            for name in names:
+                if member.name.endswith(f"{REGRESS}/{name}"):
+                    found[name] = tar.extractfile(member).read().decode()
+            if len(found) == len(names):
+                break
+    return found
+
+
 def files_of(folder):
     """The scripts and their data by name, or `None` if the package cannot be had."""
     names = [f"sql/{script}.sql" for script in SCRIPTS] + [DATA]
-    for archive in peers.download("postgresql-15", folder):
-        with tarfile.open(archive) as tar:
-            wanted = {}
-            for member in tar:
-                for name in names:
-                    if member.name.endswith(f"{REGRESS}/{name}"):
-                        wanted[name] = tar.extractfile(member).read().decode()
-                if len(wanted) == len(names):
-                    return wanted
-    return None
+    if os.path.isdir(f"{folder}/{REGRESS}"):
+        return files_of_tree(folder, names)
+    archives = peers.download("postgresql-15", folder)
+    files = [files_of_archive(it, names) for it in archives]
+    return next((it for it in files if len(it) == len(names)), None)
 
 
 def answer_in_words(answer, database):
     """The answer with one name for both types, where a session has the other one."""
     if database == "of_both":
         return answer
-    return Answer(answer.state, answer.output.replace("jsonb", "kohiblad"))
+    output = answer.output.replace("jsonb", "kohiblad")
+    return Answer(answer.state, output, answer.followed)
+
+
+def counted(counts):
+    """The counts in words, the greatest last."""
+    return ", ".join(f"{counts[it]} {it}" for it in sorted(counts, reverse=True))
 
 
 def compare(script, database, statements, data, wanted, lists):
     """Prints which answers of a session differ from those that jsonb has, and the counts."""
     changed = [SESSIONS[database](it) for it in statements]
-    counts = collections.Counter()
+    counts, paths = collections.Counter(), collections.Counter()
     for statement, jsonb, given in zip(changed, wanted, ask(changed, data, database)):
         jsonb, given = answer_in_words(jsonb, database), answer_in_words(given, database)
         reason = reason_of(statement) if database != "of_both" else None
         kind = f"left out, {reason}" if reason else "the same" if jsonb.is_same(given) else "differ"
         counts[kind] += 1
+        paths.update(f"by {it}" for it in given.followed)
         if lists and kind == "differ":
             print(f"-- {statement}\n   jsonb:    {jsonb}\n   kohiblad: {given}")
-    print(f"{script}, {database}: {len(statements)} statements, "
-          + ", ".join(f"{counts[kind]} {kind}" for kind in sorted(counts, reverse=True)))
+    print(f"{script}, {database}: {len(statements)} statements, {counted(counts)}"
+          + (f"; paths followed {counted(paths)}" if paths else ""))
 
 
 def compare_sessions(folder, lists):
@@ -218,11 +273,17 @@ def compare_sessions(folder, lists):
     if not files:
         print("passed over: Debian's source package postgresql-15 cannot be had")
         return 77
+    data = files.get(DATA, "")
     for script in SCRIPTS:
+        if f"sql/{script}.sql" not in files:
+            print(f"passed over: the sources have no {script}.sql")
+            continue
         statements = statements_of(files[f"sql/{script}.sql"])
-        wanted = ask(statements, files[DATA], "of_jsonb")
+        if script == "jsonpath":
+            statements = [in_document(it) for it in statements]
+        wanted = ask(statements, data, "of_jsonb")
         for database in SESSIONS:
-            compare(script, database, statements, files[DATA], wanted, lists)
+            compare(script, database, statements, data, wanted, lists)
     return 0
 
 
