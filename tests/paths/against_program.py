@@ -6,9 +6,10 @@
 PROGRAM is run without arguments. It is to answer each line of its standard input by a line. A line
 asked is a path, a document as JSON and an object with the variables, each in hexadecimal, with
 spaces between them. The answer has tabs between its parts: the compact JSON of each value that
-`Path::query` gives, the name of the error that they end with or `.`, and what `Path::exists` says,
-`True`, `False` or `Unknown`. For example `242e61 7b2261223a5b5d7d 7b7d`, which is `$.a` of
-`{"a":[]}`, is answered by `[]`, `.` and `True`.
+`Path::query` gives, the name of the error that they end with or `.`, what `Path::exists` says,
+`True`, `False` or `Unknown`, and what `Path::matches` says, one of these or the name of an error.
+For example `242e61 7b2261223a5b5d7d 7b7d`, which is `$.a` of `{"a":[]}`, is answered by `[]`, `.`,
+`True` and `BooleanRequired`.
 
 The last line is `N questions, D differ`, and the status is 1 unless D is 0.
 """
@@ -18,7 +19,7 @@ import sys
 
 sys.dont_write_bytecode = True
 from maker import VARIABLES, Maker
-from meaning import exists_in, path_gives
+from meaning import exists_in, match_in, path_gives
 from texts import read_document, write_document, write_path
 
 
@@ -34,17 +35,18 @@ def question(query, document):
 
 
 def expected(query, document):
-    """The parts of the answer: values, an error or `.`, and whether there is a value."""
+    """The parts of the answer: values, an error or `.`, whether there is a value, and the match."""
     outcome = path_gives(query, VARIABLES, document)
     error = rust_name(outcome.error) if outcome.error else "."
     values = [write_document(it) for it in outcome.values]
-    return [*values, error, rust_name(exists_in(query.mode, outcome))]
+    exists = exists_in(query.mode, outcome)
+    return [*values, error, rust_name(exists), rust_name(match_in(outcome))]
 
 
 def parts_of(answer):
     """The parts of a program's answer, with its values as the model writes them."""
     parts = answer.split("\t")
-    return [write_document(read_document(it)) for it in parts[:-2]] + parts[-2:]
+    return [write_document(read_document(it)) for it in parts[:-3]] + parts[-3:]
 
 
 def main():

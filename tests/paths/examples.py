@@ -1,13 +1,16 @@
 #!/usr/bin/env python3
-"""Asks the model of meaning.py the examples of crates/jsonb_path/specs/Examples.antt.
+"""Asks the model of meaning.py the examples of crates/jsonb_path/specs/Examples.antt, and those of
+the tables of docs/PATHS.md.
 
     tests/paths/examples.py
 
 A line of examples.txt has a document, a path, the values that the path gives as an array, and the
-SQLSTATE of an error if they end with one, with tabs between them. The last line is
+SQLSTATE of an error if they end with one, with tabs between them. A line of the page's tables has a
+path, a document, and values, `nothing`, or an error's name. The last line is
 `N examples, D differ`, and the status is 1 unless D is 0.
 """
 import os
+import re
 import sys
 
 sys.dont_write_bytecode = True
@@ -15,13 +18,40 @@ from meaning import Outcome, path_gives
 from texts import read_document, read_path, write_document
 from values import PathError
 
-TABLE = os.path.join(os.path.dirname(os.path.abspath(__file__)), "examples.txt")
+HERE = os.path.dirname(os.path.abspath(__file__))
+TABLE = f"{HERE}/examples.txt"
+PAGE = f"{HERE}/../../docs/PATHS.md"
+HEAD = "| path | document | gives |"
+
+
+def lines_of(path):
+    with open(path, encoding="utf-8") as file:
+        return file.read().split("\n")
 
 
 def examples():
     """The lines of the table, as lists of their parts."""
-    with open(TABLE, encoding="utf-8") as file:
-        return [it.rstrip("\n").split("\t") for it in file if not it.startswith("#")]
+    return [it.split("\t") for it in lines_of(TABLE) if it and not it.startswith("#")]
+
+
+def examples_of_page():
+    """The lines of the page's tables with this head, in the same form."""
+    is_inside = False
+    for line in lines_of(PAGE):
+        is_inside = line == HEAD or is_inside and line.startswith("|")
+        if is_inside and line.startswith("| `"):
+            path, document, given = re.split(r" \| ", line.strip("| ").replace("\\|", "\0"))
+            path, document = (it[1:-1].replace("\0", "|") for it in (path, document))
+            yield document, path, *parts_given(given)
+
+
+def parts_given(given):
+    """The values of a line of the page as an array, and the SQLSTATE of an error."""
+    if name := re.fullmatch(r"error `(\w+)`", given):
+        snake = re.sub(r"(?<=[a-z])(?=[A-Z])", "_", name[1]).upper()
+        return "[]", PathError[snake].value
+    values = [] if given == "nothing" else re.findall(r"`([^`]*)`", given)
+    return (f"[{', '.join(values)}]",)
 
 
 def expected_of(values, error=None):
@@ -36,7 +66,7 @@ def shown(outcome):
 
 def main():
     count = differ = 0
-    for document, path, *expected in examples():
+    for document, path, *expected in [*examples(), *examples_of_page()]:
         count += 1
         found = path_gives(read_path(path), {}, read_document(document))
         if found != expected_of(*expected):

@@ -262,6 +262,28 @@ def exists_in(mode, outcome):
     return truth_of(outcome.values)
 
 
+def truth_in(value):
+    """The truth that a value is: null is unknown."""
+    if value is None:
+        return Truth.UNKNOWN
+    return truth_of(value) if isinstance(value, bool) else None
+
+
+def lone_truth(values):
+    """The truth of a list of one value."""
+    return truth_in(values[0]) if len(values) == 1 else None
+
+
+def match_in(outcome):
+    """The truth that is the one value, or the error by which there is none."""
+    return outcome.error or lone_truth(outcome.values) or PathError.BOOLEAN_REQUIRED
+
+
+def is_hidden(error):
+    """A silent call hides all errors but that of a variable that is not given."""
+    return error is not PathError.UNDEFINED_VARIABLE
+
+
 # ---- the whole
 
 @dataclass(frozen=True)

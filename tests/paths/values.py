@@ -10,7 +10,7 @@ from typing import Union
 
 
 class PathError(enum.Enum):
-    """Why a path is given up, as SQLSTATE."""
+    """Why a path is given up, as SQLSTATE. That of a match is another member, not an alias."""
     MEMBER_NOT_FOUND = "2203A"
     OBJECT_NOT_FOUND = "2203C"
     ARRAY_NOT_FOUND = "22039"
@@ -21,6 +21,7 @@ class PathError(enum.Enum):
     DIVISION_BY_ZERO = "22012"
     OUT_OF_RANGE = "22003"
     UNDEFINED_VARIABLE = "42704"
+    BOOLEAN_REQUIRED = "22038 of a match"
 
 
 # ---- arithmetic
