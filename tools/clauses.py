@@ -1,9 +1,8 @@
 """Compares the pages PAGES of docs with the code: each clause that they name after a call must be a
-clause of that call, and each file that a row of PROOFS names must be one of `specs/`.
+clause of that call.
 
 Clauses are written as CALLS: CLAUSES, each name in backticks, and end at the first other word. A
-call is a function, or a method as TYPE::NAME. Files are in the last cell of a row, as CRATE and
-then their names in backticks.
+call is a function, or a method as TYPE::NAME.
 """
 import collections
 import os
@@ -14,8 +13,6 @@ from rattle import TOP, files_of, functions_of, text_of
 PAGES = ("PROOFS", "COMPARABLE", "TYPED")
 CALLS, CLAUSES = r"(`[\w:]+`(?:, `[\w:]+`)*)", r"(`\w+`(?:, `\w+`)*)"
 ITEM = re.compile(rf"{CALLS}(?: of `\w+`)?: {CLAUSES}")
-ROW = re.compile(r"^\| .* \| ([^|]*) \|$", re.M)
-FILES = re.compile(r"(\w+) (`[\w/]*\w`(?:, `[\w/]*\w`)*)")
 
 
 def clauses():
@@ -26,15 +23,6 @@ def clauses():
             for it in functions_of(path):
                 found[it.title].append({name for _, name, _ in it.clauses})
     return found
-
-
-def missing_files():
-    """The files that the rows of PROOFS name and that are not there."""
-    for cell in ROW.findall(text_of(f"{TOP}/docs/PROOFS.md")):
-        for crate, names in FILES.findall(cell):
-            for name in re.findall(r"[\w/]+", names):
-                if not os.path.exists(f"{TOP}/crates/{crate}/specs/{name}.antt"):
-                    yield f"docs/PROOFS.md: there is no crates/{crate}/specs/{name}.antt"
 
 
 def compare(_):
@@ -49,7 +37,6 @@ def compare(_):
                 if not any(names <= there for there in found.get(call, [])):
                     faults.append(f"docs/{page}.md: {call} has not all of "
                                   + " ".join(sorted(names)))
-    faults += missing_files()
     if not count:
         faults.append("no page names a clause")
     return faults, f"{count} calls with clauses"
