@@ -3,9 +3,9 @@ the same number and width of arguments and the same result; the same statuses; a
 declaration the export's `///` comment in C's terms. What calls the exports below the declarations
 is made of these, and the figures of stack in the first comment of tools/data/exports. Then it
 compares bindings/kohiblad_cffi.h, the header's types and exports in the form that Python's cffi
-reads, with what it makes of the header; and docs/C.md has to list each status. The signatures in
-docs/C.md are those of the header, and its recipes are programs of bindings/examples. The comments
-of the header, what is made in it, kohiblad_cffi.h, the signatures and the recipes can be written.
+reads, with what it makes of the header; and docs/C.md has to list each status. The recipes in
+docs/C.md are programs of bindings/examples. The comments of the header, what is made in it,
+kohiblad_cffi.h and the recipes can be written.
 
 An export that is not declared yet is declared after the one above it in its file, or last. Its
 place can be changed by hand, and so can the names of its arguments.
@@ -106,8 +106,6 @@ DECLARED = re.compile(r'(?:/\*(?:(?!\*/).)*\*/\n)?^(static inline [^;{]*?'
                       r'KOHIBLAD_INLINE\("(\w+)"\);)', re.M | re.S)
 
 # The blocks of docs/C.md that are made, below what names them. They stand between marks.
-SIGNATURES = re.compile(r"(^## Signatures\n.*?^<!-- tools/pages -->\n```c\n).*?(^```$)",
-                        re.M | re.S)
 RECIPE = re.compile(r"(\]\(\.\./bindings/examples/(\w+\.\w+)\):\n\n<!-- tools/pages -->\n```\w+\n)"
                     r".*?(^```$)", re.M | re.S)
 
@@ -218,14 +216,12 @@ def stack_rows(header):
     return "".join(rows)
 
 
-def with_blocks(page, header, signatures):
-    """The page of C with the header's signatures and figures of stack, and the recipes as the
-    programs are."""
+def with_blocks(page, header):
+    """The page of C with the header's figures of stack, and the recipes as the programs are."""
     def recipe(it):
         return it[1] + text_of(f"{TOP}/bindings/examples/{it[2]}") + it[3]
 
     page = STACK_ROWS.sub(lambda it: it[1] + stack_rows(header), page)
-    page = SIGNATURES.sub(lambda it: it[1] + "\n".join(signatures) + "\n" + it[2], page)
     return RECIPE.sub(recipe, page)
 
 
@@ -282,15 +278,14 @@ def compare(is_to_write):
     if text_of(f"{TOP}/bindings/kohiblad_cffi.h") != made:
         faults.append("kohiblad_cffi.h is not that of the header: tools/pages --write")
     page = text_of(f"{TOP}/docs/C.md")
-    right_page = with_blocks(page, header, signatures)
+    right_page = with_blocks(page, header)
     if is_to_write and right_page != page:
         write("C.md", right_page, "docs")
         page = right_page
     if page != right_page:
-        faults.append("docs/C.md has other figures, signatures or recipes: tools/pages --write")
-    has_blocks = STACK_ROWS.search(page) and SIGNATURES.search(page)
-    if not has_blocks or len(RECIPE.findall(page)) < 3:
-        faults.append("docs/C.md lacks figures of stack, signatures or recipes")
+        faults.append("docs/C.md has other figures or recipes: tools/pages --write")
+    if not STACK_ROWS.search(page) or len(RECIPE.findall(page)) < 3:
+        faults.append("docs/C.md lacks figures of stack or recipes")
     left = exported()
     right = {f"kohiblad_{it.name}": (it.result, [at.whole_type for at in it.arguments])
              for it in declared}
