@@ -207,7 +207,7 @@ enum kohiblad_path_reason {
     KOHIBLAD_PATH_INVALID_NUMBER = 4, /* a number goes on with a letter or another digit */
     KOHIBLAD_PATH_EXPECTED = 5,       /* something else is expected: enum kohiblad_path_expected */
     KOHIBLAD_PATH_LEFT_OUT = 6,       /* it is not read here: enum kohiblad_path_left_out */
-    KOHIBLAD_PATH_TOO_DEEP = 7        /* parentheses, filters, subscripts and signs: 256 levels */
+    KOHIBLAD_PATH_TOO_DEEP = 7        /* parentheses and the like nest 64 levels, all parts 400 */
 };
 
 /* What may come where a text is no path. */
