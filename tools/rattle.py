@@ -12,8 +12,8 @@ import textwrap
 
 TOP = os.path.dirname(os.path.dirname(os.path.abspath(__file__)))
 # The crates that callers name: `jsonb` exports what the two below it do.
-CRATES = ("jsonb", "jsonb_functions", "jsonb_path", "jsonb_comparable", "json_fault",
-          "typed_vector", "jsonb_typed", "jsonb_typed_file", "uses")
+CRATES = ("jsonb", "jsonb_functions", "jsonb_path", "jsonb_pattern", "jsonb_comparable",
+          "json_fault", "typed_vector", "jsonb_typed", "jsonb_typed_file", "uses")
 # The programs, and the loop that answers their lines.
 PROGRAMS = ("answer_lines", "jsonb_cli", "kohiblad_shell")
 # The modules of a library that have names for proofs, and for the libraries above.
