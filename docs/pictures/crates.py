@@ -5,7 +5,7 @@ from drawing import Drawing
 PLACES = {
     "jsonb_value": (2, 0, "green"), "jsonb_codec": (2, 1, "green"), "jsonb": (2, 2, "green"),
     "answer_lines": (0.5, 3, "green"), "uses": (2.55, 3, "plain"),
-    "jsonb_path": (4.55, 5, "green"), "jsonb_pattern": (5.5, 4, "green"),
+    "jsonb_path": (4.55, 5, "green"), "jsonb_pattern": (1, 4, "green"),
     "jsonb_comparable": (4.05, 3, "green"), "jsonb_cli": (0, 4, "blue"),
     "jsonb_probe": (2, 4, "plain"), "typed_vector": (3.1, 4, "green"),
     "jsonb_functions": (4.4, 4, "green"), "json_fault": (5.5, 5, "green"),

@@ -1,13 +1,14 @@
 #!/usr/bin/env python3
 """Asks the model of meaning.py the examples of crates/jsonb_path/specs/Examples.antt, and those of
-the tables of docs/PATHS.md.
+the tables of docs/PATHS.md, which have each path that the help of `kohiblad` shows.
 
     tests/paths/examples.py
 
 A line of examples.txt has a document, a path, the values that the path gives as an array, and the
 SQLSTATE of an error if they end with one, with tabs between them. A line of the page's tables has a
 path, a document, and values, `nothing`, or an error's name. The last line is
-`N examples, D differ`, and the status is 1 unless D is 0.
+`N examples, D differ`, and the status is 1 unless D is 0. A path of the help that is not on the page
+counts as one that differs.
 """
 import os
 import re
@@ -22,6 +23,9 @@ HERE = os.path.dirname(os.path.abspath(__file__))
 TABLE = f"{HERE}/examples.txt"
 PAGE = f"{HERE}/../../docs/PATHS.md"
 HEAD = "| path | document | gives |"
+HELP = f"{HERE}/../../crates/kohiblad_shell/src/path_help.rt"
+# How wide the paths of the help are.
+WIDTH = 31
 
 
 def lines_of(path):
@@ -45,6 +49,13 @@ def examples_of_page():
             yield document, path, *parts_given(given)
 
 
+def paths_of_help():
+    """The paths that the help shows: some of a line, with spaces between them."""
+    for line in lines_of(HELP):
+        if line.startswith("  "):
+            yield from re.split(" {3,}", line[2:].replace('\\"', '"')[:WIDTH].strip())
+
+
 def parts_given(given):
     """The values of a line of the page as an array, and the SQLSTATE of an error."""
     if name := re.fullmatch(r"error `(\w+)`", given):
@@ -66,6 +77,12 @@ def shown(outcome):
 
 def main():
     count = differ = 0
+    of_page = {path for _, path, *_ in examples_of_page()}
+    for path in paths_of_help():
+        count += 1
+        if path not in of_page:
+            differ += 1
+            print(f"not on the page: {path}")
     for document, path, *expected in [*examples(), *examples_of_page()]:
         count += 1
         found = path_gives(read_path(path), {}, read_document(document))

@@ -32,6 +32,7 @@ operation_of commands.Remove (given.Removed paths) = Some (operations.Remove pat
 operation_of commands.Extract (given.Columns columns) = Some (operations.Extract columns)
 operation_of commands.Build (given.Template template) = Some (operations.Build template)
 operation_of commands.Range (given.Range range) = Some (operations.Range range)
+operation_of commands.Grep (given.Search search) = Some (operations.Grep search)
 operation_of commands.Keys (given.Template template) = Some (operations.Build template)
 operation_of commands.Keys (given.Keys paths) = Some (operations.Key paths)
 operation_of commands.ComparableKeys (given.Keys paths) = Some (operations.Key paths)

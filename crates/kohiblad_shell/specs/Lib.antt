@@ -6,6 +6,7 @@ pub mod Expected
 pub mod Faults
 pub mod Outcomes
 pub mod Runs
+pub mod Searches
 pub mod Halts
 pub mod Keys
 pub mod KeyProofs

@@ -6,7 +6,7 @@ use Rattle.std.specs.declared.vec.Vec.{Vec}
 use Rattle.jsonb_value.specs.declared.error.Error.{Error}
 use Rattle.jsonb_value.specs.declared.error.Error.TheVariants.{InvalidJsonb, OutOfMemory}
 use Rattle.jsonb_value.specs.Text.{compact, pretty}
-use Rattle.jsonb_value.specs.Tree.{Tree, text}
+use Rattle.jsonb_value.specs.Tree.{Tree}
 use Rattle.jsonb.specs.Document.{document_tree, tree_in}
 use Rattle.hex.specs.Hex.{encode_lower}
 use Rattle.jsonb.specs.StoredRow.{row_bytes}
@@ -28,6 +28,7 @@ use Rattle.kohiblad_shell.specs.declared.operation.Operation.TheVariants.{Check,
 use Rattle.kohiblad_shell.specs.declared.operation.Operation.TheVariants.{Select, Filter, Contains}
 use Rattle.kohiblad_shell.specs.declared.operation.Operation.TheVariants.{Encode, Decode, Key}
 use Rattle.kohiblad_shell.specs.declared.operation.Operation.TheVariants.{Sort, Remove, Range}
+use Rattle.kohiblad_shell.specs.declared.operation.Operation.TheVariants.{Grep}
 use Rattle.kohiblad_shell.specs.declared.operation.Operation.TheVariants.{Build, Extract, Show}
 use Rattle.kohiblad_shell.specs.declared.operation.Operation.TheVariants as operations
 use Rattle.kohiblad_shell.specs.declared.operation.Change.{Change}
@@ -47,13 +48,9 @@ use Rattle.kohiblad_shell.specs.Inputs.{framed}
 use Rattle.kohiblad_shell.specs.Ranges.{is_in_range}
 use Rattle.kohiblad_shell.specs.Removals.{IsRemoved}
 use Rattle.kohiblad_shell.specs.Rows.{IsRow, IsRowFault}
+use Rattle.kohiblad_shell.specs.Searches.{is_searched, text_of}
 use Rattle.kohiblad_shell.specs.Sorts.{key_and_line}
 use Rattle.kohiblad_shell.specs.Templates.{IsBuilt, built}
-
--- The text of a string; none of every other value.
-abbrev pub text_of : Tree → Option (List ℕ)
-text_of (text s) = Some s
-text_of t = None
 
 -- The compact text of a value, with a line feed.
 abbrev pub row_line : Tree → List ℕ
@@ -101,6 +98,7 @@ row_lines (Contains part) form row bytes =
 row_lines (operations.Change change) form row bytes = []
 row_lines (Remove paths) form row bytes = []
 row_lines (Range range) form row bytes = kept_row form (is_in_range range (tree_in bytes)) row
+row_lines (Grep search) form row bytes = kept_row form (is_searched search (tree_in bytes)) row
 row_lines Encode form row bytes = row_bytes bytes
 row_lines (Decode layout) form row bytes = document_line layout (tree_in bytes)
 row_lines (Key paths) form row bytes =

@@ -58,6 +58,7 @@ pub use Rattle.kohiblad_shell.specs.IsoTexts.{wall_said}
 pub use Rattle.kohiblad_shell.specs.Ranges.{is_in_range, is_tree_in}
 pub use Rattle.kohiblad_shell.specs.Removals.{IsRemoved, begins_path, path_count, without}
 pub use Rattle.kohiblad_shell.specs.Runs.{BeginsRun, IsRun}
+pub use Rattle.kohiblad_shell.specs.Searches.{is_match, is_searched, text_of}
 pub use Rattle.kohiblad_shell.specs.Surveys.{container_count_lines, count_line}
 pub use Rattle.kohiblad_shell.specs.Surveys.{extension_count_lines, length_lines}
 pub use Rattle.kohiblad_shell.specs.Surveys.{number_count_lines, row_count_lines}
@@ -74,5 +75,5 @@ pub use Rattle.jsonb.specs.Document.{document_bytes, document_tree}
 pub use Rattle.jsonb.specs.Node.{HoldsNoScalar, node_tree}
 pub use Rattle.kohiblad_shell.specs.Operations.{IsCanonicalRow, IsResultOf}
 pub use Rattle.kohiblad_shell.specs.Operations.{IsRowAnswer, changed, document_line, kept_row}
-pub use Rattle.kohiblad_shell.specs.Operations.{raw_text, row_rule, text_of}
+pub use Rattle.kohiblad_shell.specs.Operations.{raw_text, row_rule}
 pub use Rattle.kohiblad_shell.specs.Operations.{value_line, value_lines}

@@ -1,6 +1,6 @@
 //! What the arguments of a command say.
 
-ghost use Rattle.std.specs.Prelude.{◌≡◌, IfSome, codes, map, option_map};
+ghost use Rattle.std.specs.Prelude.{◌≡◌, IfSome, codes, false, map, option_map};
 ghost use Rattle.kohiblad_shell.specs.Words.{IsFlag, IsMemory, are_documents, are_texts, colors_of};
 ghost use Rattle.kohiblad_shell.specs.Words.{exponents_of, first_value, form_of, found_of};
 ghost use Rattle.kohiblad_shell.specs.Words.{is_pretty, is_raw, shows_of, stops_of, text_or};
@@ -14,6 +14,7 @@ use crate::size::size_of;
 use crate::sort::Arrangement;
 use clap::ArgMatches;
 use jsonb::Exponents;
+use jsonb_pattern::Flags;
 
 // How much memory the rows of a sort may take if nothing is said.
 const USUAL_MEMORY: u64 = 1 << 30;
@@ -186,6 +187,26 @@ pub fn shows_progress_in(arguments: &ArgMatches<'_>, otherwise: bool) -> bool
         Some(word) if word == "never" => false,
         _ => otherwise,
     }
+}
+
+/// The flags of a pattern that is looked for.
+pub fn pattern_flags_in(arguments: &ArgMatches<'_>) -> Flags
+    ensures case { IsFlag arguments.now (codes "ignore-case") result.ignore_case }
+    ensures fixed { IsFlag arguments.now (codes "fixed-strings") result.quoted }
+    ensures lines { (result.dot_all ≡ false) × (result.multi_line ≡ false) }
+{
+    Flags {
+        ignore_case: has_flag(arguments, "ignore-case"),
+        quoted: has_flag(arguments, "fixed-strings"),
+        ..Flags::none()
+    }
+}
+
+/// Whether the rows are wanted in which a pattern is not found.
+pub fn is_inverted_in(arguments: &ArgMatches<'_>) -> bool
+    ensures { IsFlag arguments.now (codes "invert-match") result }
+{
+    has_flag(arguments, "invert-match")
 }
 
 /// How many bytes of memory rows and their keys may take: 1 GiB if nothing is said. `None` if what

@@ -8,6 +8,7 @@ use crate::operation::{Change, Operation, Style, TextLayout};
 use crate::part_lines::Look;
 use crate::range::ValueRange;
 use crate::template::Template;
+use crate::text_search::TextSearch;
 use jsonb::Document;
 use jsonb_functions::Step;
 use jsonb_path::Path;
@@ -32,6 +33,7 @@ pub enum Command {
     Build,
     StripNulls,
     Range,
+    Grep,
     Sort,
     MergeSorted,
     Keys,
@@ -62,6 +64,8 @@ pub enum Operands<'a> {
     Removed(&'a [Vec<Step<'a>>]),
     /// A range of values.
     Range(ValueRange<'a>),
+    /// A pattern that is looked for.
+    Search(TextSearch<'a>),
     /// Paths, each with a type.
     Columns(&'a [TypedPath]),
     /// What new rows are made of.
@@ -100,6 +104,7 @@ pub fn operation_of<'a>(command: Command, operands: Operands<'a>) -> Option<Oper
             Some(Operation::Build(template))
         }
         (Command::Range, Operands::Range(range)) => Some(Operation::Range(range)),
+        (Command::Grep, Operands::Search(search)) => Some(Operation::Grep(search)),
         (Command::Keys | Command::ComparableKeys, Operands::Keys(paths)) => {
             Some(Operation::Key(paths))
         }

@@ -2,6 +2,7 @@
 
 use crate::commands::{COMMANDS, CommandOption, CommandRow};
 use crate::operand_kind::Operand;
+use crate::path_help::PATH_HELP;
 use clap::{Arg, ArgAction, Command};
 use std::alloc::{AllocError, Global};
 
@@ -27,6 +28,9 @@ fn command_of<'a>(alloc: Global, row: &CommandRow) -> Result<Command<'a>, AllocE
     let mut command = Command::new(alloc, row.name).about(row.about);
     for operand in row.operands.operands() {
         command = command.arg(operand_of(alloc, operand))?;
+    }
+    if row.operands.has_paths() {
+        command = command.after_help(PATH_HELP);
     }
     for option in row.options {
         command = command.arg(option_of(alloc, *option))?;
@@ -75,6 +79,21 @@ fn option_of<'a>(alloc: Global, option: CommandOption) -> Arg<'a> {
             .help("A path to the value that decides; with several the first one decides first")
             .action(ArgAction::Append),
         CommandOption::ByOne => deciding_path(alloc).help("A path to the value that decides"),
+        CommandOption::Texts => deciding_path(alloc).help(
+            "A path to the texts; all texts of the row if none",
+        ),
+        CommandOption::IgnoreCase => {
+            let help = "Let ASCII letters match in either case";
+            flag(alloc, "ignore-case", help).short('i')
+        }
+        CommandOption::FixedStrings => {
+            let help = "Take PATTERN as a text, each character for itself";
+            flag(alloc, "fixed-strings", help).short('F')
+        }
+        CommandOption::InvertMatch => {
+            let help = "Write the rows in which it is not found";
+            flag(alloc, "invert-match", help).short('v')
+        }
         CommandOption::Reverse => flag(alloc, "reverse", "Write the last one first"),
         CommandOption::Unique => {
             flag(

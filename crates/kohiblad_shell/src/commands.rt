@@ -32,6 +32,10 @@ pub enum CommandOption {
     Pretty,
     By,
     ByOne,
+    Texts,
+    IgnoreCase,
+    FixedStrings,
+    InvertMatch,
     Reverse,
     Unique,
     Memory,
@@ -75,7 +79,7 @@ impl End {
 }
 
 /// The commands, in the order of the help.
-pub static COMMANDS: [CommandRow; 24] = [
+pub static COMMANDS: [CommandRow; 25] = [
     CommandRow {
         command: Command::Check,
         name: "check",
@@ -261,6 +265,22 @@ pub static COMMANDS: [CommandRow; 24] = [
             CommandOption::Documents,
             CommandOption::Text,
             CommandOption::ByOne,
+            CommandOption::Quiet,
+            CommandOption::OnError,
+        ],
+        end: End::Rows,
+    },
+    CommandRow {
+        command: Command::Grep,
+        name: "grep",
+        about: "Write the rows in whose texts a regular expression is found",
+        operands: OperandKind::Pattern,
+        options: &[
+            CommandOption::Documents,
+            CommandOption::Texts,
+            CommandOption::IgnoreCase,
+            CommandOption::FixedStrings,
+            CommandOption::InvertMatch,
             CommandOption::Quiet,
             CommandOption::OnError,
         ],

@@ -27,6 +27,7 @@ mod operation;
 mod outcome;
 mod output;
 mod part_lines;
+mod path_help;
 mod progress;
 mod range;
 mod removal;
@@ -46,13 +47,14 @@ mod survey_command;
 mod template;
 mod template_text;
 mod temporary;
+mod text_search;
 mod titles;
 mod watch;
 mod write;
 
 use arguments::{
-    form_in, is_quiet_in, layout_in, look_in, operand_in, reads_dates_in, style_in, value_in,
-    value_kind_in, words_in,
+    form_in, is_inverted_in, is_quiet_in, layout_in, look_in, operand_in, pattern_flags_in,
+    reads_dates_in, style_in, value_in, value_kind_in, words_in,
 };
 use clap::ArgMatches;
 use command::{Command, Operands, operation_of};
@@ -67,8 +69,8 @@ use merge_command::write_merged;
 use messages::{failure, misuse, notice_missed, refused_line};
 use operand_kind::OperandKind;
 use operands::{
-    deciding_path_in, document_of, path_in, push_column, push_path, push_steps, steps_in,
-    template_in,
+    deciding_path_in, document_of, path_in, pattern_in, push_column, push_path, push_steps,
+    steps_in, template_in,
 };
 use operation::Job;
 use range::ValueRange;
@@ -80,7 +82,11 @@ use std::alloc::AllocError;
 use std::env;
 use std::process::ExitCode;
 use survey_command::write_survey;
+use text_search::TextSearch;
 use watch::Watch;
+
+// All values of a row.
+const ALL_VALUES: &str = "$.**";
 
 // What `keys` makes of a row.
 const MEMBER_NAMES: &str = "[strict $.keyvalue().key]";
@@ -132,6 +138,7 @@ fn run_command(rt: &HostRuntime, row: &CommandRow, arguments: &ArgMatches<'_>) -
         OperandKind::Removed => with_removals(rt, row, arguments),
         OperandKind::Columns => with_columns(rt, row, arguments),
         OperandKind::Bounds => with_bounds(rt, row, arguments),
+        OperandKind::Pattern => with_pattern(rt, row, arguments),
         OperandKind::Keys => with_paths(rt, row, arguments),
         OperandKind::Layout => {
             run_operands(rt, row, Operands::Layout(layout_in(arguments)), arguments)
@@ -237,7 +244,7 @@ fn watched_texts<'a>(
                 texts.push(*text)?;
             }
         }
-        Command::Range | Command::Sort => {
+        Command::Range | Command::Grep | Command::Sort => {
             texts.extend_from_slice(arguments.get_strs("by").unwrap_or(&[]))?;
         }
         _ => {}
@@ -371,6 +378,25 @@ fn with_columns(rt: &HostRuntime, row: &CommandRow, arguments: &ArgMatches<'_>) 
         return misuse(rt, "the last path has no type after it");
     }
     run_operands(rt, row, Operands::Columns(&columns), arguments)
+}
+
+// Runs the command whose operand is a pattern.
+fn with_pattern(rt: &HostRuntime, row: &CommandRow, arguments: &ArgMatches<'_>) -> u8 {
+    let pattern = match pattern_in(rt, operand_in(arguments), pattern_flags_in(arguments)) {
+        Ok(pattern) => pattern,
+        Err(status) => return status,
+    };
+    match path_in(rt, arguments.get_str("by").unwrap_or(ALL_VALUES)) {
+        Ok(path) => {
+            let search = TextSearch {
+                pattern: &pattern,
+                path: &path,
+                is_inverted: is_inverted_in(arguments),
+            };
+            run_operands(rt, row, Operands::Search(search), arguments)
+        }
+        Err(status) => status,
+    }
 }
 
 // Runs the command whose operands are the bounds of a range.

@@ -25,6 +25,8 @@ pub enum OperandKind {
     Columns,
     /// The bounds of a range, and the path to the value that decides.
     Bounds,
+    /// A pattern, and the path to the texts.
+    Pattern,
     /// Paths to the values that decide.
     Keys,
     /// How texts are laid out.
@@ -46,12 +48,26 @@ impl OperandKind {
             OperandKind::Removed => &[REMOVED],
             OperandKind::Columns => &[COLUMN, TYPE],
             OperandKind::Bounds => &[FROM, TO],
+            OperandKind::Pattern => &[PATTERN],
             OperandKind::Nothing
             | OperandKind::MemberNames
             | OperandKind::Keys
             | OperandKind::Layout
             | OperandKind::Look => &[],
         }
+    }
+
+    /// Whether some of what the command is given are paths, or have paths in them.
+    pub fn has_paths(self) -> bool {
+        !matches!(
+            self,
+            OperandKind::Nothing
+                | OperandKind::Value
+                | OperandKind::Names
+                | OperandKind::MemberNames
+                | OperandKind::Layout
+                | OperandKind::Look
+        )
     }
 }
 
@@ -113,6 +129,13 @@ const TO: Operand = Operand {
     id: "value",
     name: "TO",
     help: "A JSON text, the first value after the range; with --text any text",
+    is_value: true,
+};
+
+const PATTERN: Operand = Operand {
+    id: "operand",
+    name: "PATTERN",
+    help: "A regular expression: characters, ., [a-z], [^a-z], (..|..), *, +, ?, {2,3}, ^ and $",
     is_value: true,
 };
 

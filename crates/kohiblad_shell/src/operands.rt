@@ -17,6 +17,7 @@ use jsonb::{Exponents, Node, OwnedJsonb};
 use jsonb_functions::Step;
 use jsonb_path::token::{PathFault, ReadError};
 use jsonb_path::{Path, steps_of};
+use jsonb_pattern::{Flags, Pattern, PatternError, PatternFault};
 use jsonb_typed::{LeastType, parse_type};
 
 // How operands are read.
@@ -106,6 +107,24 @@ pub fn template_in(rt: &HostRuntime, text: &str) -> Result<Template, u8> {
             }
         }
         Err(ReadError::OutOfMemory) => Err(failure(rt, Halt::Memory)),
+    }
+}
+
+/// A pattern with its flags, or the status after its fault is reported.
+pub fn pattern_in(rt: &HostRuntime, text: &str, flags: Flags) -> Result<Pattern, u8> {
+    match Pattern::new(rt.alloc(), text, flags) {
+        Ok(pattern) => Ok(pattern),
+        Err(PatternError::Refused(fault)) => Err(refused_pattern(rt, text, fault)),
+        Err(PatternError::TooLarge) => Err(misuse(rt, "the pattern is too large")),
+        Err(PatternError::OutOfMemory) => Err(failure(rt, Halt::Memory)),
+    }
+}
+
+// Reports where and why a text is no pattern. The first byte is the first one.
+fn refused_pattern(rt: &HostRuntime, text: &str, fault: PatternFault) -> u8 {
+    match format!(in rt.alloc(); "the pattern '{text}' is wrong: {fault}") {
+        Ok(words) => misuse(rt, words.as_str()),
+        Err(_) => failure(rt, Halt::Memory),
     }
 }
 

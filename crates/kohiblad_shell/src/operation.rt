@@ -24,6 +24,7 @@ use crate::removal::removed_row;
 use crate::row::{check_document, parse_line};
 use crate::show::shown_lines;
 use crate::template::{Template, built_row};
+use crate::text_search::{TextSearch, is_searched};
 use crate::watch::Watch;
 use jsonb::{Document, Error, Node, OwnedJsonb, RawJsonb, append_row};
 use jsonb_functions::{Edit, Kept, Step, contains, edit_document, merge_patch, pick, strip_nulls};
@@ -79,6 +80,8 @@ pub enum Operation<'a> {
     Remove(&'a [Vec<Step<'a>>]),
     /// Writes the row if its value lies in a range.
     Range(ValueRange<'a>),
+    /// Writes the row if a pattern is found in its texts.
+    Grep(TextSearch<'a>),
     /// Writes the document of the row, after its length, as a column stores it.
     Encode,
     /// Writes the text of the document.
@@ -173,6 +176,10 @@ fn row_lines(
         }
         Operation::Range(range) => {
             let is_kept = is_in_range(alloc, document, range)?;
+            Ok(kept_row(alloc, form, row, is_kept)?)
+        }
+        Operation::Grep(search) => {
+            let is_kept = is_searched(alloc, document, search)?;
             Ok(kept_row(alloc, form, row, is_kept)?)
         }
         Operation::Encode => Ok(framed_row(alloc, Form::Documents, document.as_bytes())?),
@@ -382,8 +389,8 @@ fn raw_text(node: Node<'_>, style: Style) -> Option<&str>
     }
 }
 
-// The text of a string; `None` of every other value.
-fn text_of(node: Node<'_>) -> Option<&str>
+/// The text of a string; `None` of every other value.
+pub fn text_of(node: Node<'_>) -> Option<&str>
     ensures { option_map (λ text. text.now) result ≡ text_of (node_tree node.entry) }
 {
     match node {

@@ -115,6 +115,7 @@ fn path_at<'a>(operation: Operation<'a>, index: usize) -> Option<&'a Path> {
     match operation {
         Operation::Get(path, _) | Operation::Select(path, _) => Some(path),
         Operation::Range(range) => Some(range.path),
+        Operation::Grep(search) => Some(search.path),
         Operation::Sort(paths) => paths.get(index),
         Operation::Extract(columns) => columns.get(index).map(|column| &column.path),
         _ => None,
