@@ -10,9 +10,9 @@ use Rattle.jsonb.specs.declared.sort_key.SortKey.TheVariants as keys
 use Rattle.jsonb.specs.Document.{document_tree}
 use Rattle.jsonb.specs.SortKey.{key_meaning}
 use Rattle.jsonb_comparable.specs.TreeKey.{meaning_key, tree_key}
-use Rattle.jsonb_path.specs.PathParts.{PathParts}
 use Rattle.kohiblad_shell.specs.Asked.{first_asked}
-use Rattle.kohiblad_shell.specs.Keys.{path_key, path_keys, row_key}
+use Rattle.kohiblad_shell.specs.Keys.{directed, path_key, path_keys, row_key}
+use Rattle.kohiblad_shell.specs.declared.sort_path.SortPath.{SortPath}
 
 -- the key of a document is that of its tree
 pub document_key : (d : Document)
@@ -20,34 +20,36 @@ pub document_key : (d : Document)
 unfolding meaning_key
 document_key d = refl
 
-path_keys-append : (ps qs : List PathParts) (t : Tree)
+-- the key of what a path leads to
+abbrev pub key_at : SortPath → Tree → List ℕ
+key_at p t = directed p.direction (path_key (first_asked p.path t))
+
+path_keys-append : (ps qs : List SortPath) (t : Tree)
     → path_keys (ps ++ qs) t ≡ path_keys ps t ++ path_keys qs t
 path_keys-append [] qs t = refl
 path_keys-append (p ∷ ps) qs t =
-    ap (λ b. path_key (first_asked p t) ++ b) (path_keys-append ps qs t)
-    ∙ sym (append_assoc (path_key (first_asked p t)) (path_keys ps t)
-    (path_keys qs t))
+    ap (λ b. key_at p t ++ b) (path_keys-append ps qs t)
+    ∙ sym (append_assoc (key_at p t) (path_keys ps t) (path_keys qs t))
 
 -- one more path
-pub path_keys-more : (paths : List PathParts) (i : ℕ) (path : PathParts)
+pub path_keys-more : (paths : List SortPath) (i : ℕ) (path : SortPath)
     (t : Tree) → i < length paths → path ≡ slice_index_or paths i path
-    → path_keys (take (i + 1) paths) t
-    ≡ path_keys (take i paths) t ++ path_key (first_asked path t)
+    → path_keys (take (i + 1) paths) t ≡ path_keys (take i paths) t ++ key_at path t
 path_keys-more paths i path t low is =
     ap (λ ps. path_keys ps t)
     (take_more paths i path low ∙ ap (λ r. take i paths ++ r ∷ []) (sym is))
     ∙ path_keys-append (take i paths) (path ∷ []) t
     ∙ ap (λ b. path_keys (take i paths) t ++ b)
-    (append-nil (path_key (first_asked path t)))
+    (append-nil (key_at path t))
 
 -- no path
-row_key-none : (paths : List PathParts) (t : Tree)
+row_key-none : (paths : List SortPath) (t : Tree)
     → true ≡ (length paths == 0) → tree_key t ≡ row_key paths t
 row_key-none [] t none = refl
 row_key-none (p ∷ ps) t none = absurd (grind (arith, nat_tests))
 
 -- the key of a whole document, where there is no path
-pub document_row_key : (paths : List PathParts) (d : Document) (old new : List ℕ)
+pub document_row_key : (paths : List SortPath) (d : Document) (old new : List ℕ)
     → old ≡ [] → true ≡ (length paths == 0)
     → new ≡ old ++ meaning_key (key_meaning (keys.Document d))
     → new ≡ row_key paths (document_tree d)

@@ -4,6 +4,7 @@ pub mod ValueLaws
 pub mod EscapeLaws
 pub mod SortLaws
 pub mod KeyLaws
+pub mod KeyOrderLaws
 pub mod RemovalLaws
 pub mod DatedLaws
 pub mod ExtractLaws

@@ -9,6 +9,8 @@ pub mod Runs
 pub mod Searches
 pub mod Halts
 pub mod Keys
+pub mod KeyOrder
+pub mod SortPaths
 pub mod KeyProofs
 pub mod Sorts
 pub mod Merges

@@ -8,7 +8,10 @@ pub use Rattle.std.specs.Cmp.Lexicographic.{nat_list_cmp_total, nat_list_eq_equi
 pub use Rattle.std.specs.Cmp.Lexicographic.{slice_cmp, texts_po, texts_ties}
 pub use Rattle.std.specs.Ordering.{nat_cmp}
 pub use Rattle.jsonb_comparable.specs.TreeKey.{tree_key}
-pub use Rattle.kohiblad_shell.specs.Keys.{AppendsKey, path_key, path_keys, row_key}
+pub use Rattle.jsonb_comparable.specs.NumberKey.{complemented}
+pub use Rattle.kohiblad_shell.specs.Keys.{AppendsKey, directed, path_key, path_keys, row_key}
+pub use Rattle.kohiblad_shell.specs.KeyOrder.{KeysDecide}
+pub use Rattle.kohiblad_shell.specs.SortPaths.{SaysDirection}
 pub use Rattle.kohiblad_shell.specs.KeyProofs.{key_laws}
 pub use Rattle.kohiblad_shell.specs.Sorts.{AreSorted, arranged, distinct, has_key, key_and_line}
 pub use Rattle.kohiblad_shell.specs.Sorts.{keyed_bytes, keyed_key, keyed_line, turned}

@@ -7,6 +7,7 @@ use crate::extract::TypedPath;
 use crate::operation::{Change, Operation, Style, TextLayout};
 use crate::part_lines::Look;
 use crate::range::ValueRange;
+use crate::sort_path::SortPath;
 use crate::template::Template;
 use crate::text_search::TextSearch;
 use jsonb::Document;
@@ -56,8 +57,8 @@ pub enum Operands<'a> {
     Value(Document<'a>),
     /// Names of members.
     Names(&'a [&'a str]),
-    /// Paths to the values that decide.
-    Keys(&'a [Path]),
+    /// Paths to the values that decide, each with its direction.
+    Keys(&'a [SortPath]),
     /// A path of keys and indexes alone, and a value for its end.
     Steps(&'a [Step<'a>], Document<'a>),
     /// Paths of keys and indexes alone.

@@ -6,6 +6,10 @@ use crate::path_help::PATH_HELP;
 use clap::{Arg, ArgAction, Command};
 use std::alloc::{AllocError, Global};
 
+// What is said of the paths to values that decide.
+const BY_HELP: &str = "A path to the value that decides, as '$.size', or '$.size desc' for the \
+    greatest first; with several the first one decides first";
+
 const AFTER_HELP: &str = "The status is 0 if some row gave a result, 1 if none did or a row is \
     wrong, 2 for wrong use, and 3 if a device or memory failed.";
 
@@ -75,9 +79,7 @@ fn option_of<'a>(alloc: Global, option: CommandOption) -> Arg<'a> {
                 "Write each item and member on a line of its own",
             )
         }
-        CommandOption::By => deciding_path(alloc)
-            .help("A path to the value that decides; with several the first one decides first")
-            .action(ArgAction::Append),
+        CommandOption::By => deciding_path(alloc).help(BY_HELP).action(ArgAction::Append),
         CommandOption::ByOne => deciding_path(alloc).help("A path to the value that decides"),
         CommandOption::Texts => deciding_path(alloc).help(
             "A path to the texts; all texts of the row if none",

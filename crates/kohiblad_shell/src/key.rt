@@ -1,14 +1,15 @@
 //! Comparable keys of rows.
 
-ghost use Rattle.std.specs.Prelude.{◌≡◌, IfErr, IfOk, option_map, ⊤};
-ghost use Rattle.kohiblad_shell.specs.Words.{AppendsKey, document_tree, key_laws, node_tree};
-ghost use Rattle.kohiblad_shell.specs.Words.{path_key, path_keys, row_key, tree_key};
+ghost use Rattle.std.specs.Prelude.{◌≡◌, IfErr, IfOk, OnOk, option_map, ⊤};
+ghost use Rattle.kohiblad_shell.specs.Words.{AppendsKey, KeysDecide, complemented, document_tree};
+ghost use Rattle.kohiblad_shell.specs.Words.{directed, key_laws, node_tree, path_key, path_keys};
+ghost use Rattle.kohiblad_shell.specs.Words.{row_key, tree_key};
 
 use crate::first::first_value;
+use crate::sort_path::{Direction, SortPath};
 use jsonb::{Document, Error, Node, SortKey};
 use jsonb_comparable::{Sink, append_key, append_key_to, append_node};
-use jsonb_path::Path;
-use std::alloc::Global;
+use std::alloc::{AllocError, Global};
 
 // A key that grows, as long as there is memory.
 #[derive(Drop)]
@@ -33,10 +34,16 @@ impl Sink for GrowingKey {
 
 /// The key of a row: the comparable keys of the first values to which the paths lead, one after
 /// another, or that of the row itself if there are no paths. For a path that leads nowhere the byte
-/// 0 stands, which is below the first byte of each comparable key. `OutOfMemory` is the only error.
-pub fn row_key(alloc: Global, document: Document<'_>, paths: &[Path]) -> Result<Vec<u8>, Error>
+/// 0 stands, which is below the first byte of each comparable key. Each byte of the key of a path
+/// that falls is subtracted from 255. `OutOfMemory` is the only error.
+///
+/// So keys compare as the values to which the first path leads, the other way round if it falls,
+/// then as those of the next one, and so on.
+#[tactic(auto, using(crate::proofs::KeyOrderLaws::keys_decide))]
+pub fn row_key(alloc: Global, document: Document<'_>, paths: &[SortPath]) -> Result<Vec<u8>, Error>
     ensures ok { IfOk result (λ key. key.items ≡ row_key paths.now (document_tree document.entry)) }
     ensures memory { IfErr result (λ e. e ≡ Error.OutOfMemory) }
+    ensures order { KeysDecide paths.now }
 {
     if paths.is_empty() {
         let mut key = Vec::new(alloc);
@@ -48,7 +55,7 @@ pub fn row_key(alloc: Global, document: Document<'_>, paths: &[Path]) -> Result<
 }
 
 // The keys of what the paths lead to, one after another.
-fn path_keys(alloc: Global, document: Document<'_>, paths: &[Path]) -> Result<Vec<u8>, Error>
+fn path_keys(alloc: Global, document: Document<'_>, paths: &[SortPath]) -> Result<Vec<u8>, Error>
     ensures ok { IfOk result
         (λ key. key.items ≡ path_keys paths.now (document_tree document.entry)) }
     ensures memory { IfErr result (λ e. e ≡ Error.OutOfMemory) }
@@ -58,13 +65,36 @@ fn path_keys(alloc: Global, document: Document<'_>, paths: &[Path]) -> Result<Ve
         is_whole: true,
     };
     for path in paths {
-        let value = first_value(alloc, document, path)?;
-        append_path_key(value, &mut key);
+        let value = first_value(alloc, document, &path.path)?;
+        append_directed_key(alloc, value, path.direction, &mut key)?;
     }
     if key.is_whole {
         Ok(key.bytes)
     } else {
         Err(Error::OutOfMemory)
+    }
+}
+
+// Appends the key of what a path leads to, as its direction asks.
+fn append_directed_key(
+    alloc: Global,
+    node: Option<Node<'_>>,
+    direction: Direction,
+    key: &mut GrowingKey,
+) -> Result<(), AllocError>
+    ensures { OnOk result (AppendsKey key.old key.new
+        (directed direction (path_key (option_map node_tree node.entry)))) }
+{
+    match direction {
+        Direction::Rising => {
+            append_path_key(node, key);
+            Ok(())
+        }
+        Direction::Falling => {
+            let falling = falling_key(alloc, node)?;
+            key.append(falling.as_slice());
+            Ok(())
+        }
     }
 }
 
@@ -76,6 +106,38 @@ fn append_path_key(node: Option<Node<'_>>, key: &mut GrowingKey)
         Some(node) => append_node_key(node, key),
         None => key.append(&[0]),
     }
+}
+
+// The key of what a path leads to, each byte subtracted from 255.
+fn falling_key(alloc: Global, node: Option<Node<'_>>) -> Result<Vec<u8>, AllocError>
+    ensures { IfOk result (λ key. key.items
+        ≡ complemented (path_key (option_map node_tree node.entry))) }
+{
+    let rising = rising_key(alloc, node)?;
+    complemented(alloc, rising.as_slice())
+}
+
+// The key of what a path leads to.
+fn rising_key(alloc: Global, node: Option<Node<'_>>) -> Result<Vec<u8>, AllocError>
+    ensures { IfOk result (λ key. key.items ≡ path_key (option_map node_tree node.entry)) }
+{
+    let mut key = GrowingKey {
+        bytes: Vec::new(alloc),
+        is_whole: true,
+    };
+    append_path_key(node, &mut key);
+    if key.is_whole {
+        Ok(key.bytes)
+    } else {
+        Err(AllocError)
+    }
+}
+
+// The bytes, each subtracted from 255.
+fn complemented(alloc: Global, bytes: &[u8]) -> Result<Vec<u8>, AllocError>
+    ensures { IfOk result (λ made. made.items ≡ complemented bytes.now) }
+{
+    bytes.iter().map(|byte| 255 - *byte).collect(alloc)
 }
 
 // Appends the key of a value, which may be that of a whole document.

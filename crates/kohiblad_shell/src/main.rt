@@ -39,6 +39,7 @@ mod show;
 mod size;
 mod sort;
 mod sort_command;
+mod sort_path;
 mod sorted_run;
 mod spill;
 mod status;
@@ -69,14 +70,15 @@ use merge_command::write_merged;
 use messages::{failure, misuse, notice_missed, refused_line};
 use operand_kind::OperandKind;
 use operands::{
-    deciding_path_in, document_of, path_in, pattern_in, push_column, push_path, push_steps,
-    steps_in, template_in,
+    deciding_path_in, document_of, path_in, pattern_in, push_column, push_path, push_sort_path,
+    push_steps, steps_in, template_in,
 };
 use operation::Job;
 use range::ValueRange;
 use removal::path_count;
 use row_commands::{check, count, write_faults, write_rows};
 use sort_command::write_in_order;
+use sort_path::split_direction;
 use status::{FOUND, halt_status};
 use std::alloc::AllocError;
 use std::env;
@@ -244,8 +246,13 @@ fn watched_texts<'a>(
                 texts.push(*text)?;
             }
         }
-        Command::Range | Command::Grep | Command::Sort => {
+        Command::Range | Command::Grep => {
             texts.extend_from_slice(arguments.get_strs("by").unwrap_or(&[]))?;
+        }
+        Command::Sort => {
+            for text in arguments.get_strs("by").unwrap_or(&[]) {
+                texts.push(split_direction(*text).0)?;
+            }
         }
         _ => {}
     }
@@ -293,12 +300,8 @@ fn with_paths(rt: &HostRuntime, row: &CommandRow, arguments: &ArgMatches<'_>) ->
     let mut paths = Vec::new(rt.alloc());
     if let Some(texts) = arguments.get_strs("by") {
         for text in texts {
-            let path = match path_in(rt, *text) {
-                Ok(path) => path,
-                Err(status) => return status,
-            };
-            if paths.push(path).is_err() {
-                return failure(rt, Halt::Memory);
+            if let Err(status) = push_sort_path(rt, &mut paths, *text) {
+                return status;
             }
         }
     }

@@ -10,6 +10,7 @@ use crate::messages::{failure, misuse, refused_path, refused_template};
 use crate::operand_kind::ValueKind;
 use crate::outcome::{LineFault, Unanswered};
 use crate::row::parse_line;
+use crate::sort_path::{SortPath, split_direction};
 use crate::template::Template;
 use crate::template_text::template_of_text;
 use clap::ArgMatches;
@@ -141,6 +142,17 @@ pub fn steps_in<'a>(rt: &HostRuntime, path: &'a Path) -> Result<Vec<Step<'a>>, u
 pub fn push_path(rt: &HostRuntime, paths: &mut Vec<Path>, text: &str) -> Result<(), u8> {
     let path = path_in(rt, text)?;
     match paths.push(path) {
+        Ok(()) => Ok(()),
+        Err(_) => Err(failure(rt, Halt::Memory)),
+    }
+}
+
+/// Adds a path, after which the word for its direction may stand, or returns the status after its
+/// fault is reported.
+pub fn push_sort_path(rt: &HostRuntime, paths: &mut Vec<SortPath>, text: &str) -> Result<(), u8> {
+    let (text, direction) = split_direction(text);
+    let path = path_in(rt, text)?;
+    match paths.push(SortPath { path, direction }) {
         Ok(()) => Ok(()),
         Err(_) => Err(failure(rt, Halt::Memory)),
     }

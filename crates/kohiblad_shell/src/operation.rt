@@ -23,6 +23,7 @@ use crate::range::{ValueRange, is_in_range};
 use crate::removal::removed_row;
 use crate::row::{check_document, parse_line};
 use crate::show::shown_lines;
+use crate::sort_path::SortPath;
 use crate::template::{Template, built_row};
 use crate::text_search::{TextSearch, is_searched};
 use crate::watch::Watch;
@@ -87,9 +88,9 @@ pub enum Operation<'a> {
     /// Writes the text of the document.
     Decode(TextLayout),
     /// Writes the key of the row by these paths in hexadecimal.
-    Key(&'a [Path]),
+    Key(&'a [SortPath]),
     /// Keeps the key of the row by these paths and the row as it stands, each after its length.
-    Sort(&'a [Path]),
+    Sort(&'a [SortPath]),
     /// Writes the values at paths as a line of CSV. A row of which one is not of its type is wrong.
     Extract(&'a [TypedPath]),
     /// Writes the value that a template makes of the row, as a compact text or as its canonical
@@ -272,7 +273,7 @@ fn framed_row(alloc: Global, form: Form, row: &[u8]) -> Result<Vec<u8>, Error>
 }
 
 // The key of a row by these paths in hexadecimal, with a line feed.
-fn key_line(alloc: Global, document: Document<'_>, paths: &[Path]) -> Result<Vec<u8>, Error>
+fn key_line(alloc: Global, document: Document<'_>, paths: &[SortPath]) -> Result<Vec<u8>, Error>
     ensures ok { IfOk result (λ line. line.items
         ≡ encode_lower (row_key paths.now (document_tree document.entry)) ++ 10 ∷ []) }
     ensures memory { IfErr result (λ e. e ≡ Error.OutOfMemory) }
@@ -286,7 +287,7 @@ fn keyed_row(
     alloc: Global,
     form: Form,
     document: Document<'_>,
-    paths: &[Path],
+    paths: &[SortPath],
     row: &[u8],
 ) -> Result<Vec<u8>, Error>
     ensures ok { IfOk result (λ keyed. keyed.items ≡ key_and_line

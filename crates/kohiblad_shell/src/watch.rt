@@ -116,7 +116,7 @@ fn path_at<'a>(operation: Operation<'a>, index: usize) -> Option<&'a Path> {
         Operation::Get(path, _) | Operation::Select(path, _) => Some(path),
         Operation::Range(range) => Some(range.path),
         Operation::Grep(search) => Some(search.path),
-        Operation::Sort(paths) => paths.get(index),
+        Operation::Sort(paths) => paths.get(index).map(|path| &path.path),
         Operation::Extract(columns) => columns.get(index).map(|column| &column.path),
         _ => None,
     }
