@@ -7,6 +7,7 @@ pub mod KeyLaws
 pub mod KeyOrderLaws
 pub mod RemovalLaws
 pub mod DatedLaws
+mod IsoLaws
 pub mod ExtractLaws
 pub mod TemplateLaws
 pub mod ArgumentLaws

@@ -1,6 +1,7 @@
 -- Lines of CSV with the values at paths, each as a value of a type.
-use Rattle.std.specs.Prelude.{◌≡◌, ◌==◌, ◌||◌, ◌+◌, ℕ, Bool, List, [], ◌∷◌, ◌++◌, Any, Option}
-use Rattle.std.specs.Prelude.{None, Some, Result, Ok, Err, cond, decimal, flat_map, length, true}
+use Rattle.std.specs.Prelude.{◌≡◌, ◌==◌, ◌||◌, ◌+◌, ◌⊎◌, ℕ, Bool, List, [], ◌∷◌, ◌++◌, Any}
+use Rattle.std.specs.Prelude.{Option, None, Some, Result, Ok, Err, cond, decimal, false, flat_map}
+use Rattle.std.specs.Prelude.{length, true}
 use Rattle.std.specs.Borrow.{Bor}
 use Rattle.std.specs.Fmt.{signed_decimal}
 use Rattle.std.specs.List.{AllZip, join_with_byte, list_any}
@@ -25,6 +26,7 @@ use Rattle.kohiblad_shell.specs.declared.outcome.LineFault.{LineFault}
 use Rattle.kohiblad_shell.specs.declared.outcome.Unanswered.{Unanswered}
 use Rattle.kohiblad_shell.specs.declared.outcome.Unanswered.TheVariants.{Wrong}
 use Rattle.kohiblad_shell.specs.Faults.{plain_fault}
+use Rattle.kohiblad_shell.specs.IsoForms.{IsDayText, IsWallText, IsZonedText}
 use Rattle.kohiblad_shell.specs.IsoTexts.{SaysDate, SaysTimestamp, SaysZoned}
 use Rattle.kohiblad_shell.specs.Outcomes.{Outcome}
 use Rattle.kohiblad_shell.specs.Removals.{begins_path}
@@ -64,49 +66,73 @@ abbrev pub IsFieldBy : {V : Type 0} → (V → Tree → Type 0) → (V → List 
 IsFieldBy {V = V} Stands text t None = (v : V) → Stands v t → ⊥
 IsFieldBy {V = V} Stands text t (Some field) = (v : V) × (Stands v t × (field ≡ text v))
 
--- The field is the text of a value that a text says; there is none if it says no value.
-abbrev pub IsSaidField : {V : Type 0} → (V → List ℕ → Type 0) → (V → List ℕ) → List ℕ
+-- The field shows a value that holds; there is none if no value does.
+abbrev pub IsShownField : {V : Type 0} → (V → Type 0) → (V → List ℕ → Type 0)
     → Option (List ℕ) → Type 0
-IsSaidField {V = V} Says text s None = (v : V) → Says v s → ⊥
-IsSaidField {V = V} Says text s (Some field) = (v : V) × (Says v s × (field ≡ text v))
+IsShownField {V = V} Holds Shows None = (v : V) → Holds v → ⊥
+IsShownField {V = V} Holds Shows (Some field) = (v : V) × (Holds v × Shows v field)
 
--- The field of a value that stands for the tree, or if dates are read of one that its text says.
+-- The field shows a value that stands for the tree, or if this is a text the value that it says.
+abbrev pub IsIsoField : {V : Type 0} → (V → Tree → Type 0) → (V → List ℕ → Type 0)
+    → (V → List ℕ → Type 0) → Tree → Option (List ℕ) → Type 0
+IsIsoField {V = V} Stands Says Shows (trees.text s) field =
+    IsShownField {V = V} (λ v. Says v s) Shows field
+IsIsoField {V = V} Stands Says Shows t field = IsShownField {V = V} (λ v. Stands v t) Shows field
+
+-- The same if texts say dates, and else the text of a value that stands for the tree.
 abbrev pub IsDatedField : {V : Type 0} → Bool → (V → Tree → Type 0) → (V → List ℕ → Type 0)
-    → (V → List ℕ) → Tree → Option (List ℕ) → Type 0
-IsDatedField {V = V} true Stands Says text (trees.text s) field =
-    IsSaidField {V = V} Says text s field
-IsDatedField {V = V} reads_dates Stands Says text t field = IsFieldBy {V = V} Stands text t field
+    → (V → List ℕ → Type 0) → (V → List ℕ) → Tree → Option (List ℕ) → Type 0
+IsDatedField {V = V} true Stands Says Shows text t field =
+    IsIsoField {V = V} Stands Says Shows t field
+IsDatedField {V = V} false Stands Says Shows text t field =
+    IsFieldBy {V = V} Stands text t field
+
+-- The field is the text of a value if it has one, and else its number.
+abbrev pub IsTextOr : (Option (List ℕ) → Type 0) → List ℕ → List ℕ → Type 0
+IsTextOr Is number field = Is (Some field) ⊎ (Is None × (field ≡ number))
+
+-- The field shows a date: by the text that says it, or by its number.
+abbrev pub ShowsDate : Date → List ℕ → Type 0
+ShowsDate d field = IsTextOr (IsDayText d.value) (value_text scalars.Date d) field
+
+-- The same of a timestamp without a zone.
+abbrev pub ShowsTimestamp : Timestamp → List ℕ → Type 0
+ShowsTimestamp t field = IsTextOr (IsWallText t.value) (value_text scalars.Timestamp t) field
+
+-- The same of a timestamp with a zone.
+abbrev pub ShowsZoned : TimestampTz → List ℕ → Type 0
+ShowsZoned t field = IsTextOr (IsZonedText t) (value_text scalars.ZonedTimestamp t) field
 
 -- The same for a type, in whose columns numbers stand by their values.
 abbrev pub IsScalarField : Bool → ScalarType → Tree → Option (List ℕ) → Type 0
-IsScalarField reads_dates scalars.Date t field =
-    IsDatedField {V = Date} reads_dates (Stands ByValue scalars.Date) SaysDate
-    (value_text scalars.Date) t field
-IsScalarField reads_dates scalars.Timestamp t field =
-    IsDatedField {V = Timestamp} reads_dates (Stands ByValue scalars.Timestamp) SaysTimestamp
-    (value_text scalars.Timestamp) t field
-IsScalarField reads_dates scalars.ZonedTimestamp t field =
-    IsDatedField {V = TimestampTz} reads_dates (Stands ByValue scalars.ZonedTimestamp) SaysZoned
-    (value_text scalars.ZonedTimestamp) t field
-IsScalarField reads_dates type t field =
+IsScalarField has_iso_dates scalars.Date t field =
+    IsDatedField {V = Date} has_iso_dates (Stands ByValue scalars.Date) SaysDate
+    ShowsDate (value_text scalars.Date) t field
+IsScalarField has_iso_dates scalars.Timestamp t field =
+    IsDatedField {V = Timestamp} has_iso_dates (Stands ByValue scalars.Timestamp) SaysTimestamp
+    ShowsTimestamp (value_text scalars.Timestamp) t field
+IsScalarField has_iso_dates scalars.ZonedTimestamp t field =
+    IsDatedField {V = TimestampTz} has_iso_dates (Stands ByValue scalars.ZonedTimestamp) SaysZoned
+    ShowsZoned (value_text scalars.ZonedTimestamp) t field
+IsScalarField has_iso_dates type t field =
     IsFieldBy {V = ScalarOf type} (Stands ByValue type) (value_text type) t field
 
 -- The same for the type of a column. Of the first type nothing is a value. Each tree is of mixed
 -- type, and its field is its compact text.
 abbrev pub IsFieldOf : Bool → LeastType → Tree → Option (List ℕ) → Type 0
-IsFieldOf reads_dates types.Nothing t field = field ≡ None
-IsFieldOf reads_dates (types.Of type) t field = IsScalarField reads_dates type t field
-IsFieldOf reads_dates types.Mixed t field = field ≡ Some (csv_text (compact t))
+IsFieldOf has_iso_dates types.Nothing t field = field ≡ None
+IsFieldOf has_iso_dates (types.Of type) t field = IsScalarField has_iso_dates type t field
+IsFieldOf has_iso_dates types.Mixed t field = field ≡ Some (csv_text (compact t))
 
 -- The same of what a path leads to: the field is empty if that is nothing, or null.
 abbrev pub IsField : Bool → LeastType → Option Tree → Option (List ℕ) → Type 0
-IsField reads_dates type None field = field ≡ Some []
-IsField reads_dates type (Some trees.null) field = field ≡ Some []
-IsField reads_dates type (Some t) field = IsFieldOf reads_dates type t field
+IsField has_iso_dates type None field = field ≡ Some []
+IsField has_iso_dates type (Some trees.null) field = field ≡ Some []
+IsField has_iso_dates type (Some t) field = IsFieldOf has_iso_dates type t field
 
 -- The same of the first value to which the path leads in a row.
 abbrev pub IsFieldAt : Tree → TypedPath → Option (List ℕ) → Type 0
-IsFieldAt t column field = IsField column.reads_dates column.value_type
+IsFieldAt t column field = IsField column.has_iso_dates column.value_type
     (first_asked column.path t) field
 
 -- The line of a row has a field for each column, with commas between them and a line feed at the

@@ -19,6 +19,7 @@ pub mod Rows
 pub mod Removals
 pub mod Ranges
 pub mod IsoTexts
+pub mod IsoForms
 pub mod Extracts
 pub mod Made
 pub mod Templates

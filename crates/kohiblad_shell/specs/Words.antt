@@ -51,7 +51,11 @@ pub use Rattle.kohiblad_shell.specs.Extracts.{IsCsvLine, IsField, IsFieldAt, IsF
 pub use Rattle.kohiblad_shell.specs.Extracts.{IsFieldOf, IsScalarField, IsTypedLine}
 pub use Rattle.kohiblad_shell.specs.Extracts.{column_words, csv_text}
 pub use Rattle.kohiblad_shell.specs.Extracts.{doubled, ends_field, is_quoted, value_text}
-pub use Rattle.kohiblad_shell.specs.Extracts.{IsDatedField, IsSaidField}
+pub use Rattle.kohiblad_shell.specs.Extracts.{IsDatedField, IsShownField}
+pub use Rattle.kohiblad_shell.specs.Extracts.{ShowsDate, ShowsTimestamp, ShowsZoned}
+pub use Rattle.kohiblad_shell.specs.IsoForms.{IsBeyondClock, IsBeyondYears, IsDayText}
+pub use Rattle.kohiblad_shell.specs.IsoForms.{IsPlainOffset, IsPlainTime, IsWallText}
+pub use Rattle.kohiblad_shell.specs.IsoForms.{IsZonedText, ends_in_zero, is_minute_offset}
 pub use Rattle.kohiblad_shell.specs.IsoTexts.{SaysDate, SaysTimestamp, SaysZoned, begins_time}
 pub use Rattle.kohiblad_shell.specs.IsoTexts.{calendar_day, clock_second, digit_or_zero}
 pub use Rattle.kohiblad_shell.specs.IsoTexts.{digit_pair, digits_millionths, is_utc, iso_day}

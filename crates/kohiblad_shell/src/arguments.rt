@@ -39,8 +39,8 @@ pub fn value_in<'a>(arguments: &ArgMatches<'a>) -> &'a str
     }
 }
 
-/// Whether texts are read as dates and timestamps.
-pub fn reads_dates_in(arguments: &ArgMatches<'_>) -> bool
+/// Whether texts are read as dates and timestamps, and these written as texts.
+pub fn has_iso_dates_in(arguments: &ArgMatches<'_>) -> bool
     ensures { IsFlag arguments.now (codes "iso-dates") result }
 {
     has_flag(arguments, "iso-dates")

@@ -64,8 +64,7 @@ fn option_of<'a>(alloc: Global, option: CommandOption) -> Arg<'a> {
             flag(alloc, "raw", "Write strings without quotes and escapes").short('r')
         }
         CommandOption::IsoDates => {
-            let help =
-                "Read texts of RFC 3339 as dates and timestamps where a type of these is named";
+            let help = "Read and write dates and timestamps as texts of RFC 3339, not as numbers";
             flag(alloc, "iso-dates", help)
         }
         CommandOption::Text => {

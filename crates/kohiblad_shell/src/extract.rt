@@ -24,13 +24,13 @@ use jsonb_typed::{
 };
 use std::alloc::Global;
 
-/// A path, the type of the values to which it leads, and whether texts are read as dates and
-/// timestamps.
+/// A path, the type of the values to which it leads, and whether dates and timestamps are read and
+/// written as texts.
 #[derive(Drop)]
 pub struct TypedPath {
     pub path: Path,
     pub value_type: LeastType,
-    pub reads_dates: bool,
+    pub has_iso_dates: bool,
 }
 
 /// The line of CSV, as RFC 4180 lays it out but with a line feed alone at its end, of the first
@@ -83,7 +83,7 @@ fn field_in(
     ensures memory { IfErr result (λ e. e ≡ Error.OutOfMemory) }
 {
     let value = first_value(alloc, document, &column.path)?;
-    field_of(alloc, value, column.value_type, column.reads_dates)
+    field_of(alloc, value, column.value_type, column.has_iso_dates)
 }
 
 // The field of a value in a column of a type; empty if there is none, or it is null. `None` if it
@@ -92,10 +92,10 @@ fn field_of(
     alloc: Global,
     value: Option<Node<'_>>,
     value_type: LeastType,
-    reads_dates: bool,
+    has_iso_dates: bool,
 ) -> Result<Option<Vec<u8>>, Error>
-    ensures ok { IfOk result (λ field. IsField reads_dates value_type (option_map node_tree value.entry)
-        (option_map (λ field. field.items) field)) }
+    ensures ok { IfOk result (λ field. IsField has_iso_dates value_type
+        (option_map node_tree value.entry) (option_map (λ field. field.items) field)) }
     ensures memory { IfErr result (λ e. e ≡ Error.OutOfMemory) }
 {
     let Some(value) = value else {
@@ -103,7 +103,7 @@ fn field_of(
     };
     match opened(value) {
         Node::Null => Ok(Some(Vec::new(alloc))),
-        other => field_of_known(alloc, other, value_type, reads_dates),
+        other => field_of_known(alloc, other, value_type, has_iso_dates),
     }
 }
 
@@ -112,16 +112,16 @@ fn field_of_known(
     alloc: Global,
     value: Node<'_>,
     value_type: LeastType,
-    reads_dates: bool,
+    has_iso_dates: bool,
 ) -> Result<Option<Vec<u8>>, Error>
     requires { HoldsNoScalar value }
-    ensures ok { IfOk result (λ field. IsFieldOf reads_dates value_type (node_tree value.entry)
+    ensures ok { IfOk result (λ field. IsFieldOf has_iso_dates value_type (node_tree value.entry)
         (option_map (λ field. field.items) field)) }
     ensures memory { IfErr result (λ e. e ≡ Error.OutOfMemory) }
 {
     match value_type {
         LeastType::Nothing => Ok(None),
-        LeastType::Of(of) => field_of_scalar(alloc, value, of, reads_dates),
+        LeastType::Of(of) => field_of_scalar(alloc, value, of, has_iso_dates),
         LeastType::Mixed => Ok(Some(csv_text(alloc, &value.to_string(alloc)?)?)),
     }
 }
@@ -131,10 +131,10 @@ fn field_of_scalar(
     alloc: Global,
     value: Node<'_>,
     of: ScalarType,
-    reads_dates: bool,
+    has_iso_dates: bool,
 ) -> Result<Option<Vec<u8>>, Error>
     requires { HoldsNoScalar value }
-    ensures ok { IfOk result (λ field. IsScalarField reads_dates of (node_tree value.entry)
+    ensures ok { IfOk result (λ field. IsScalarField has_iso_dates of (node_tree value.entry)
         (option_map (λ field. field.items) field)) }
     ensures memory { IfErr result (λ e. e ≡ Error.OutOfMemory) }
 {
@@ -145,9 +145,9 @@ fn field_of_scalar(
         ScalarType::UInt64 => field_by(alloc, value, &UInt64 { fit }),
         ScalarType::Decimal(scale) => field_by(alloc, value, &Decimal { scale, fit }),
         ScalarType::Text => field_of_text(alloc, value),
-        ScalarType::Date => dated_field(alloc, value, &Dates, reads_dates),
-        ScalarType::Timestamp => dated_field(alloc, value, &Timestamps, reads_dates),
-        ScalarType::ZonedTimestamp => dated_field(alloc, value, &ZonedTimestamps, reads_dates),
+        ScalarType::Date => dated_field(alloc, value, &Dates, has_iso_dates),
+        ScalarType::Timestamp => dated_field(alloc, value, &Timestamps, has_iso_dates),
+        ScalarType::ZonedTimestamp => dated_field(alloc, value, &ZonedTimestamps, has_iso_dates),
         ScalarType::Interval => field_by(alloc, value, &Intervals),
         ScalarType::Binary => field_of_binary(alloc, value),
     }

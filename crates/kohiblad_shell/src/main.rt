@@ -14,6 +14,7 @@ mod first;
 mod halt;
 mod input;
 mod iso;
+mod iso_text;
 mod key;
 mod kind;
 mod mark;
@@ -54,8 +55,8 @@ mod watch;
 mod write;
 
 use arguments::{
-    form_in, is_inverted_in, is_quiet_in, layout_in, look_in, operand_in, pattern_flags_in,
-    reads_dates_in, style_in, value_in, value_kind_in, words_in,
+    form_in, has_iso_dates_in, is_inverted_in, is_quiet_in, layout_in, look_in, operand_in,
+    pattern_flags_in, style_in, value_in, value_kind_in, words_in,
 };
 use clap::ArgMatches;
 use command::{Command, Operands, operation_of};
@@ -363,16 +364,16 @@ fn with_removals(rt: &HostRuntime, row: &CommandRow, arguments: &ArgMatches<'_>)
 // Runs the command whose operands are paths, each with a type, which come before the files.
 fn with_columns(rt: &HostRuntime, row: &CommandRow, arguments: &ArgMatches<'_>) -> u8 {
     let mut columns = Vec::new(rt.alloc());
-    let reads_dates = reads_dates_in(arguments);
+    let has_iso_dates = has_iso_dates_in(arguments);
     let (path, type_name) = (operand_in(arguments), value_in(arguments));
-    if let Err(status) = push_column(rt, &mut columns, path, type_name, reads_dates) {
+    if let Err(status) = push_column(rt, &mut columns, path, type_name, has_iso_dates) {
         return status;
     }
     let words = words_in(arguments).unwrap_or(&[]);
     let (typed, files) = words.split_at(column_words(words));
     let mut left = typed;
     while let [path, type_name, rest @ ..] = left {
-        if let Err(status) = push_column(rt, &mut columns, *path, *type_name, reads_dates) {
+        if let Err(status) = push_column(rt, &mut columns, *path, *type_name, has_iso_dates) {
             return status;
         }
         left = rest;

@@ -194,14 +194,14 @@ pub fn push_column(
     columns: &mut Vec<TypedPath>,
     path: &str,
     type_name: &str,
-    reads_dates: bool,
+    has_iso_dates: bool,
 ) -> Result<(), u8> {
     let path = path_in(rt, path)?;
     let value_type = type_in(rt, type_name)?;
     let column = TypedPath {
         path,
         value_type,
-        reads_dates,
+        has_iso_dates,
     };
     match columns.push(column) {
         Ok(()) => Ok(()),
