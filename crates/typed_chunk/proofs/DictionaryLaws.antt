@@ -105,7 +105,7 @@ bytes_of entries codes all count width many are is =
     ++ packed (least_width (n - 1)) codes)) (sym many)
 
 -- Places that are all right are below the number of entries, and fit its width.
-places_below : (entries : List (List ℕ)) (places : List ℕ) (has : List Bool)
+pub places_below : (entries : List (List ℕ)) (places : List ℕ) (has : List Bool)
     → places_fault entries places has ≡ None → All (λ place. place < length entries) places
 places_below entries places has none =
     let inside = list_all (λ place. nat_lt place (length entries)) places in

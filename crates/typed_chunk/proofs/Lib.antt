@@ -24,3 +24,4 @@ pub mod GatherLaws
 pub mod ValueLaws
 pub mod SizeLaws
 pub mod NumberReadLaws
+pub mod TextChunkLaws

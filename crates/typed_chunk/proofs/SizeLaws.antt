@@ -43,6 +43,20 @@ frame_bytes values least codes width size low are is long =
     let all = headed_long head codes width size is long in
     omega (arith, all, eight, ap (λ (cs : List ℕ). length (headed head cs)) same)
 
+-- A frame of numbers that are not negative.
+pub naturals_bytes : (numbers : List ℕ) (least : ℕ) (lowered : List ℕ) (width size : ℕ)
+    → least ≡ least_number numbers → lowered ≡ map (λ number. number - least) numbers
+    → width ≡ width_of lowered → size ≡ packed_len width (length lowered)
+    → 5 + size ≡ length (frame (unsigned_word 4) (map pos numbers))
+naturals_bytes numbers least lowered width size low lower is long =
+    let head = unsigned_word 4 (pos least) in
+    let bottom : pos least ≡ least_value (map pos numbers) =
+    ap (λ (n : ℕ). pos n) low ∙ least_pos numbers in
+    let whole : headed head lowered ≡ frame (unsigned_word 4) (map pos numbers) =
+    ap (headed head) lower ∙ frame_pos 4 least numbers bottom in
+    let four : length head ≡ 4 = length-bytes_high_first 4 (unsigned_abs (pos least)) in
+    omega (arith, headed_long head lowered width size is long, four, ap length whole)
+
 -- Rising values.
 pub rising_bytes : (values : List ℤ) (least : ℕ) (steps lowered : List ℕ) (width size : ℕ)
     → 0 < length values → steps ≡ steps_of values → least ≡ least_number steps

@@ -4,6 +4,7 @@ use Rattle.typed_chunk.specs.Dictionary.{dictionary_bytes}
 use Rattle.typed_chunk.specs.Headed.{headed}
 use Rattle.typed_chunk.specs.NumberChunk.{number_chunk}
 use Rattle.typed_chunk.specs.Packed.{least_width, packed}
+use Rattle.typed_chunk.specs.TextChunk.{text_chunk}
 use Rattle.typed_chunk.specs.Texts.{text_bytes}
 
 -- Codes of one width, the lowest bits first; bits past the last code are 0.
@@ -49,3 +50,16 @@ pub record NumberChunkExamples : Type 0 where
       (true ∷ true ∷ false ∷ true ∷ true ∷ [])
       ≡ 2 ∷ 0x1b ∷ 0 ∷ 8 ∷ 0 ∷ 0 ∷ 0 ∷ 0 ∷ 0 ∷ 0 ∷ 0 ∷ 5 ∷ 0 ∷ 2 ∷ 0 ∷ 0xc3 ∷ 1 ∷ []
   pub of_none : number_chunk (pos 5 ∷ pos 7 ∷ []) (false ∷ false ∷ []) ≡ 0 ∷ []
+
+-- Chunks of texts: as they are, beside a row that has none; as a dictionary, which is shorter; as
+-- they are where both are as short; and of rows of which none has one.
+pub record TextChunkExamples : Type 0 where
+  pub beside_none : text_chunk ((1 ∷ 2 ∷ []) ∷ [] ∷ (1 ∷ 3 ∷ []) ∷ []) (true ∷ false ∷ true ∷ [])
+      ≡ 2 ∷ 5 ∷ 0 ∷ 1 ∷ 1 ∷ 1 ∷ 0 ∷ 0 ∷ 0 ∷ 0 ∷ 5 ∷ 2 ∷ 3 ∷ []
+  pub of_two : text_chunk ((1 ∷ 1 ∷ 1 ∷ []) ∷ (2 ∷ 2 ∷ 2 ∷ []) ∷ (1 ∷ 1 ∷ 1 ∷ []) ∷ [])
+      (true ∷ true ∷ true ∷ [])
+      ≡ 1 ∷ 2 ∷ 1 ∷ 0 ∷ 0 ∷ 0 ∷ 0 ∷ 0 ∷ 3 ∷ 1 ∷ 1 ∷ 1 ∷ 2 ∷ 2 ∷ 2 ∷ 2 ∷ []
+  pub as_short : text_chunk ((1 ∷ 1 ∷ []) ∷ (2 ∷ 2 ∷ []) ∷ (1 ∷ 1 ∷ []) ∷ [])
+      (true ∷ true ∷ true ∷ [])
+      ≡ 1 ∷ 0 ∷ 0 ∷ 0 ∷ 0 ∷ 0 ∷ 0 ∷ 2 ∷ 1 ∷ 1 ∷ 2 ∷ 2 ∷ 1 ∷ 1 ∷ []
+  pub of_none : text_chunk ([] ∷ [] ∷ []) (false ∷ false ∷ []) ≡ 0 ∷ []

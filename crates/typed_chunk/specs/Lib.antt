@@ -10,5 +10,6 @@ pub mod NumberReading
 pub mod Packed
 pub mod Places
 pub mod Rising
+pub mod TextChunk
 pub mod TextReading
 pub mod Texts

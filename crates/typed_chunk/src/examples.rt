@@ -1,8 +1,8 @@
 //! Examples of the definitions, which the prover checks.
 
 ghost use Rattle.typed_chunk.specs.Examples.{DictionaryExamples, HeadedExamples};
-ghost use Rattle.typed_chunk.specs.Examples.{NumberChunkExamples, PackedExamples, TextExamples};
-ghost use Rattle.typed_chunk.specs.Examples.{WidthExamples};
+ghost use Rattle.typed_chunk.specs.Examples.{NumberChunkExamples, PackedExamples};
+ghost use Rattle.typed_chunk.specs.Examples.{TextChunkExamples, TextExamples, WidthExamples};
 
 // Examples of what the definitions say.
 #[tactic(auto, unfolding(crate::specs::Packed::least_width))]
@@ -13,4 +13,5 @@ fn examples()
     ensures texts { TextExamples }
     ensures dictionary { DictionaryExamples }
     ensures numbers { NumberChunkExamples }
+    ensures text_chunks { TextChunkExamples }
 {}

@@ -23,6 +23,8 @@ mod rising;
 mod spans;
 #[cfg(test)]
 mod tests;
+mod text_chunk;
+mod text_kinds;
 mod text_reading;
 mod texts;
 mod unpacked;
@@ -39,6 +41,7 @@ pub use number_chunk::append_number_chunk;
 pub use number_reading::read_number_chunk;
 pub use packed::{append_codes, packed_len};
 pub use rising::{append_rising, read_rising, rises};
+pub use text_chunk::append_text_chunk;
 pub use text_reading::{BegunTexts, read_texts};
 pub use texts::append_texts;
 pub use unpacked::{code_at, read_codes};

@@ -1,8 +1,8 @@
 //! Tests of bytes that a model of the form in another language wrote.
 
 use crate::{
-    ChunkFault, append_dictionary, append_number_chunk, append_texts, append_whole_texts,
-    find_dictionary, read_dictionary, read_number_chunk, read_texts,
+    ChunkFault, append_dictionary, append_number_chunk, append_text_chunk, append_texts,
+    append_whole_texts, find_dictionary, read_dictionary, read_number_chunk, read_texts,
 };
 use std::alloc::{AllocError, Global};
 use std::test::Fail;
@@ -151,4 +151,43 @@ fn chunks_of_numbers_are_read(rt: HostRuntime) {
         read_number_chunk(PACKED, &mut [0; 10], &mut has, &mut values),
         Err(ChunkFault::NotShortestKind)
     );
+}
+
+// The chunk of texts of which a dictionary takes fewer bytes.
+const CODED: &[u8] = b"\x02\x7b\x02\x02\x00\x01\x00\x00\x00\x04\x06lundmalmoystad\x81\x04";
+
+#[test]
+fn chunks_of_texts(rt: HostRuntime) -> Result<(), Fail> {
+    let alloc = rt.alloc();
+    let mut plain = Vec::new(alloc);
+    append_text_chunk(alloc, &mut plain, TEXTS, &OFFSETS, &HAS, &mut [0; 4])?;
+    let bytes = b"\x02\x0d\x00\x05town-\x02\x00\x00\x00\x00\x31abcd".as_slice();
+    assert_eq!(rt; plain.as_slice(), bytes);
+    let mut coded = Vec::new(alloc);
+    append_text_chunk(
+        alloc,
+        &mut coded,
+        ROWS,
+        &ROW_OFFSETS,
+        &ROWS_HAVE,
+        &mut [0; 7],
+    )?;
+    assert_eq!(rt; coded.as_slice(), CODED);
+    let mut first = Vec::new(alloc);
+    append_text_chunk(
+        alloc,
+        &mut first,
+        b"aabbaa",
+        &[0, 2, 4, 6],
+        &[true; 3],
+        &mut [0; 3],
+    )?;
+    assert_eq!(rt;
+        first.as_slice(),
+        b"\x01\x00\x00\x00\x00\x00\x00\x02aabbaa".as_slice()
+    );
+    let mut none = Vec::new(alloc);
+    append_text_chunk(alloc, &mut none, &[], &[0, 0, 0], &[false; 2], &mut [0; 2])?;
+    assert_eq!(rt; none.as_slice(), b"\0".as_slice());
+    Ok(())
 }
