@@ -1,7 +1,7 @@
 -- The laws of the choice between the kinds of a chunk of texts.
 use Rattle.std.proofs.Common.{◌≡◌, ℕ, zero, suc, ◌+◌, ◌-◌, ◌<◌, ◌≤◌, Bool, true, false, List, []}
-use Rattle.std.proofs.Common.{◌∷◌, ◌++◌, length, get_or, map, pos, sum, replicate, refl, sym, ap, ap₂}
-use Rattle.std.proofs.Common.{◌∙◌, All, arith, inl, inr, length-append, subst, ◌^◌}
+use Rattle.std.proofs.Common.{◌∷◌, ◌++◌, length, get_or, map, pos, sum, replicate, refl, sym, ap}
+use Rattle.std.proofs.Common.{◌∙◌, All, ap₂, arith, inl, inr, length-append, subst, ◌^◌}
 use Rattle.std.specs.List.{concat}
 use Rattle.std.specs.Ordering.{is_eq}
 use Rattle.std.specs.declared.cmp.Ordering.{Ordering}
@@ -136,7 +136,8 @@ texts_long texts has start lengths is are =
     let bytes = frame (unsigned_word 4) (map pos (map length ts)) in
     let same : text_bytes texts has ≡ length start ∷ (start ++ (bytes ++ concat ts)) =
     ap (λ (s : List ℕ). length s ∷ (s ++ (frame (unsigned_word 4)
-    (map pos (map length (tails (length s) texts))) ++ concat (tails (length s) texts)))) (sym is) in
+    (map pos (map length (tails (length s) texts)))
+    ++ concat (tails (length s) texts)))) (sym is) in
     omega (
       arith,
       ap length same,
