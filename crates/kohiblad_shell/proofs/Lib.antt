@@ -1,5 +1,6 @@
 pub mod InputLaws
 pub mod RunLaws
+pub mod PassedLaws
 pub mod ValueLaws
 pub mod EscapeLaws
 pub mod SortLaws

@@ -1,16 +1,16 @@
 -- Rows that are merged, one after another.
 use Rattle.std.proofs.Common.{◌≡◌, ◌⊎◌, inl, inr, ℕ, zero, suc, ◌+◌, ◌<◌, Bool, true, false, cond}
-use Rattle.std.proofs.Common.{List, [], ◌∷◌, ◌++◌, length, map, take, set, get_or, refl, sym, ap}
+use Rattle.std.proofs.Common.{List, [], ◌∷◌, ◌++◌, length, take, set, get_or, refl, sym, ap}
 use Rattle.std.proofs.Common.{ap₂, ◌∙◌, subst, append_assoc, append-nil, Option, None, Some, IfSome}
 use Rattle.std.proofs.Common.{flat_map, fold, option_to_list, Ordering, Less, Equal, Greater, is_ge}
 use Rattle.std.proofs.Common.{is_gt, is_le, is_lt, nat_cmp, IsPermutation, IsSorted, Vec, Global}
-use Rattle.std.proofs.Common.{arith, below_more, length-append}
+use Rattle.std.proofs.Common.{◌-◌, Ok, arith, below_more, length-append}
 use Rattle.std.proofs.Math.ListN.{get_or-append}
 use Rattle.std.proofs.Math.Seq.{get_or-append_seam}
 use Rattle.std.proofs.lemmas.Bool.Decides.{nat_tests}
 use Rattle.std.proofs.lemmas.Cmp.{nat_cmp_total, nat_list_cmp_total, on_total, then_total}
 use Rattle.std.proofs.lemmas.Cmp.{tied_itself, upto}
-use Rattle.std.proofs.lemmas.List.{map-append, take_more}
+use Rattle.std.proofs.lemmas.List.{replicate_more, take_more}
 use Rattle.std.proofs.lemmas.List.Sorted.{IsPermutation-append_left, IsPermutation-append_right}
 use Rattle.std.proofs.lemmas.List.Sorted.{IsPermutation-sym, IsPermutation-to_front}
 use Rattle.std.proofs.lemmas.List.Sorted.{IsPermutation-trans}
@@ -22,12 +22,15 @@ use Rattle.answer_lines.proofs.Output.{Known}
 use Rattle.kohiblad_shell.specs.declared.input.Form.{Form}
 use Rattle.kohiblad_shell.specs.declared.merge.Head.{Head}
 use Rattle.kohiblad_shell.specs.declared.outcome.LineFault.{LineFault}
+use Rattle.kohiblad_shell.specs.declared.run.Answer.{Answer}
 use Rattle.kohiblad_shell.specs.declared.run.Answer.TheVariants.{Rows, Wrong, End}
-use Rattle.kohiblad_shell.specs.Merges.{AreNumbered, BeginsWith, IsFaultAfter, IsTaken, NextHead}
-use Rattle.kohiblad_shell.specs.Merges.{StandsAt, TakesRows, earlier, first_of, head_cmp}
-use Rattle.kohiblad_shell.specs.Merges.{head_input, head_key, head_number, head_outcome, last_of}
-use Rattle.kohiblad_shell.specs.Merges.{no_rows, not_sorted, stays_sorted, unsorted, wrong}
-use Rattle.kohiblad_shell.specs.Outcomes.{Answers, AnswersNext, LineRule}
+use Rattle.kohiblad_shell.specs.Merges.{AreNumbered, BeginsWith, FindsAnswer, IsFaultAfter, IsTaken}
+use Rattle.kohiblad_shell.specs.Merges.{NextHead, StandsAt, TakesRows, earlier, first_of, head_cmp}
+use Rattle.kohiblad_shell.specs.Merges.{head_input, head_key, head_number, head_outcome, last_number}
+use Rattle.kohiblad_shell.specs.Merges.{last_of, no_rows, not_sorted, outcomes_after, outcomes_of}
+use Rattle.kohiblad_shell.specs.Merges.{passed, stays_sorted, unsorted, wrong}
+use Rattle.kohiblad_shell.specs.Outcomes.{Answers, AnswersNext, LineRule, Outcome, gives_nothing}
+use Rattle.kohiblad_shell.specs.Outcomes.{has_none, none}
 use Rattle.kohiblad_shell.specs.Sorts.{key_and_line}
 use Rattle.kohiblad_shell.proofs.RunLaws.{Answers-append}
 
@@ -74,15 +77,13 @@ follows input last next at place =
     let same : nat_cmp next.input last.input ≡ Equal =
     ap₂ nat_cmp place.0 at ∙ tied_itself nat_cmp_total input in
     let later : nat_cmp next.number last.number ≡ Greater =
-    ap (λ n. nat_cmp n last.number) place.1.0 ∙ one_more last.number in
+    above last.number next.number place.1.0 in
     then_not_lt (slice_cmp nat_cmp next.key.items last.key.items)
     (ordering_then (nat_cmp next.input last.input) (nat_cmp next.number last.number)) place.1.1
     (ap₂ (λ (o p : Ordering). is_lt (ordering_then o p)) same later)
   where
-    one_more : (n : ℕ) → nat_cmp (suc n) n ≡ Greater
-    one_more n =
-        let lt : n < suc n = omega arith in
-        grind (arith, nat_tests)
+    above : (m n : ℕ) → m < n → nat_cmp n m ≡ Greater
+    above m n lt = grind (arith, nat_tests)
 
 -- ---- the first one of the rows that are there
 
@@ -258,19 +259,33 @@ no_rows_length (r ∷ readers) = ap suc (no_rows_length readers)
 
 -- ---- the rows of an input
 
+-- the number of the last of these rows, or the one before them if there is none
+abbrev pub end_number : ℕ → List Head → ℕ
+end_number before [] = before
+end_number before (row ∷ rows) = end_number row.number rows
+
+pub end_more : (before : ℕ) (rows : List Head) (h : Head)
+    → end_number before (rows ++ h ∷ []) ≡ h.number
+end_more before [] h = refl
+end_more before (row ∷ rows) h = end_more row.number rows h
+
 numbered_more : (input before : ℕ) (rows : List Head) (next : Head)
     → AreNumbered input before rows → next.input ≡ input
-    → next.number ≡ suc (before + length rows) → AreNumbered input before (rows ++ next ∷ [])
-numbered_more input before [] next are at number =
-    (at, (omega (arith, number), tt))
-numbered_more input before (row ∷ rows) next are at number = (
-  are.0,
-  (
-    are.1.0,
-    numbered_more input (suc before) rows next are.1.1 at
-        (omega (arith, number)),
-  ),
-)
+    → end_number before rows < next.number → AreNumbered input before (rows ++ next ∷ [])
+numbered_more input before [] next are at above = (at, (above, tt))
+numbered_more input before (row ∷ rows) next are at above =
+    (are.0, (are.1.0, numbered_more input row.number rows next are.1.1 at above))
+
+outcomes-append : (before : ℕ) (rows : List Head) (next : Head)
+    → outcomes_of before (rows ++ next ∷ []) ≡ outcomes_of before rows
+    ++ outcomes_after (end_number before rows) next.number (head_outcome next)
+outcomes-append before [] next =
+    append-nil (outcomes_after before next.number (head_outcome next))
+outcomes-append before (row ∷ rows) next =
+    let first = outcomes_after before row.number (head_outcome row) in
+    ap (λ os. first ++ os) (outcomes-append row.number rows next)
+    ∙ sym (append_assoc first (outcomes_of row.number rows)
+    (outcomes_after (end_number row.number rows) next.number (head_outcome next)))
 
 pub last_more : (rows : List Head) (h : Head) → last_of (rows ++ h ∷ []) ≡ Some h
 last_more [] h = refl
@@ -279,17 +294,18 @@ last_more (row ∷ (next ∷ rows)) h = last_more (next ∷ rows) h
 
 module _ (rule : LineRule) (form : Form) where
   outcomes_more : (bytes mid rest : List ℕ) (rows : List Head) (next : Head)
-      → Answers rule form bytes (map head_outcome rows) mid
-      → Answers rule form mid (head_outcome next ∷ []) rest
-      → Answers rule form bytes (map head_outcome (rows ++ next ∷ [])) rest
+      → Answers rule form bytes (outcomes_of 0 rows) mid
+      → Answers rule form mid
+      (outcomes_after (end_number 0 rows) next.number (head_outcome next)) rest
+      → Answers rule form bytes (outcomes_of 0 (rows ++ next ∷ [])) rest
   outcomes_more bytes mid rest rows next so_far then =
-      rw (map-append head_outcome rows (next ∷ [])) (Answers-append so_far then)
+      rw (outcomes-append 0 rows next) (Answers-append so_far then)
 
   -- one more row of an input was taken, or none is left
   pub taken_next : (input : ℕ) (old mid new : Known) (rows : List Head) (next : Option Head)
       (last : Option Head) → TakesRows rule form input old mid rows
-      → NextHead rule form mid new next → StandsAt input last next
-      → ((head : Head) → next ≡ Some head → head.number ≡ suc (length rows))
+      → NextHead rule form last mid new next → StandsAt input last next
+      → last_number last ≡ end_number 0 rows
       → IsTaken rule form input old new rows next
   taken_next input None mid new rows None last so_far then place number = tt
   taken_next input None mid new rows (Some head) last so_far then place number = tt
@@ -301,8 +317,10 @@ module _ (rule : LineRule) (form : Form) where
   taken_next input (Some bytes) (Some more) (Some rest) rows (Some head) last so_far then place
       number = (
         numbered_more input 0 rows head so_far.0 place.0
-            (omega (arith, number head refl)),
-        outcomes_more bytes more rest rows head so_far.1 then,
+            (subst (λ n. n < head.number) number place.1.0),
+        outcomes_more bytes more rest rows head so_far.1
+            (subst (λ n. Answers rule form more
+            (outcomes_after n head.number (head_outcome head)) rest) number then),
       )
 
   -- what was taken of an input is at its beginning
@@ -340,53 +358,107 @@ module _ (rule : LineRule) (form : Form) where
   begins_whole input (Some bytes) new rows taken = rw append-nil taken
 
   -- a fault after rows that were taken
-  fault_after : (bytes mid : List ℕ) (rows : List Head) (last : Option Head) (fault : LineFault)
-      → Answers rule form bytes (map head_outcome rows) mid
-      → IsFaultAfter rule form mid [] last fault
-      → IsFaultAfter rule form bytes (map head_outcome rows) last fault
-  fault_after bytes mid rows last fault so_far (wrong rest is) =
+  fault_after : (bytes mid : List ℕ) (rows : List Head) (last : Option Head) (number : ℕ)
+      (fault : LineFault) → Answers rule form bytes (outcomes_of 0 rows) mid
+      → IsFaultAfter rule form mid [] last number fault
+      → IsFaultAfter rule form bytes (outcomes_of 0 rows) last number fault
+  fault_after bytes mid rows last number fault so_far (wrong rest is) =
       wrong rest (Answers-append so_far is)
-  fault_after bytes mid rows last fault so_far (unsorted head rest is not answer) =
+  fault_after bytes mid rows last number fault so_far (unsorted head rest is not answer) =
       unsorted head rest is not (Answers-append so_far answer)
 
   pub fault_known : (input : ℕ) (old mid : Known) (rows : List Head) (last : Option Head)
-      (fault : LineFault) → TakesRows rule form input old mid rows
-      → IfSome mid (λ bytes. IsFaultAfter rule form bytes [] last fault)
-      → IfSome old (λ bytes. IsFaultAfter rule form bytes (map head_outcome rows) last fault)
-  fault_known input None mid rows last fault so_far is = tt
-  fault_known input (Some bytes) None rows last fault so_far is = absurd so_far
-  fault_known input (Some bytes) (Some more) rows last fault so_far is =
-      fault_after bytes more rows last fault so_far.1 is
+      (number : ℕ) (fault : LineFault) → TakesRows rule form input old mid rows
+      → IfSome mid (λ bytes. IsFaultAfter rule form bytes [] last number fault)
+      → IfSome old (λ bytes. IsFaultAfter rule form bytes (outcomes_of 0 rows) last number fault)
+  fault_known input None mid rows last number fault so_far is = tt
+  fault_known input (Some bytes) None rows last number fault so_far is = absurd so_far
+  fault_known input (Some bytes) (Some more) rows last number fault so_far is =
+      fault_after bytes more rows last number fault so_far.1 is
+
+  -- ---- rows that give nothing
+
+  -- so many were taken
+  abbrev pub HasPassed : Known → Known → ℕ → Type 0
+  HasPassed None new count = Unit {0}
+  HasPassed (Some bytes) None count = ⊥
+  HasPassed (Some bytes) (Some rest) count = Answers rule form bytes (passed count) rest
+
+  pub passes_none : (known : Known) → HasPassed known known 0
+  passes_none None = tt
+  passes_none (Some bytes) = none
+
+  passed_more : (count : ℕ) → passed (count + 1) ≡ passed count ++ Ok [] ∷ []
+  passed_more count = sym (replicate_more {X = Outcome} count (Ok []))
+
+  nothing_given : (lines : Vec ℕ Global) → gives_nothing (Rows lines) ≡ true → lines.items ≡ []
+  nothing_given lines is = of_list lines.items is
+    where
+      of_list : (xs : List ℕ) → has_none xs ≡ true → xs ≡ []
+      of_list [] is = refl
+      of_list (x ∷ xs) is = absurd cc
+
+  pub passes_more : (old mid new : Known) (count : ℕ) (answer : Answer) → HasPassed old mid count
+      → AnswersNext rule form mid new answer → gives_nothing answer ≡ true
+      → HasPassed old new (count + 1)
+  passes_more None mid new count answer so_far next is = tt
+  passes_more (Some bytes) None new count answer so_far next is = absurd so_far
+  passes_more (Some bytes) (Some mid) None count answer so_far next is = absurd next
+  passes_more (Some bytes) (Some mid) (Some rest) count (Rows lines) so_far next is =
+      let row : Answers rule form mid (Ok [] ∷ []) rest = rw (nothing_given lines is) at next in
+      rw (passed_more count) (Answers-append so_far row)
+  passes_more (Some bytes) (Some mid) (Some rest) count (Wrong fault) so_far next is = absurd cc
+  passes_more (Some bytes) (Some mid) (Some rest) count End so_far next is = absurd cc
+
+  -- a row after them gives something, or there is none
+  pub finds : (old mid new : Known) (before count number : ℕ) (answer : Answer)
+      → HasPassed old mid count → AnswersNext rule form mid new answer
+      → number ≡ suc before + count → FindsAnswer rule form before old new number answer
+  finds None mid new before count number answer so_far next is = tt
+  finds (Some bytes) None new before count number answer so_far next is = absurd so_far
+  finds (Some bytes) (Some mid) None before count number answer so_far next is = absurd next
+  finds (Some bytes) (Some mid) (Some rest) before count number (Rows lines) so_far next is =
+      let size : number - suc before ≡ count = omega (arith, is) in
+      rw size (Answers-append so_far next)
+  finds (Some bytes) (Some mid) (Some rest) before count number (Wrong fault) so_far next is =
+      let size : number - suc before ≡ count = omega (arith, is) in
+      rw size (Answers-append so_far next)
+  finds (Some bytes) (Some mid) (Some rest) before count number End so_far next is =
+      record {
+        count = count;
+        answered = subst (λ r. Answers rule form bytes (passed count) r) next so_far;
+      }
 
   -- ---- the next row
 
-  pub next_row : (old new : Known) (lines : Vec ℕ Global) (head : Head)
-      → AnswersNext rule form old new (Rows lines)
-      → lines.items ≡ key_and_line head.key.items head.line.items
-      → NextHead rule form old new (Some head)
-  next_row None new lines head answer is = tt
-  next_row (Some bytes) None lines head answer is = absurd answer
-  next_row (Some bytes) (Some rest) lines head answer is = rw (← is) answer
+  pub next_row : (last : Option Head) (old new : Known) (lines : Vec ℕ Global) (head : Head)
+      (number : ℕ) → FindsAnswer rule form (last_number last) old new number (Rows lines)
+      → lines.items ≡ key_and_line head.key.items head.line.items → head.number ≡ number
+      → NextHead rule form last old new (Some head)
+  next_row last None new lines head number found is at = tt
+  next_row last (Some bytes) None lines head number found is at = absurd found
+  next_row last (Some bytes) (Some rest) lines head number found is at = rw (at, ← is) found
 
-  pub next_none : (old new : Known) → AnswersNext rule form old new End
-      → NextHead rule form old new None
-  next_none None new answer = tt
-  next_none (Some bytes) None answer = absurd answer
-  next_none (Some bytes) (Some rest) answer = answer
+  pub next_none : (last : Option Head) (old new : Known) (number : ℕ)
+      → FindsAnswer rule form (last_number last) old new number End
+      → NextHead rule form last old new None
+  next_none last None new number found = tt
+  next_none last (Some bytes) None number found = absurd found
+  next_none last (Some bytes) (Some rest) number found = found
 
-  pub next_wrong : (old new : Known) (last : Option Head) (fault : LineFault)
-      → AnswersNext rule form old new (Wrong fault)
-      → IfSome old (λ bytes. IsFaultAfter rule form bytes [] last fault)
-  next_wrong None new last fault answer = tt
-  next_wrong (Some bytes) None last fault answer = absurd answer
-  next_wrong (Some bytes) (Some rest) last fault answer = wrong rest answer
+  pub next_wrong : (last : Option Head) (old new : Known) (number : ℕ) (fault : LineFault)
+      → FindsAnswer rule form (last_number last) old new number (Wrong fault)
+      → IfSome old (λ bytes. IsFaultAfter rule form bytes [] last number fault)
+  next_wrong last None new number fault found = tt
+  next_wrong last (Some bytes) None number fault found = absurd found
+  next_wrong last (Some bytes) (Some rest) number fault found = wrong rest found
 
-  pub next_unsorted : (old new : Known) (last : Option Head) (lines : Vec ℕ Global) (head : Head)
-      → AnswersNext rule form old new (Rows lines)
+  pub next_unsorted : (last : Option Head) (old new : Known) (lines : Vec ℕ Global) (head : Head)
+      (number : ℕ) → FindsAnswer rule form (last_number last) old new number (Rows lines)
       → lines.items ≡ key_and_line head.key.items head.line.items
       → stays_sorted last head ≡ false
-      → IfSome old (λ bytes. IsFaultAfter rule form bytes [] last not_sorted)
-  next_unsorted None new last lines head answer is not = tt
-  next_unsorted (Some bytes) None last lines head answer is not = absurd answer
-  next_unsorted (Some bytes) (Some rest) last lines head answer is not =
-      unsorted head rest refl not (rw (← is) answer)
+      → IfSome old (λ bytes. IsFaultAfter rule form bytes [] last number not_sorted)
+  next_unsorted last None new lines head number found is not = tt
+  next_unsorted last (Some bytes) None lines head number found is not = absurd found
+  next_unsorted last (Some bytes) (Some rest) lines head number found is not =
+      unsorted head rest refl not (rw (← is) found)

@@ -1,5 +1,5 @@
 -- The progress of a merge.
-use Rattle.std.proofs.Common.{◌≡◌, ◌≢◌, ◌⊎◌, inl, inr, ℕ, suc, ◌+◌, ◌<◌, ◌≤◌, true, false, List, []}
+use Rattle.std.proofs.Common.{◌≡◌, ◌≢◌, ◌⊎◌, inl, inr, ℕ, ◌+◌, ◌<◌, ◌≤◌, true, false, List, []}
 use Rattle.std.proofs.Common.{◌∷◌, ◌++◌, length, set, get_or, refl, sym, ap, ◌∙◌, subst, append-nil}
 use Rattle.std.proofs.Common.{Option, None, Some, IfSome, flat_map, option_to_list, IsPermutation}
 use Rattle.std.proofs.Common.{IsSorted, arith, below_more, get_or-set_other, get_or-set_same}
@@ -28,8 +28,8 @@ use Rattle.kohiblad_shell.specs.Merges.{StandsAt, StartsMerge, TakesRows, first_
 use Rattle.kohiblad_shell.specs.Merges.{head_line, no_rows}
 use Rattle.kohiblad_shell.specs.Outcomes.{LineRule, none}
 use Rattle.kohiblad_shell.proofs.MergeLaws.{IsAmong, Least, NotAfter, all_rows, begins_of}
-use Rattle.kohiblad_shell.proofs.MergeLaws.{begins_whole, begins_written, below_none, fault_known}
-use Rattle.kohiblad_shell.proofs.MergeLaws.{follows, last_more, least, no_rows_all, no_rows_at}
+use Rattle.kohiblad_shell.proofs.MergeLaws.{begins_whole, begins_written, below_none, end_more}
+use Rattle.kohiblad_shell.proofs.MergeLaws.{end_number, fault_known, follows, last_more, least, no_rows_all, no_rows_at}
 use Rattle.kohiblad_shell.proofs.MergeLaws.{no_rows_length, none_left, sorted_none, sorted_one}
 use Rattle.kohiblad_shell.proofs.MergeLaws.{sorted_push, taken_next, written_more}
 
@@ -66,7 +66,7 @@ prefix_kept old new last bytes appends kept = record {
 abbrev pub IsPlaced : ℕ → List Head → List Head → Option Head → Type 0
 IsPlaced input rows written None = Unit {0}
 IsPlaced input rows written (Some head) = (head.input ≡ input)
-    × ((head.number ≡ suc (length rows)) × IsSorted head_cmp (written ++ head ∷ []))
+    × ((end_number 0 rows < head.number) × IsSorted head_cmp (written ++ head ∷ []))
 
 placed_may_follow : (input : ℕ) (rows written : List Head) (next : Option Head)
     → IsPlaced input rows written next → MayFollow written next
@@ -88,17 +88,10 @@ placed_next input rows written h None placed at = tt
 placed_next input rows written h (Some head) placed at = (
   at.0,
   (
-    omega (arith, at.1.0, placed.1.0, length-append rows (h ∷ [])),
+    omega (arith, at.1.0, end_more 0 rows h),
     sorted_push written h head placed.1.1 (follows input h head placed.0 at),
   ),
 )
-
-number_next : (input : ℕ) (rows : List Head) (h : Head) (next : Option Head)
-    → h.number ≡ suc (length rows) → StandsAt input (Some h) next
-    → (head : Head) → next ≡ Some head → head.number ≡ suc (length (rows ++ h ∷ []))
-number_next input rows h next number at head is =
-    let place : StandsAt input (Some h) (Some head) = subst (StandsAt input (Some h)) is at in
-    omega (arith, place.1.0, number, length-append rows (h ∷ []))
 
 module _ {R : Type 0} (remaining : R → Known) (rule : LineRule) (form : Form) (olds : List R) where
   -- The rows that were written, and those that were taken besides.
@@ -320,22 +313,17 @@ module _ {R : Type 0} (remaining : R → Known) (rule : LineRule) (form : Form) 
             at_end (Faulty f) is = rw (is.0, rows_here) (
               input_low,
               (
-                omega (
-                  arith,
-                  is.1.0,
-                  placed_at.1.0,
-                  length-append (get_or g.rows h.input []) (h ∷ []),
-                ),
+                rw last_more is.1.0,
                 λ r. rw last_more (fault_known rule form h.input (remaining (get_or olds h.input r))
-                    (remaining (get_or news h.input r)) after (Some h) f.fault (taken_at r)
-                    (subst (λ k. IfSome k (λ bytes. IsFaultAfter rule form bytes [] (Some h)
-                    f.fault)) (known r) is.1.1)),
+                    (remaining (get_or news h.input r)) after (Some h) f.number f.fault
+                    (taken_at r) (subst (λ k. IfSome k (λ bytes. IsFaultAfter rule form bytes []
+                    (Some h) f.number f.fault)) (known r) is.1.1)),
               ),
             )
 
         -- the row is written, and the next one of its input was taken, or none is left
         pub merge_goes_on : (y : R) (next : Option Head)
-            → NextHead rule form (remaining x) (remaining y) next
+            → NextHead rule form (Some h) (remaining x) (remaining y) next
             → StandsAt h.input (Some h) next
             → Going (set news h.input y) (set heads h.input next) old mid (count + 1)
         merge_goes_on y next after_it at = record {
@@ -375,7 +363,7 @@ module _ {R : Type 0} (remaining : R → Known) (rule : LineRule) (form : Form) 
                 (remaining y) after next (Some h)
                 (subst (λ k. TakesRows rule form h.input (remaining (get_or olds h.input r)) k
                 after) (known r) (taken_at r)) after_it at
-                (number_next h.input (get_or g.rows h.input []) h next placed_at.1.0 at))
+                (sym (end_more 0 (get_or g.rows h.input []) h)))
 
             taken_there : (j : ℕ) → j ≢ h.input → (r : R) → j < length olds → Taken j r
             taken_there j other r low =
@@ -407,11 +395,6 @@ module _ {R : Type 0} (remaining : R → Known) (rule : LineRule) (form : Form) 
   nothing_taken i None = tt
   nothing_taken i (Some bytes) = (tt, none)
 
-  first_number : (i : ℕ) (next : Option Head) → StandsAt i None next
-      → (head : Head) → next ≡ Some head → head.number ≡ 1
-  first_number i next at head is =
-      let place : StandsAt i None (Some head) = subst (StandsAt i None) is at in place.1.0
-
   module _ (news : List R) (heads : List (Option Head)) (i : ℕ) (s : Starting news heads i)
       (low : i < length news) (size : length news ≡ length olds) (x : R)
       (read : x ≡ get_or news i x) where
@@ -419,7 +402,7 @@ module _ {R : Type 0} (remaining : R → Known) (rule : LineRule) (form : Form) 
     untouched r = read ∙ get_or_default news i x r low ∙ s.later i r (omega arith)
 
     pub starts_more : (y : R) (next : Option Head)
-        → NextHead rule form (remaining x) (remaining y) next
+        → NextHead rule form None (remaining x) (remaining y) next
         → StandsAt i None next → Starting (set news i y) (heads ++ next ∷ []) (i + 1)
     starts_more y next after_it at = record {
       heads_count = omega (arith, s.heads_count, length-append heads (next ∷ []));
@@ -452,7 +435,7 @@ module _ {R : Type 0} (remaining : R → Known) (rule : LineRule) (form : Form) 
         taken_here r =
             rw (heads_here, get_or-set_same news i y r low, ← untouched r)
             (taken_next rule form i (remaining x) (remaining x) (remaining y) [] next None
-            (nothing_taken i (remaining x)) after_it at (first_number i next at))
+            (nothing_taken i (remaining x)) after_it at refl)
 
     -- the merge ends at a first row
     pub starts_fault : (end : MergeEnd) → IsFaultIn rule form (remaining x) i None end

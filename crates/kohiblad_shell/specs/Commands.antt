@@ -1,9 +1,11 @@
 -- The commands: which operation each of them is.
-use Rattle.std.specs.Prelude.{Option, None, Some}
+use Rattle.std.specs.Prelude.{Bool, true, false, Option, None, Some}
 use Rattle.kohiblad_shell.specs.declared.command.Command.{Command}
 use Rattle.kohiblad_shell.specs.declared.command.Command.TheVariants as commands
 use Rattle.kohiblad_shell.specs.declared.command.Operands.{Operands}
 use Rattle.kohiblad_shell.specs.declared.command.Operands.TheVariants as given
+use Rattle.kohiblad_shell.specs.declared.commands.End.{End}
+use Rattle.kohiblad_shell.specs.declared.commands.End.TheVariants as ends
 use Rattle.kohiblad_shell.specs.declared.operation.Change.TheVariants as changes
 use Rattle.kohiblad_shell.specs.declared.operation.Operation.{Operation}
 use Rattle.kohiblad_shell.specs.declared.operation.Operation.TheVariants as operations
@@ -39,3 +41,14 @@ operation_of commands.ComparableKeys (given.Keys paths) = Some (operations.Key p
 operation_of commands.Sort (given.Keys paths) = Some (operations.Sort paths)
 operation_of commands.MergeSorted (given.Keys paths) = Some (operations.Sort paths)
 operation_of command operands = None
+
+-- Whether a command that ends so says what could have come where a line is wrong.
+abbrev pub explains_faults : End → Bool
+explains_faults ends.Reports = true
+explains_faults end = false
+
+-- Whether a command that ends so passes over empty lines.
+abbrev pub passes_empty_lines : End → Bool
+passes_empty_lines ends.Faults = false
+passes_empty_lines ends.Reports = false
+passes_empty_lines end = true

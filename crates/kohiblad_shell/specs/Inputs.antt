@@ -1,8 +1,10 @@
 -- The next row of some bytes, in the form in which rows stand.
 use Rattle.std.specs.Prelude.{◌≡◌, ◌≢◌, ◌⊎◌, ◌<◌, ◌≤◌, ◌^◌, ℕ, List, [], ◌∷◌, ◌++◌, drop, length}
-use Rattle.std.specs.Prelude.{Bool, true, false, Option, Some, None, OnSome, ⊤}
+use Rattle.std.specs.Prelude.{Bool, true, false, ◌&&◌, Option, Some, None, OnSome, ⊤}
+use Rattle.std.specs.List.{list_all}
 use Rattle.std.specs.Io.KnownBytes.{Consumes, IsAtEnd, Keeps}
 use Rattle.answer_lines.specs.Lines.{IsLine}
+use Rattle.jsonb_value.specs.Json.Characters.{is_blank}
 use Rattle.jsonb.specs.Texts.{display_text}
 use Rattle.jsonb.specs.StoredRow.{row_bytes}
 use Rattle.kohiblad_shell.specs.declared.input.Form.{Form}
@@ -30,6 +32,12 @@ IsNextLine bytes line rest = IsLine line
 abbrev pub IsNextRow : Form → List ℕ → List ℕ → List ℕ → Type 0
 IsNextRow (Lines reading) bytes row rest = IsNextLine bytes row rest
 IsNextRow Documents bytes row rest = (length row < 2 ^ 64) × (bytes ≡ row_bytes row ++ rest)
+
+-- Whether a row is passed over: a line that is empty, or has white space alone, where lines are
+-- read so.
+abbrev pub is_passed_over : Form → List ℕ → Bool
+is_passed_over (Lines reading) row = reading.passes_over_empty && list_all is_blank row
+is_passed_over Documents row = false
 
 -- The bytes end within a document, of which this part is there.
 abbrev pub IsCut : Form → List ℕ → List ℕ → Type 0

@@ -1,7 +1,7 @@
 -- The rows of sorted inputs, written in one order.
 use Rattle.std.specs.Prelude.{◌≡◌, ◌<◌, ⊤, ℕ, suc, Bool, true, false, List, [], ◌∷◌, ◌++◌, Option}
 use Rattle.std.specs.Prelude.{None, Some, IfSome, Ok, Err, IsPermutation, IsSorted, cond, flat_map}
-use Rattle.std.specs.Prelude.{fold, length, map, option_to_list, slice_index_or}
+use Rattle.std.specs.Prelude.{◌-◌, fold, length, map, option_to_list, replicate, slice_index_or}
 use Rattle.std.specs.Cmp.Lexicographic.{slice_cmp}
 use Rattle.std.specs.Io.KnownBytes.{Appends}
 use Rattle.std.specs.Ordering.{is_ge, is_le, nat_cmp, on, then_cmp}
@@ -12,6 +12,8 @@ use Rattle.kohiblad_shell.specs.declared.merge.Head.{Head}
 use Rattle.kohiblad_shell.specs.declared.merge.MergeEnd.{MergeEnd}
 use Rattle.kohiblad_shell.specs.declared.merge.MergeEnd.TheVariants.{Halted, Faulty}
 use Rattle.kohiblad_shell.specs.declared.outcome.LineFault.{LineFault}
+use Rattle.kohiblad_shell.specs.declared.run.Answer.{Answer}
+use Rattle.kohiblad_shell.specs.declared.run.Answer.TheVariants as answers
 use Rattle.kohiblad_shell.specs.declared.outcome.Reason.TheVariants.{NotSorted}
 use Rattle.kohiblad_shell.specs.Faults.{plain_fault}
 use Rattle.kohiblad_shell.specs.Outcomes.{Answers, LineRule, Outcome}
@@ -54,10 +56,14 @@ first_of heads = fold earlier None heads
 
 -- ---- the rows of an input
 
--- The number of the row after the last one.
-abbrev pub number_after : Option Head → ℕ
-number_after None = 1
-number_after (Some last) = suc last.number
+-- The number of the last row; 0 if there is none.
+abbrev pub last_number : Option Head → ℕ
+last_number None = 0
+last_number (Some last) = last.number
+
+-- So many rows that give nothing.
+abbrev pub passed : ℕ → List Outcome
+passed count = replicate count (Ok [])
 
 -- Whether the key of a row is not below that of the last one.
 abbrev pub stays_sorted : Option Head → Head → Bool
@@ -68,54 +74,93 @@ stays_sorted (Some last) head = is_ge (slice_cmp nat_cmp head.key.items last.key
 abbrev pub StandsAt : ℕ → Option Head → Option Head → Type 0
 StandsAt input last None = ⊤
 StandsAt input last (Some head) = (head.input ≡ input)
-    × ((head.number ≡ number_after last) × (stays_sorted last head ≡ true))
+    × ((last_number last < head.number) × (stays_sorted last head ≡ true))
 
--- The next row was taken; none, if no byte is left.
-abbrev pub TakesHead : LineRule → Form → List ℕ → List ℕ → Option Head → Type 0
-TakesHead rule form bytes rest None = bytes ≡ []
-TakesHead rule form bytes rest (Some head) = Answers rule form bytes (head_outcome head ∷ []) rest
+-- The bytes hold no rows but such as give nothing.
+pub record HasPassedOnly (rule : LineRule) (form : Form) (bytes : List ℕ) : Type 0 where
+  pub count : ℕ
+  pub answered : Answers rule form bytes (passed count) []
+
+-- What a row gives, after those that give nothing and stand between it and the row before, by the
+-- numbers of both.
+abbrev pub outcomes_after : ℕ → ℕ → Outcome → List Outcome
+outcomes_after before number outcome = passed (number - suc before) ++ outcome ∷ []
+
+-- What is found by a search for a row that gives something, after one of this number: its number
+-- and what it gives, or that there is none.
+abbrev pub AnswersAfter : LineRule → Form → ℕ → List ℕ → List ℕ → ℕ → Answer → Type 0
+AnswersAfter rule form before bytes rest number (answers.Rows rows) =
+    Answers rule form bytes (outcomes_after before number (Ok rows.items)) rest
+AnswersAfter rule form before bytes rest number (answers.Wrong fault) =
+    Answers rule form bytes (outcomes_after before number (Err fault)) rest
+AnswersAfter rule form before bytes rest number answers.End = HasPassedOnly rule form bytes
 
 -- The same where the bytes are known.
-abbrev pub NextHead : LineRule → Form → Option (List ℕ) → Option (List ℕ) → Option Head → Type 0
-NextHead rule form None new next = ⊤
-NextHead rule form (Some bytes) None next = ⊥
-NextHead rule form (Some bytes) (Some rest) next = TakesHead rule form bytes rest next
+abbrev pub FindsAnswer : LineRule → Form → ℕ → Option (List ℕ) → Option (List ℕ) → ℕ → Answer
+    → Type 0
+FindsAnswer rule form before None new number answer = ⊤
+FindsAnswer rule form before (Some bytes) None number answer = ⊥
+FindsAnswer rule form before (Some bytes) (Some rest) number answer =
+    AnswersAfter rule form before bytes rest number answer
+
+-- The next row that gives something was taken; none, if there is none.
+abbrev pub TakesHead : LineRule → Form → Option Head → List ℕ → List ℕ → Option Head → Type 0
+TakesHead rule form last bytes rest None = HasPassedOnly rule form bytes
+TakesHead rule form last bytes rest (Some head) = Answers rule form bytes
+    (outcomes_after (last_number last) head.number (head_outcome head)) rest
+
+-- The same where the bytes are known.
+abbrev pub NextHead : LineRule → Form → Option Head → Option (List ℕ) → Option (List ℕ)
+    → Option Head → Type 0
+NextHead rule form last None new next = ⊤
+NextHead rule form last (Some bytes) None next = ⊥
+NextHead rule form last (Some bytes) (Some rest) next = TakesHead rule form last bytes rest next
 
 -- The fault of a row whose key is below that of the row before it.
 abbrev pub not_sorted : LineFault
 not_sorted = plain_fault 0 NotSorted
 
--- The row after these is wrong, or its key is below that of the last one.
+-- The row of this number, which comes after these, is wrong, or its key is below that of the last
+-- one.
 pub data IsFaultAfter (rule : LineRule) (form : Form) (bytes : List ℕ) (rows : List Outcome)
-    (last : Option Head) (fault : LineFault) : Type 0 where
-  wrong : (rest : List ℕ) → Answers rule form bytes (rows ++ Err fault ∷ []) rest
-      → IsFaultAfter rule form bytes rows last fault
+    (last : Option Head) (number : ℕ) (fault : LineFault) : Type 0 where
+  wrong : (rest : List ℕ)
+      → Answers rule form bytes (rows ++ outcomes_after (last_number last) number (Err fault)) rest
+      → IsFaultAfter rule form bytes rows last number fault
   unsorted : (head : Head) (rest : List ℕ) → fault ≡ not_sorted → stays_sorted last head ≡ false
-      → Answers rule form bytes (rows ++ head_outcome head ∷ []) rest
-      → IsFaultAfter rule form bytes rows last fault
+      → Answers rule form bytes
+      (rows ++ outcomes_after (last_number last) number (head_outcome head)) rest
+      → IsFaultAfter rule form bytes rows last number fault
 
--- A merge ends at the row after the last one of an input, if it ends at a fault.
+-- A merge ends at a row after the last one of an input, if it ends at a fault.
 abbrev pub IsFaultIn : LineRule → Form → Option (List ℕ) → ℕ → Option Head → MergeEnd → Type 0
 IsFaultIn rule form old input last (Halted halt) = ⊤
 IsFaultIn rule form old input last (Faulty at) = (at.input ≡ input)
-    × ((at.number ≡ number_after last)
-    × IfSome old (λ bytes. IsFaultAfter rule form bytes [] last at.fault))
+    × ((last_number last < at.number)
+    × IfSome old (λ bytes. IsFaultAfter rule form bytes [] last at.number at.fault))
 
 -- ---- a merge
 
--- The rows are those of an input, numbered after so many.
+-- The rows are those of an input, and their numbers rise from above this one.
 abbrev pub AreNumbered : ℕ → ℕ → List Head → Type 0
 AreNumbered input before [] = ⊤
 AreNumbered input before (head ∷ heads) = (head.input ≡ input)
-    × ((head.number ≡ suc before) × AreNumbered input (suc before) heads)
+    × ((before < head.number) × AreNumbered input head.number heads)
 
--- An input begins with these rows, up to the rest, which is empty if they are all.
+-- What the rows of an input give up to the last of these: nothing, where their numbers leave some
+-- out.
+abbrev pub outcomes_of : ℕ → List Head → List Outcome
+outcomes_of before [] = []
+outcomes_of before (head ∷ heads) =
+    outcomes_after before head.number (head_outcome head) ++ outcomes_of head.number heads
+
+-- An input begins with these rows, up to the rest, in which no row gives something if they are all.
 pub record BeginsWith (rule : LineRule) (form : Form) (input : ℕ) (bytes : List ℕ)
     (rows : List Head) (are_all : Bool) : Type 0 where
   pub rest : List ℕ
   pub numbered : AreNumbered input 0 rows
-  pub answered : Answers rule form bytes (map head_outcome rows) rest
-  pub whole : are_all ≡ true → rest ≡ []
+  pub answered : Answers rule form bytes (outcomes_of 0 rows) rest
+  pub whole : are_all ≡ true → HasPassedOnly rule form rest
 
 -- The row, if there is one, may be written next.
 abbrev pub MayFollow : List Head → Option Head → Type 0
@@ -158,10 +203,10 @@ abbrev pub IsFaultOf : {R : Type 0} → (R → Option (List ℕ)) → LineRule �
     → List (List Head) → MergeEnd → Type 0
 IsFaultOf remaining rule form readers rows (Halted halt) = ⊤
 IsFaultOf {R = R} remaining rule form readers rows (Faulty at) = (at.input < length readers)
-    × ((at.number ≡ suc (length (slice_index_or rows at.input [])))
+    × ((last_number (last_of (slice_index_or rows at.input [])) < at.number)
     × ((r : R) → IfSome (remaining (slice_index_or readers at.input r)) (λ bytes.
-    IsFaultAfter rule form bytes (map head_outcome (slice_index_or rows at.input []))
-    (last_of (slice_index_or rows at.input [])) at.fault)))
+    IsFaultAfter rule form bytes (outcomes_of 0 (slice_index_or rows at.input []))
+    (last_of (slice_index_or rows at.input [])) at.number at.fault)))
 
 -- Some rows at the beginning of each input were merged, and a prefix of them was written.
 pub record BeginsMerge {R : Type 0} (remaining : R → Option (List ℕ)) (rule : LineRule)
@@ -184,7 +229,7 @@ abbrev pub TakesRows : LineRule → Form → ℕ → Option (List ℕ) → Optio
 TakesRows rule form input None new rows = ⊤
 TakesRows rule form input (Some bytes) None rows = ⊥
 TakesRows rule form input (Some bytes) (Some rest) rows =
-    AreNumbered input 0 rows × Answers rule form bytes (map head_outcome rows) rest
+    AreNumbered input 0 rows × Answers rule form bytes (outcomes_of 0 rows) rest
 
 -- What was taken of an input: these rows and the next one, or all its rows, where none is left.
 abbrev pub IsTaken : LineRule → Form → ℕ → Option (List ℕ) → Option (List ℕ) → List Head

@@ -41,10 +41,10 @@ use Rattle.kohiblad_shell.specs.declared.operation.Style.TheVariants.{Json, Raw}
 use Rattle.kohiblad_shell.specs.declared.outcome.Reason.TheVariants.{TooLarge}
 use Rattle.kohiblad_shell.specs.Faults.{plain_fault}
 use Rattle.kohiblad_shell.specs.Extracts.{IsExtracted}
-use Rattle.kohiblad_shell.specs.Outcomes.{Outcome}
+use Rattle.kohiblad_shell.specs.Outcomes.{IsUnlessPassed, Outcome}
 use Rattle.kohiblad_shell.specs.Keys.{row_key}
 use Rattle.kohiblad_shell.specs.Made.{IsMade}
-use Rattle.kohiblad_shell.specs.Inputs.{framed}
+use Rattle.kohiblad_shell.specs.Inputs.{framed, is_passed_over}
 use Rattle.kohiblad_shell.specs.Ranges.{is_in_range}
 use Rattle.kohiblad_shell.specs.Removals.{IsRemoved}
 use Rattle.kohiblad_shell.specs.Rows.{IsRow, IsRowFault}
@@ -158,12 +158,17 @@ IsRowAnswer (Show look) form row bytes (Err fault) = ⊥
 IsRowAnswer operation form row bytes (Ok lines) = lines ≡ row_lines operation form row bytes
 IsRowAnswer operation form row bytes (Err fault) = ⊥
 
--- What a job gives for a row: for its document, or its fault.
-abbrev pub row_rule : Job → List ℕ → Outcome → Type 0
-row_rule job row (Ok lines) = (bytes : List ℕ) × (IsRow job.form row bytes
+-- What a job gives for a row that is not passed over: for its document, or its fault.
+abbrev pub read_row_rule : Job → List ℕ → Outcome → Type 0
+read_row_rule job row (Ok lines) = (bytes : List ℕ) × (IsRow job.form row bytes
     × IsRowAnswer job.operation job.form row bytes (Ok lines))
-row_rule job row (Err fault) = IsRowFault job.form row fault ⊎ ((bytes : List ℕ)
+read_row_rule job row (Err fault) = IsRowFault job.form row fault ⊎ ((bytes : List ℕ)
     × (IsRow job.form row bytes × IsRowAnswer job.operation job.form row bytes (Err fault)))
+
+-- What a job gives for a row.
+abbrev pub row_rule : Job → List ℕ → Outcome → Type 0
+row_rule job row outcome =
+    IsUnlessPassed (is_passed_over job.form row) (read_row_rule job row) outcome
 
 -- The same of the library's results: `InvalidJsonb` is the fault of a value that is too large.
 abbrev pub IsResultOf : (Outcome → Type 0) → Result (Vec ℕ Global) Error → Type 0

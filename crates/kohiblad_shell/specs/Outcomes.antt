@@ -1,5 +1,5 @@
 -- What rows give.
-use Rattle.std.specs.Prelude.{◌≡◌, ◌||◌, ℕ, suc, Bool, false, List, [], ◌∷◌, ◌++◌, Result, Ok}
+use Rattle.std.specs.Prelude.{◌≡◌, ◌||◌, ℕ, suc, Bool, true, false, List, [], ◌∷◌, ◌++◌, Result, Ok}
 use Rattle.std.specs.Prelude.{Err, Option, None, Some, ⊤}
 use Rattle.std.specs.declared.alloc.Global.{Global}
 use Rattle.std.specs.declared.vec.Vec.{Vec}
@@ -20,6 +20,11 @@ Outcome = Result (List ℕ) LineFault
 -- What a row of an input may give.
 abbrev pub LineRule : Type 1
 LineRule = List ℕ → Outcome → Type 0
+
+-- A row that is passed over gives nothing, and another one such an outcome.
+abbrev pub IsUnlessPassed : Bool → (Outcome → Type 0) → Outcome → Type 0
+IsUnlessPassed true Is outcome = outcome ≡ Ok []
+IsUnlessPassed false Is outcome = Is outcome
 
 -- The result is such an outcome, or there is not enough memory.
 abbrev pub IsOutcome : (Outcome → Type 0) → Result (Vec ℕ Global) Unanswered → Type 0
@@ -55,6 +60,16 @@ abbrev pub AnswersNext : LineRule → Form → Option (List ℕ) → Option (Lis
 AnswersNext rule form None new next = ⊤
 AnswersNext rule form (Some bytes) None next = ⊥
 AnswersNext rule form (Some bytes) (Some rest) next = AnswersFirst rule form bytes rest next
+
+-- Whether there are no bytes.
+abbrev pub has_none : List ℕ → Bool
+has_none [] = true
+has_none (byte ∷ bytes) = false
+
+-- Whether a row gives no rows and is not wrong.
+abbrev pub gives_nothing : Answer → Bool
+gives_nothing (answer.Rows rows) = has_none rows.items
+gives_nothing next = false
 
 -- Rows that a worker gave change nothing of what later lines may give.
 abbrev pub KeepsRule : {W : Type 0} → (W → LineRule) → (W → List ℕ → W) → Type 0

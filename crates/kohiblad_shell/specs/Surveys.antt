@@ -9,18 +9,26 @@ use Rattle.jsonb_typed.specs.declared.survey.Scales.{Scales}
 use Rattle.jsonb_typed.specs.declared.survey.Survey.{Survey}
 use Rattle.kohiblad_shell.specs.declared.input.Form.{Form}
 use Rattle.kohiblad_shell.specs.declared.survey.ValueCounter.{ValueCounter}
-use Rattle.kohiblad_shell.specs.Outcomes.{LineRule}
+use Rattle.kohiblad_shell.specs.Inputs.{is_passed_over}
+use Rattle.kohiblad_shell.specs.Outcomes.{IsUnlessPassed, LineRule}
 use Rattle.kohiblad_shell.specs.Rows.{IsRow, IsRowFault}
 
--- A row gives its document, or its fault.
-abbrev pub document_rule : Form → LineRule
-document_rule form row (Ok document) = IsRow form row document
-document_rule form row (Err fault) = IsRowFault form row fault
+-- A row that is not passed over gives its document, or its fault.
+abbrev pub read_document_rule : Form → LineRule
+read_document_rule form row (Ok document) = IsRow form row document
+read_document_rule form row (Err fault) = IsRowFault form row fault
 
--- A survey with one more document: what the first value is to which the path leads.
+-- What a row gives.
+abbrev pub document_rule : Form → LineRule
+document_rule form row outcome =
+    IsUnlessPassed (is_passed_over form row) (read_document_rule form row) outcome
+
+-- A survey with one more document: what the first value is to which the path leads. No bytes are no
+-- document, and change nothing.
 abbrev pub with_document : PathParts → Survey → List ℕ → Survey
-with_document path s document =
-    with_cell s (member_cell (first_asked path (tree_in document)))
+with_document path s [] = s
+with_document path s (byte ∷ bytes) =
+    with_cell s (member_cell (first_asked path (tree_in (byte ∷ bytes))))
 
 -- What counts values after a row gave this document.
 abbrev pub with_row : ValueCounter → List ℕ → ValueCounter

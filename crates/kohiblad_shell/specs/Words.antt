@@ -32,18 +32,19 @@ pub use Rattle.kohiblad_shell.specs.Arguments.{IsCount, IsMemory, IsScaled, IsSi
 pub use Rattle.kohiblad_shell.specs.Arguments.{digits_value, exponents_of, form_of, shows_of}
 pub use Rattle.kohiblad_shell.specs.Arguments.{stops_of, text_or}
 pub use Rattle.kohiblad_shell.specs.Arguments.{value_of, values_of}
+pub use Rattle.kohiblad_shell.specs.Commands.{explains_faults, passes_empty_lines}
 pub use Rattle.kohiblad_shell.specs.Escapes.{escape, escaped_text, escaped_unit, is_escaped}
 pub use Rattle.kohiblad_shell.specs.Escapes.{shown_char}
 pub use Rattle.kohiblad_shell.specs.Expected.{expected_text, listed_classes, mark_before}
 pub use Rattle.kohiblad_shell.specs.Faults.{bad_document, fault_line, is_cut, plain_fault}
 pub use Rattle.kohiblad_shell.specs.Faults.{reason_name, reason_text}
 pub use Rattle.kohiblad_shell.specs.Inputs.{AppendsHeld, AppendsHeldLine, ReadsLine, ReadsPart}
-pub use Rattle.kohiblad_shell.specs.Inputs.{ReadsRow, framed, made_row}
+pub use Rattle.kohiblad_shell.specs.Inputs.{ReadsRow, framed, is_passed_over, made_row}
 pub use Rattle.kohiblad_shell.specs.Kinds.{compressed_kind, foreign_kind, input_kind}
 pub use Rattle.kohiblad_shell.specs.Kinds.{is_document_start, is_text_start, kind_words}
 pub use Rattle.kohiblad_shell.specs.Marks.{PassesMark}
 pub use Rattle.kohiblad_shell.specs.Outcomes.{AnswersNext, IsAnswer, IsOutcome, KeepsRule, LineRule}
-pub use Rattle.kohiblad_shell.specs.Outcomes.{after_answer, row_count, stops_at}
+pub use Rattle.kohiblad_shell.specs.Outcomes.{after_answer, gives_nothing, row_count, stops_at}
 pub use Rattle.kohiblad_shell.specs.Rows.{AreExpected, IsNotJson, IsParsed}
 pub use Rattle.kohiblad_shell.specs.Rows.{IsRefusedLine, IsRefusedRow, IsRow}
 pub use Rattle.kohiblad_shell.specs.Rows.{line_reason, unanswered_of}
@@ -75,6 +76,7 @@ pub use Rattle.kohiblad_shell.specs.declared.input.Form.TheVariants.{Documents}
 pub use Rattle.kohiblad_shell.specs.declared.outcome.Unanswered.TheVariants.{OutOfMemory, Wrong}
 pub use Rattle.hex.specs.Hex.{encode_lower}
 pub use Rattle.jsonb_value.specs.ExtCode.{extension_of}
+pub use Rattle.jsonb_value.specs.Json.Characters.{is_blank}
 pub use Rattle.jsonb_value.specs.Text.{compact, extension_text, number_text}
 pub use Rattle.jsonb_typed.specs.Types.{IsBinary, IsText}
 pub use Rattle.jsonb_typed.specs.declared.scalar.ScalarType.{ScalarType}
@@ -82,5 +84,5 @@ pub use Rattle.jsonb.specs.Document.{document_bytes, document_tree}
 pub use Rattle.jsonb.specs.Node.{HoldsNoScalar, node_tree}
 pub use Rattle.kohiblad_shell.specs.Operations.{IsCanonicalRow, IsResultOf}
 pub use Rattle.kohiblad_shell.specs.Operations.{IsRowAnswer, changed, document_line, kept_row}
-pub use Rattle.kohiblad_shell.specs.Operations.{raw_text, row_rule}
+pub use Rattle.kohiblad_shell.specs.Operations.{raw_text, read_row_rule, row_rule}
 pub use Rattle.kohiblad_shell.specs.Operations.{value_line, value_lines}

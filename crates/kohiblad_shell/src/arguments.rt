@@ -2,10 +2,12 @@
 
 ghost use Rattle.std.specs.Prelude.{◌≡◌, IfSome, codes, false, map, option_map};
 ghost use Rattle.kohiblad_shell.specs.Words.{IsFlag, IsMemory, are_documents, are_texts, colors_of};
-ghost use Rattle.kohiblad_shell.specs.Words.{exponents_of, first_value, form_of, found_of};
-ghost use Rattle.kohiblad_shell.specs.Words.{is_pretty, is_raw, shows_of, stops_of, text_or};
+ghost use Rattle.kohiblad_shell.specs.Words.{explains_faults, exponents_of, first_value, form_of};
+ghost use Rattle.kohiblad_shell.specs.Words.{found_of, is_pretty, is_raw, passes_empty_lines};
+ghost use Rattle.kohiblad_shell.specs.Words.{shows_of, stops_of, text_or};
 ghost use Rattle.kohiblad_shell.specs.Words.{value_of, values_of};
 
+use crate::commands::End;
 use crate::input::{Form, Reading};
 use crate::operand_kind::ValueKind;
 use crate::operation::{Style, TextLayout};
@@ -94,14 +96,14 @@ pub fn layout_in(arguments: &ArgMatches<'_>) -> TextLayout
     }
 }
 
-/// In which form rows are read and written: as documents if the flag says so, and else as lines, of
-/// which numbers may have exponents unless these are refused, and of which the faults are explained
-/// or not.
-pub fn form_in(arguments: &ArgMatches<'_>, is_explained: bool) -> Form
+/// In which form rows are read and written by a command that ends so: as documents if the flag says
+/// so, and else as lines, of which numbers may have exponents unless these are refused.
+pub fn form_in(arguments: &ArgMatches<'_>, end: End) -> Form
     ensures documents { IsFlag arguments.now (codes "documents") (are_documents result) }
     ensures form { result ≡ form_of (are_documents result) (record {
       exponents = exponents_of (first_value (found_of arguments.now) (codes "exponents"));
-      is_explained = is_explained;
+      is_explained = explains_faults end;
+      passes_over_empty = passes_empty_lines end;
     }) }
 {
     if has_flag(arguments, "documents") {
@@ -109,7 +111,8 @@ pub fn form_in(arguments: &ArgMatches<'_>, is_explained: bool) -> Form
     } else {
         Form::Lines(Reading {
             exponents: exponents_in(arguments),
-            is_explained,
+            is_explained: end.explains_faults(),
+            passes_over_empty: end.passes_empty_lines(),
         })
     }
 }

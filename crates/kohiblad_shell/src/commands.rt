@@ -1,6 +1,7 @@
 //! The table of the commands.
 
 ghost use Rattle.std.specs.Prelude.{◌≡◌, IfSome};
+ghost use Rattle.kohiblad_shell.specs.Words.{explains_faults, passes_empty_lines};
 
 use crate::command::Command;
 use crate::operand_kind::OperandKind;
@@ -70,6 +71,20 @@ impl End {
     /// Whether there is an output.
     pub fn writes(self) -> bool {
         !matches!(self, End::Faults)
+    }
+
+    /// Whether the report of a line that is wrong says what could have come there.
+    pub fn explains_faults(self) -> bool
+        ensures { result ≡ explains_faults self }
+    {
+        matches!(self, End::Reports)
+    }
+
+    /// Whether lines that are empty, or have white space alone, are passed over.
+    pub fn passes_empty_lines(self) -> bool
+        ensures { result ≡ passes_empty_lines self }
+    {
+        !matches!(self, End::Faults | End::Reports)
     }
 
     /// Whether nothing is written before the last row is read.

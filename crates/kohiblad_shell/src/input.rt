@@ -2,8 +2,10 @@
 
 ghost use Rattle.std.specs.Prelude.{◌≡◌, IfOk, length, min};
 ghost use Rattle.std.specs.Int.{to_be_bytes, w64};
+ghost use Rattle.std.specs.List.{list_all};
 ghost use Rattle.kohiblad_shell.specs.Words.{AppendsHeld, AppendsHeldLine, Documents, ReadsLine};
-ghost use Rattle.kohiblad_shell.specs.Words.{ReadsPart, ReadsRow, strip_last};
+ghost use Rattle.kohiblad_shell.specs.Words.{ReadsPart, ReadsRow, is_blank, is_passed_over};
+ghost use Rattle.kohiblad_shell.specs.Words.{strip_last};
 
 use crate::halt::Halt;
 use byteorder::{BigEndian, ByteOrder};
@@ -20,6 +22,33 @@ pub enum Form {
     Documents,
 }
 
+impl Form {
+    /// Whether a row gives nothing and is not wrong: a line that is empty, or has white space alone,
+    /// where such lines are passed over.
+    pub fn passes_over(self, row: &[u8]) -> bool
+        ensures { result ≡ is_passed_over self row.now }
+    {
+        match self {
+            Form::Lines(reading) => reading.passes_over_empty && is_empty_line(row),
+            Form::Documents => false,
+        }
+    }
+}
+
+// Whether a line has no byte but white space.
+fn is_empty_line(line: &[u8]) -> bool
+    ensures { result ≡ list_all is_blank line.now }
+{
+    line.iter().all(|byte| is_blank(*byte))
+}
+
+// Whether a byte is white space between the tokens of a JSON text.
+fn is_blank(byte: u8) -> bool
+    ensures { result ≡ is_blank byte }
+{
+    matches!(byte, b' ' | b'\t' | b'\n' | b'\r')
+}
+
 /// How the texts of lines are read.
 #[derive(Clone, Copy)]
 pub struct Reading {
@@ -27,6 +56,8 @@ pub struct Reading {
     pub exponents: Exponents,
     /// Whether the fault of a line says what could have come there.
     pub is_explained: bool,
+    /// Whether lines that are empty, or have white space alone, are passed over.
+    pub passes_over_empty: bool,
 }
 
 /// What a read found.

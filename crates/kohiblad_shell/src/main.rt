@@ -178,7 +178,7 @@ fn run_operands(
         return misuse(rt, "no such command");
     };
     let form = if row.reads_lines() {
-        form_in(arguments, matches!(row.end, End::Reports))
+        form_in(arguments, row.end)
     } else {
         Form::Documents
     };

@@ -1,9 +1,10 @@
 //! Merging inputs whose rows are sorted, with one row of each in memory.
 
-ghost use Rattle.std.specs.Prelude.{◌≡◌, IfErr, IfOk, option_map};
-ghost use Rattle.kohiblad_shell.specs.Merges.{BeginsMerge, IsFaultIn, IsFaultOf, IsWholeMerge};
-ghost use Rattle.kohiblad_shell.specs.Merges.{NextHead, StandsAt, StartsMerge, earlier, first_of};
-ghost use Rattle.kohiblad_shell.specs.Merges.{head_cmp, no_rows, number_after, stays_sorted};
+ghost use Rattle.std.specs.Prelude.{◌≡◌, ◌<◌, IfErr, IfOk, option_map};
+ghost use Rattle.kohiblad_shell.specs.Merges.{BeginsMerge, FindsAnswer, IsFaultIn, IsFaultOf};
+ghost use Rattle.kohiblad_shell.specs.Merges.{IsWholeMerge, NextHead, StandsAt, StartsMerge};
+ghost use Rattle.kohiblad_shell.specs.Merges.{earlier, first_of, head_cmp, last_number, no_rows};
+ghost use Rattle.kohiblad_shell.specs.Merges.{stays_sorted};
 ghost use Rattle.kohiblad_shell.specs.Sorts.{key_and_line};
 ghost use Rattle.kohiblad_shell.specs.declared.merge.MergeEnd.TheVariants.{Halted};
 
@@ -70,8 +71,9 @@ impl From<Halt> for MergeEnd {
 }
 
 /// Writes the rows of all readers in the order of their keys, and returns how many there are. Each
-/// answer of `worker` is a row with its key. The rows of each reader are sorted. Rows of one key
-/// are written in the order of the readers, and those of one reader as they are.
+/// answer of `worker` is a row with its key, or nothing, and then the row is passed over. The rows
+/// of each reader are sorted. Rows of one key are written in the order of the readers, and those of
+/// one reader as they are.
 ///
 /// After an error a beginning of these rows was written. `Faulty`: a row is wrong or cut off, or it
 /// is not sorted, since its key is below that of the row before it. `Halted`: a reader, the writer
@@ -148,7 +150,8 @@ fn first_heads<L: LineWorker + Copy, R: BufRead>(
     Ok(heads)
 }
 
-// Reads the row after the last one of an input, if there is one. `row` is a buffer.
+// Reads the next row of an input that gives something, after the last one, if there is one. `row` is
+// a buffer.
 fn next_head<L: LineWorker + Copy, R: BufRead>(
     alloc: Global,
     worker: &L,
@@ -159,15 +162,15 @@ fn next_head<L: LineWorker + Copy, R: BufRead>(
     row: &mut Vec<u8>,
 ) -> Result<Option<Head>, MergeEnd>
     ensures row { IfOk result (λ next. NextHead (L.rule worker.now) form
+        (option_map (λ h. h.now) last.entry)
         (R.remaining reader.old) (R.remaining reader.new) next) }
     ensures place { IfOk result (λ next. StandsAt input (option_map (λ h. h.now) last.entry) next) }
     ensures fault { IfErr result (λ end. IsFaultIn (L.rule worker.now) form
         (R.remaining reader.old) input (option_map (λ h. h.now) last.entry) end) }
 {
-    let number = number_after(last)?;
-    // A copy, since what a worker is after a row is not asked for here.
-    let mut worker = *worker;
-    match answer_next(alloc, &mut worker, form, reader, row)? {
+    let before = last_number(last);
+    let NumberedAnswer { number, answer } = next_answer(alloc, worker, form, reader, before, row)?;
+    match answer {
         Answer::Rows(lines) => {
             let head = head_of(alloc, &lines, input, number)?;
             if !stays_sorted(last, &head) {
@@ -178,6 +181,39 @@ fn next_head<L: LineWorker + Copy, R: BufRead>(
         Answer::Wrong(fault) => Err(fault_at(input, number, fault)),
         Answer::End => Ok(None),
     }
+}
+
+// What a row gives, and its number.
+#[derive(Drop)]
+struct NumberedAnswer {
+    number: u64,
+    answer: Answer,
+}
+
+// Reads the rows after one of this number, up to the first one that gives something. `row` is a
+// buffer.
+fn next_answer<L: LineWorker + Copy, R: BufRead>(
+    alloc: Global,
+    worker: &L,
+    form: Form,
+    reader: &mut R,
+    before: u64,
+    row: &mut Vec<u8>,
+) -> Result<NumberedAnswer, Halt>
+    ensures answer { IfOk result (λ found. FindsAnswer (L.rule worker.now) form before
+        (R.remaining reader.old) (R.remaining reader.new) found.number found.answer) }
+    ensures later { IfOk result (λ found. before < found.number) }
+{
+    'passing: for passed in before..u64::MAX {
+        // A copy, since what a worker is after a row is not asked for here.
+        let mut worker = *worker;
+        let answer = answer_next(alloc, &mut worker, form, reader, row)?;
+        if !answer.gives_nothing() {
+            let number = passed + 1;
+            return Ok(NumberedAnswer { number, answer });
+        }
+    }
+    Err(Halt::Read)
 }
 
 // The fault of a row whose key is below that of the row before it.
@@ -199,13 +235,13 @@ fn fault_at(input: usize, number: u64, fault: LineFault) -> MergeEnd
     })
 }
 
-// The number of the row after the last one.
-fn number_after(last: Option<&Head>) -> Result<u64, Halt>
-    ensures { IfOk result (λ n. n ≡ number_after (option_map (λ h. h.now) last.entry)) }
+// The number of the last row; 0 if there is none.
+fn last_number(last: Option<&Head>) -> u64
+    ensures { result ≡ last_number (option_map (λ h. h.now) last.entry) }
 {
     match last {
-        Some(last) => last.number.checked_add(1).ok_or(Halt::Read),
-        None => Ok(1),
+        Some(last) => last.number,
+        None => 0,
     }
 }
 

@@ -25,6 +25,7 @@ use jsonb_typed::{LeastType, parse_type};
 const OPERAND: Reading = Reading {
     exponents: Exponents::Allowed,
     is_explained: false,
+    passes_over_empty: false,
 };
 
 /// The document of an operand, which is a JSON text or a text, or the status after its fault is

@@ -8,8 +8,8 @@ ghost use Rattle.kohiblad_shell.specs.Words.{MadeWithMemory, canon};
 ghost use Rattle.kohiblad_shell.specs.Words.{changed, document_bytes, document_line};
 ghost use Rattle.kohiblad_shell.specs.Words.{document_tree, encode_lower, framed, kept_row};
 ghost use Rattle.kohiblad_shell.specs.Words.{key_and_line, made_row, node_tree, owned_bytes};
-ghost use Rattle.kohiblad_shell.specs.Words.{raw_text, row_key, row_rule, text_of, value_line};
-ghost use Rattle.kohiblad_shell.specs.Words.{value_lines};
+ghost use Rattle.kohiblad_shell.specs.Words.{raw_text, read_row_rule, row_key, row_rule, text_of};
+ghost use Rattle.kohiblad_shell.specs.Words.{value_line, value_lines};
 ghost use Rattle.kohiblad_shell.specs.Operations.{IsFirstGiven, IsGiven};
 ghost use Rattle.jsonb_path.specs.Found.{outcome_of};
 
@@ -120,19 +120,31 @@ impl LineWorker for Job<'_, '_> {
 
     ghost keeps = { λ job rows line outcome is. is };
 
+    #[tactic(auto, using(crate::proofs::PassedLaws::passed_gives, crate::proofs::PassedLaws::result_gives))]
     fn answer(&mut self, alloc: Global, row: &[u8]) -> Result<Vec<u8>, Unanswered> {
-        match self.form {
-            Form::Lines(reading) => {
-                let owned = parse_line(alloc, row, reading)?;
-                let document = Document::new_unchecked(owned.as_bytes());
-                self.watch.see(alloc, self.operation, document)?;
-                row_lines(alloc, *self, row, document)
-            }
-            Form::Documents => {
-                let document = check_document(row)?;
-                self.watch.see(alloc, self.operation, document)?;
-                row_lines(alloc, *self, row, document)
-            }
+        if self.form.passes_over(row) {
+            Ok(Vec::new(alloc))
+        } else {
+            read_row_lines(alloc, *self, row)
+        }
+    }
+}
+
+// The lines that a job writes for a row that is not passed over, or why there are none.
+fn read_row_lines(alloc: Global, job: Job<'_, '_>, row: &[u8]) -> Result<Vec<u8>, Unanswered>
+    ensures { IsOutcome (read_row_rule job.entry row.now) result }
+{
+    match job.form {
+        Form::Lines(reading) => {
+            let owned = parse_line(alloc, row, reading)?;
+            let document = Document::new_unchecked(owned.as_bytes());
+            job.watch.see(alloc, job.operation, document)?;
+            row_lines(alloc, job, row, document)
+        }
+        Form::Documents => {
+            let document = check_document(row)?;
+            job.watch.see(alloc, job.operation, document)?;
+            row_lines(alloc, job, row, document)
         }
     }
 }

@@ -4,7 +4,7 @@
 ghost use Rattle.std.specs.Prelude.{◌≡◌, ◌≤◌, ◌∷◌, [], Ok, IfOk, OnOk, OnErr, IfSome};
 ghost use Rattle.kohiblad_shell.specs.Words.{AnswersNext, Appends, AppendsPrefix, BeginsRun};
 ghost use Rattle.kohiblad_shell.specs.Words.{IsRun, Keeps, both, fault_line, of_reports};
-ghost use Rattle.kohiblad_shell.specs.Words.{after_answer, row_count, stops_at};
+ghost use Rattle.kohiblad_shell.specs.Words.{after_answer, gives_nothing, row_count, stops_at};
 
 use crate::halt::Halt;
 use crate::input::{Form, Found, read_row};
@@ -147,6 +147,7 @@ fn take_lines<L: LineWorker, R: BufRead, W: Write, E: Write>(
 }
 
 /// What the next row of an input gives.
+#[derive(Drop)]
 pub enum Answer {
     /// Rows.
     Rows(Vec<u8>),
@@ -154,6 +155,18 @@ pub enum Answer {
     Wrong(LineFault),
     /// No row is left.
     End,
+}
+
+impl Answer {
+    /// Whether there is a row that gives no rows and is not wrong.
+    pub fn gives_nothing(&self) -> bool
+        ensures { result ≡ gives_nothing self.now }
+    {
+        match self {
+            Answer::Rows(rows) => rows.is_empty(),
+            _ => false,
+        }
+    }
 }
 
 /// Reads the next row, in place of what `row` held, and answers it. `Read`: the reader failed.

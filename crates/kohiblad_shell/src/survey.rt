@@ -17,7 +17,8 @@ use jsonb_path::Path;
 use jsonb_typed::{Scales, Survey};
 use std::alloc::{AllocError, Global};
 
-/// Counts the first value to which the path leads in each row, and gives the row's document.
+/// Counts the first value to which the path leads in each row, and gives the row's document; no
+/// bytes of a row that is passed over.
 #[derive(Clone, Copy)]
 pub struct ValueCounter<'a> {
     pub path: &'a Path,
@@ -32,7 +33,11 @@ impl LineWorker for ValueCounter<'_> {
 
     ghost keeps = { λ counter rows line outcome is. is };
 
+    #[tactic(auto, using(crate::proofs::PassedLaws::passed_gives, crate::proofs::PassedLaws::read_gives, crate::proofs::PassedLaws::refused_gives, crate::proofs::PassedLaws::passed_keeps, crate::proofs::PassedLaws::read_counts))]
     fn answer(&mut self, alloc: Global, row: &[u8]) -> Result<Vec<u8>, Unanswered> {
+        if self.form.passes_over(row) {
+            return Ok(Vec::new(alloc));
+        }
         let bytes = row_document(alloc, self.form, row)?;
         let value = first_value(alloc, Document::new_unchecked(&bytes), self.path)?;
         self.survey.add_member(value);

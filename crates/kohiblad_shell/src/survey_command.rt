@@ -42,7 +42,7 @@ fn write_counts(
     let progress = progress_of(rt, End::Survey, names, arguments);
     let mut counter = ValueCounter {
         path,
-        form: form_in(arguments, false),
+        form: form_in(arguments, End::Survey),
         survey: Survey::new(),
     };
     let summary = count_values(rt, &mut counter, arguments, &progress)?;

@@ -10,11 +10,12 @@ returns-then-not-stays_sorted-clause-fault g c =
     rw c.fault_at.ensures (
       refl,
       (
-        c.in_ok-number.ensures,
+        (rw c.last_number-before.ensures at c.in_ok-number.ensures.later),
         next_unsorted (g.L.LineWorker.rule c.args.worker.now) c.args.form
-            (g.R.Read.remaining c.args.reader.now) (g.R.Read.remaining c.answer_next.new.reader)
-            (option_map (λ h. h.now) c.args.last) c.in-Rows.lines c.in_ok-head-in-Rows.head
-            (rw c.in-Rows.is at c.in_ok-lines.ensures.answer)
+            (option_map (λ h. h.now) c.args.last)
+            (g.R.Read.remaining c.args.reader.now) (g.R.Read.remaining c.next_answer.new.reader)
+            c.in-Rows.lines c.in_ok-head-in-Rows.head c.in_ok-number.field-0.number
+            (rw (c.last_number-before.ensures, c.in-Rows.is) at c.in_ok-number.ensures.answer)
             (rw c.deref.ensures.value at c.in_ok-head-in-Rows.ensures.row) not,
       ),
     )
@@ -24,10 +25,11 @@ returns-in-Wrong-clause-fault g c =
     rw c.fault_at-in-Wrong.ensures (
       refl,
       (
-        c.in_ok-number.ensures,
+        (rw c.last_number-before.ensures at c.in_ok-number.ensures.later),
         next_wrong (g.L.LineWorker.rule c.args.worker.now) c.args.form
-            (g.R.Read.remaining c.args.reader.now) (g.R.Read.remaining c.answer_next.new.reader)
-            (option_map (λ h. h.now) c.args.last) c.in-Wrong.fault
-            (rw c.in-Wrong.is at c.in_ok-lines.ensures.answer),
+            (option_map (λ h. h.now) c.args.last)
+            (g.R.Read.remaining c.args.reader.now) (g.R.Read.remaining c.next_answer.new.reader)
+            c.in_ok-number.field-0.number c.in-Wrong.fault
+            (rw (c.last_number-before.ensures, c.in-Wrong.is) at c.in_ok-number.ensures.answer),
       ),
     )
