@@ -6,14 +6,14 @@ import os
 import shutil
 
 from provers import rt, rtlib
-from rattle import TOP, text_of
+from rattle import text_of
 
 FOLDER = os.environ.get("XDG_CACHE_HOME") or os.path.expanduser("~/.cache")
 FOLDER = f"{FOLDER}/kohiblad"
 # How many archives of the library for C stay.
 ARCHIVES = 4
-# What all sums rest on: the kit, and the crates and what each names.
-KIT = [text_of(f"{rtlib.KIT}/KIT-ID"), text_of(f"{TOP}/crates.txt")]
+# What all sums rest on.
+KIT = text_of(f"{rtlib.KIT}/KIT-ID")
 
 
 def sum_of(*parts):
@@ -26,9 +26,11 @@ def sum_of(*parts):
 
 
 def sum_of_crate(crate):
-    """The sum of a crate's files and of those of the libraries below it."""
-    parts = list(KIT)
+    """The sum of the kit, of a crate's files and of those of the libraries below it, and of what each
+    of them names."""
+    parts = [KIT]
     for it in [crate, *sorted(crate.below(), key=lambda below: below.name)]:
+        parts.append(repr(it.said))
         for path in sorted(rtlib.files_of(it.folder)):
             parts += [os.path.relpath(path, it.folder), text_of(path)]
     return sum_of(crate.name, *parts)
