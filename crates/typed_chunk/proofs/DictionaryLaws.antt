@@ -30,7 +30,7 @@ all_blank [] count = refl
 all_blank (text ∷ texts) zero = refl
 all_blank (text ∷ texts) (suc count) = all_blank texts count
 
-all_with : (start : List ℕ) (tails : List (List ℕ))
+pub all_with : (start : List ℕ) (tails : List (List ℕ))
     → with_beginning start tails (replicate (length tails) true)
     ≡ map (λ tail. start ++ tail) tails
 all_with start [] = refl

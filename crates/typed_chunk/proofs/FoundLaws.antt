@@ -98,14 +98,14 @@ or_left : (a b : Bool) → (a || b) ≡ true → a ≡ false → b ≡ true
 or_left true b is none = cc
 or_left false b is none = is
 
-below_count : (entries : List (List ℕ)) (place : ℕ) (places : List ℕ)
+pub below_count : (entries : List (List ℕ)) (place : ℕ) (places : List ℕ)
     → list_all (λ place. nat_lt place (length entries)) (place ∷ places) ≡ true
     → place < length entries
 below_count entries place places low =
     ltb-true place (length entries) (front_true (nat_lt place (length entries))
     (list_all (λ place. nat_lt place (length entries)) places) low)
 
-below_rest : (entries : List (List ℕ)) (place : ℕ) (places : List ℕ)
+pub below_rest : (entries : List (List ℕ)) (place : ℕ) (places : List ℕ)
     → list_all (λ place. nat_lt place (length entries)) (place ∷ places) ≡ true
     → list_all (λ place. nat_lt place (length entries)) places ≡ true
 below_rest entries place places low =
@@ -146,7 +146,7 @@ at_has entries (place ∷ places) text inside there = elim there [
   | inr behind ↦ at_has entries places text (below_rest entries place places inside) behind
 ]
 
-inside_set : (entries : List (List ℕ)) (places : List ℕ) (has : List Bool)
+pub inside_set : (entries : List (List ℕ)) (places : List ℕ) (has : List Bool)
     → list_all (λ place. nat_lt place (length entries)) places ≡ true
     → list_all (λ place. nat_lt place (length entries)) (set_values places has) ≡ true
 inside_set entries [] has inside = refl

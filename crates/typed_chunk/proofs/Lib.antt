@@ -25,3 +25,6 @@ pub mod ValueLaws
 pub mod SizeLaws
 pub mod NumberReadLaws
 pub mod TextChunkLaws
+pub mod TextChunkReadLaws
+pub mod BooleanLaws
+pub mod BooleanReadLaws

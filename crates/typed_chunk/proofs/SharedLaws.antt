@@ -27,7 +27,7 @@ same-front (x ∷ start) text other =
     (eq-eqb x x refl)
     ∙ omega (arith, same-front start text other)
 
-shared-front : (start text other : List ℕ)
+pub shared-front : (start text other : List ℕ)
     → shared (start ++ text) (start ++ other) ≡ start ++ shared text other
 shared-front start text other =
     ap (λ (n : ℕ). take n (start ++ text)) (same-front start text other)

@@ -97,7 +97,7 @@ shared_fault : (size : ℕ) (tails : List (List ℕ)) (has : List Bool) → are_
     → rows_fault size tails has ≡ Some NotLongestBeginning
 shared_fault size tails has blank some = rw (blank, some) refl
 
-no_length : (xs : List ℕ) → length xs ≡ 0 → xs ≡ []
+pub no_length : (xs : List ℕ) → length xs ≡ 0 → xs ≡ []
 no_length [] none = refl
 no_length (x ∷ xs) none = absurd (omega (arith, none))
 

@@ -1,5 +1,6 @@
 -- Examples of codes and of texts in bytes.
 use Rattle.std.specs.Prelude.{◌≡◌, [], ◌∷◌, false, pos, true}
+use Rattle.typed_chunk.specs.BooleanChunk.{boolean_chunk}
 use Rattle.typed_chunk.specs.Dictionary.{dictionary_bytes}
 use Rattle.typed_chunk.specs.Headed.{headed}
 use Rattle.typed_chunk.specs.NumberChunk.{number_chunk}
@@ -63,3 +64,12 @@ pub record TextChunkExamples : Type 0 where
       (true ∷ true ∷ true ∷ [])
       ≡ 1 ∷ 0 ∷ 0 ∷ 0 ∷ 0 ∷ 0 ∷ 0 ∷ 2 ∷ 1 ∷ 1 ∷ 2 ∷ 2 ∷ 1 ∷ 1 ∷ []
   pub of_none : text_chunk ([] ∷ [] ∷ []) (false ∷ false ∷ []) ≡ 0 ∷ []
+
+-- Chunks of booleans: beside a row that has none, where all are alike, and of rows of which none
+-- has one.
+pub record BooleanChunkExamples : Type 0 where
+  pub beside_none : boolean_chunk (true ∷ false ∷ true ∷ true ∷ true ∷ [])
+      (true ∷ true ∷ false ∷ true ∷ true ∷ []) ≡ 2 ∷ 0x1b ∷ 0 ∷ 1 ∷ 0 ∷ 0x19 ∷ []
+  pub alike : boolean_chunk (true ∷ false ∷ true ∷ []) (true ∷ false ∷ true ∷ [])
+      ≡ 2 ∷ 5 ∷ 0 ∷ 0 ∷ 1 ∷ []
+  pub of_none : boolean_chunk (true ∷ false ∷ []) (false ∷ false ∷ []) ≡ 0 ∷ []

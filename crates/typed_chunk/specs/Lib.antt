@@ -1,3 +1,4 @@
+pub mod BooleanChunk
 pub mod Dictionary
 pub mod Digits
 pub mod Entries
@@ -10,6 +11,8 @@ pub mod NumberReading
 pub mod Packed
 pub mod Places
 pub mod Rising
+pub mod RowTexts
 pub mod TextChunk
+pub mod TextChunkReading
 pub mod TextReading
 pub mod Texts

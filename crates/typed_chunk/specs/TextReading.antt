@@ -1,5 +1,6 @@
 -- Texts as their bytes tell them.
-use Rattle.std.specs.Prelude.{ℕ, ◌+◌, ◌-◌, ◌++◌, ◌==◌, Bool, true, false, not, List, [], ◌∷◌}
+use Rattle.std.specs.Prelude.{◌≡◌, ◌≤◌, ℕ, ◌+◌, ◌-◌, ◌++◌, ◌==◌, Bool, true, false, not, List, []}
+use Rattle.std.specs.Prelude.{◌∷◌}
 use Rattle.std.specs.Prelude.{Option, Some, None, drop, if◌then◌else◌, length, nat_le, nat_lt}
 use Rattle.std.specs.Prelude.{slice_index, sum, take}
 use Rattle.typed_chunk.specs.Frame.{naturals_fault, numbers_in}
@@ -81,3 +82,8 @@ texts_fault has [] = Some WrongLength
 texts_fault has (size ∷ bytes) =
     if nat_lt (length bytes) size then Some WrongLength
     else begun_fault size has (drop size bytes)
+
+-- Texts begin so, with at most 255 bytes, and behind that they are as they are written.
+pub record AreBegun (start : List ℕ) (tails : List (List ℕ)) (has : List Bool) : Type 0 where
+  pub low : length start ≤ 255
+  pub form : rows_fault (length start) tails has ≡ None

@@ -6,7 +6,7 @@ ghost use Rattle.std.specs.Result.{result_err};
 ghost use Rattle.typed_chunk.specs.Dictionary.{dictionary_bytes, dictionary_fault, entry_bytes};
 ghost use Rattle.typed_chunk.specs.Places.{places_fault};
 ghost use Rattle.typed_chunk.specs.Texts.{AreSpans};
-ghost use Rattle.typed_chunk.specs.TextReading.{texts_fault, with_beginning};
+ghost use Rattle.typed_chunk.specs.TextReading.{AreBegun, texts_fault, with_beginning};
 ghost use Rattle.typed_chunk.specs.declared.fault.ChunkFault.{ChunkFault};
 ghost use Rattle.typed_vector.specs.Cells.{rows};
 
@@ -59,6 +59,10 @@ pub fn read_dictionary<'a>(
         read.start.now (rows read.tails.now offsets.new) (replicate (length all.old) true)
         ≡ entries) }
     ensures spans { IfOk result (λ read. AreSpans (length read.tails.now) offsets.new) }
+    ensures form { IfOk result (λ read. AreBegun read.start.now
+        (rows read.tails.now offsets.new) (replicate (length all.old) true)) }
+    ensures places { IfOk result (λ read.
+        places_fault (rows read.tails.now offsets.new) places.new has.now ≡ None) }
     ensures ok { IfOk result (λ read. bytes.now ≡ dictionary_bytes
         (with_beginning read.start.now (rows read.tails.now offsets.new)
         (replicate (length all.old) true)) places.new) }

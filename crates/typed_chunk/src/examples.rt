@@ -1,6 +1,7 @@
 //! Examples of the definitions, which the prover checks.
 
-ghost use Rattle.typed_chunk.specs.Examples.{DictionaryExamples, HeadedExamples};
+ghost use Rattle.typed_chunk.specs.Examples.{BooleanChunkExamples, DictionaryExamples};
+ghost use Rattle.typed_chunk.specs.Examples.{HeadedExamples};
 ghost use Rattle.typed_chunk.specs.Examples.{NumberChunkExamples, PackedExamples};
 ghost use Rattle.typed_chunk.specs.Examples.{TextChunkExamples, TextExamples, WidthExamples};
 
@@ -14,4 +15,5 @@ fn examples()
     ensures dictionary { DictionaryExamples }
     ensures numbers { NumberChunkExamples }
     ensures text_chunks { TextChunkExamples }
+    ensures booleans { BooleanChunkExamples }
 {}

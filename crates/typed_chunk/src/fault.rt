@@ -1,5 +1,10 @@
 //! What is wrong with the bytes of a chunk.
 
+ghost use Rattle.std.specs.Prelude.{◌≡◌};
+ghost use Rattle.typed_chunk.specs.declared.fault.ReadError.TheVariants.{OutOfMemory, Refused};
+
+use std::alloc::AllocError;
+
 /// Why bytes are no chunk.
 #[derive(Clone, Copy, Debug, PartialEq, Eq)]
 pub enum ChunkFault {
@@ -37,4 +42,29 @@ pub enum ChunkFault {
     NumberOfNoValue,
     /// The values take fewer bytes by another kind, or as many by an earlier one.
     NotShortestKind,
+}
+
+/// Why a chunk is not read.
+#[derive(Clone, Copy, Debug, PartialEq, Eq)]
+pub enum ReadError {
+    /// The bytes are no chunk.
+    Refused(ChunkFault),
+    /// Memory is refused.
+    OutOfMemory,
+}
+
+impl From<ChunkFault> for ReadError {
+    ghost from_gives = { λ fault error. error ≡ Refused fault };
+
+    fn from(fault: ChunkFault) -> ReadError {
+        ReadError::Refused(fault)
+    }
+}
+
+impl From<AllocError> for ReadError {
+    ghost from_gives = { λ _ error. error ≡ OutOfMemory };
+
+    fn from(_error: AllocError) -> ReadError {
+        ReadError::OutOfMemory
+    }
 }

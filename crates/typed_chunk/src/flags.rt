@@ -179,7 +179,7 @@ fn write_bits(has: &[bool], codes: &mut [u64])
 }
 
 // Writes which rows have a value by their codes.
-fn write_rows(codes: &[u64], has: &mut [bool])
+pub(crate) fn write_rows(codes: &[u64], has: &mut [bool])
     requires { length has.old ≡ length codes.now }
     ensures { has.new ≡ rows_of codes.now }
 {

@@ -92,7 +92,7 @@ fn read_values(
 }
 
 // Whether no row has a number, so that there are no bytes behind the flags.
-fn check_no_bytes(has: &[bool]) -> Result<(), ChunkFault>
+pub(crate) fn check_no_bytes(has: &[bool]) -> Result<(), ChunkFault>
     ensures { result_err result ≡ values_fault has.now [] }
 {
     if some_has(has) {

@@ -57,7 +57,7 @@ fn texts_ascend(texts: &[u8], offsets: &[usize]) -> bool
 }
 
 // Whether each place is below the number of entries.
-fn all_below(places: &[u64], count: usize) -> bool
+pub(crate) fn all_below(places: &[u64], count: usize) -> bool
     ensures { result ≡ list_all (λ place. nat_lt place count) places.now }
 {
     for place in places {

@@ -1,8 +1,11 @@
 //! Tests of bytes that a model of the form in another language wrote.
 
+ghost use Rattle.std.specs.Prelude.{◌≡◌, ◌≤◌, ◌<◌, ◌^◌, length};
+
 use crate::{
-    ChunkFault, append_dictionary, append_number_chunk, append_text_chunk, append_texts,
-    append_whole_texts, find_dictionary, read_dictionary, read_number_chunk, read_texts,
+    ChunkFault, ChunkTexts, ReadError, append_boolean_chunk, append_dictionary,
+    append_number_chunk, append_text_chunk, append_texts, append_whole_texts, find_dictionary,
+    read_boolean_chunk, read_dictionary, read_number_chunk, read_text_chunk, read_texts,
 };
 use std::alloc::{AllocError, Global};
 use std::test::Fail;
@@ -190,4 +193,117 @@ fn chunks_of_texts(rt: HostRuntime) -> Result<(), Fail> {
     append_text_chunk(alloc, &mut none, &[], &[0, 0, 0], &[false; 2], &mut [0; 2])?;
     assert_eq!(rt; none.as_slice(), b"\0".as_slice());
     Ok(())
+}
+
+// What was read, or why not; memory that is refused is handed on.
+fn read<'a>(
+    alloc: Global,
+    bytes: &'a [u8],
+    has: &mut [bool],
+    codes: &mut [u64],
+    offsets: &mut [usize],
+) -> Result<Result<ChunkTexts<'a>, ChunkFault>, AllocError>
+    requires some { 0 < length has.old }
+    requires few { length has.old ≤ 7 }
+    requires short { length bytes.now < 2 ^ 32 }
+    requires codes { length codes.old ≡ length has.old }
+    requires offsets { length offsets.old ≡ 257 }
+{
+    let mut lengths = [0; 7];
+    let lengths = &mut lengths[..has.len()];
+    match read_text_chunk(alloc, bytes, has, codes, lengths, offsets) {
+        Ok(texts) => Ok(Ok(texts)),
+        Err(ReadError::Refused(fault)) => Ok(Err(fault)),
+        Err(ReadError::OutOfMemory) => Err(AllocError),
+    }
+}
+
+#[test]
+fn chunks_of_texts_are_read(rt: HostRuntime) -> Result<(), Fail> {
+    let (mut has, mut codes, mut offsets) = ([false; 4], [9; 4], [9; 257]);
+    let bytes = b"\x02\x0d\x00\x05town-\x02\x00\x00\x00\x00\x31abcd".as_slice();
+    match read(rt.alloc(), bytes, &mut has, &mut codes, &mut offsets)? {
+        Ok(ChunkTexts::Plain(texts)) => {
+            assert_eq!(rt; texts.start, b"town-".as_slice());
+            assert_eq!(rt; texts.tails, b"abcd".as_slice());
+        }
+        _ => assert!(rt; false),
+    }
+    assert_eq!(rt; has, HAS);
+    assert_eq!(rt; &offsets[..5], [0, 1, 1, 4, 4].as_slice());
+    Ok(())
+}
+
+#[test]
+fn chunks_of_dictionaries_are_read(rt: HostRuntime) -> Result<(), Fail> {
+    let (mut has, mut codes, mut offsets) = ([false; 7], [9; 7], [9; 257]);
+    match read(rt.alloc(), CODED, &mut has, &mut codes, &mut offsets)? {
+        Ok(ChunkTexts::Coded { entries, count }) => {
+            assert_eq!(rt; entries.tails, b"lundmalmoystad".as_slice());
+            assert_eq!(rt; count, 3);
+        }
+        _ => assert!(rt; false),
+    }
+    assert_eq!(rt; has, ROWS_HAVE);
+    assert_eq!(rt; codes, [1, 0, 0, 2, 0, 1, 0]);
+    assert_eq!(rt; &offsets[..4], [0, 4, 9, 14].as_slice());
+    Ok(())
+}
+
+// The rows of `CODED` as they are, and three rows as a dictionary that takes as many bytes.
+const UNCODED: &[u8] = b"\x02\x7b\x00\x00\x04\x00\x00\x00\x00EPT\x04malmolundystadlundmalmolund";
+
+const AS_SHORT: &[u8] = b"\x01\x02\x01\x00\x00\x00\x00\x00\x02aabb\x02";
+
+#[test]
+fn longer_kinds_of_texts_are_refused(rt: HostRuntime) -> Result<(), Fail> {
+    let alloc = rt.alloc();
+    let mut offsets = [9; 257];
+    let found = read(alloc, UNCODED, &mut [false; 7], &mut [9; 7], &mut offsets)?;
+    assert!(rt; matches!(found, Err(ChunkFault::NotShortestKind)));
+    let found = read(alloc, AS_SHORT, &mut [false; 3], &mut [9; 3], &mut offsets)?;
+    assert!(rt; matches!(found, Err(ChunkFault::NotShortestKind)));
+    Ok(())
+}
+
+// Booleans beside a row that has none, and the chunk of three that are all true.
+const BOOLEANS: &[u8] = b"\x02\x1b\x00\x01\x00\x19";
+
+const ALL_TRUE: &[u8] = b"\x01\x00\x00\x01";
+
+#[test]
+fn chunks_of_booleans(rt: HostRuntime) -> Result<(), Fail> {
+    let mut some = Vec::new(rt.alloc());
+    let has = [true, true, false, true, true];
+    append_boolean_chunk(
+        &mut some,
+        &[true, false, false, true, true],
+        &has,
+        &mut [0; 5],
+    )?;
+    assert_eq!(rt; some.as_slice(), BOOLEANS);
+    let mut all = Vec::new(rt.alloc());
+    append_boolean_chunk(&mut all, &[true; 3], &[true; 3], &mut [0; 3])?;
+    assert_eq!(rt; all.as_slice(), ALL_TRUE);
+    let mut none = Vec::new(rt.alloc());
+    append_boolean_chunk(&mut none, &[true; 2], &[false; 2], &mut [0; 2])?;
+    assert_eq!(rt; none.as_slice(), b"\0".as_slice());
+    Ok(())
+}
+
+#[test]
+fn chunks_of_booleans_are_read(rt: HostRuntime) {
+    let (mut has, mut values) = ([false; 5], [true; 5]);
+    assert!(rt; read_boolean_chunk(BOOLEANS, &mut [9; 5], &mut has, &mut values).is_ok());
+    assert_eq!(rt; has, [true, true, false, true, true]);
+    assert_eq!(rt; values, [true, false, false, true, true]);
+    let (mut has, mut values) = ([false; 3], [false; 3]);
+    assert!(rt; read_boolean_chunk(ALL_TRUE, &mut [9; 3], &mut has, &mut values).is_ok());
+    assert_eq!(rt; has, [true; 3]);
+    assert_eq!(rt; values, [true; 3]);
+    let two = b"\x01\x00\x00\x02".as_slice();
+    assert_eq!(rt;
+        read_boolean_chunk(two, &mut [9; 3], &mut has, &mut values),
+        Err(ChunkFault::ValueOutOfRange)
+    );
 }

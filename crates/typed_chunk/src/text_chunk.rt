@@ -4,6 +4,7 @@ ghost use Rattle.std.specs.Prelude.{◌≡◌, ◌<◌, ◌≤◌, ◌^◌, ◌+
 ghost use Rattle.std.specs.Prelude.{if◌then◌else◌, is_ok, length, take};
 ghost use Rattle.typed_chunk.specs.Dictionary.{dictionary_bytes};
 ghost use Rattle.typed_chunk.specs.Flags.{some_has};
+ghost use Rattle.typed_chunk.specs.RowTexts.{AreTexts};
 ghost use Rattle.typed_chunk.specs.TextChunk.{text_chunk, text_kind};
 ghost use Rattle.typed_chunk.specs.TextReading.{are_blank};
 ghost use Rattle.typed_chunk.specs.Texts.{AreSpans, text_bytes};
@@ -33,11 +34,8 @@ pub fn append_text_chunk(
     has: &[bool],
     codes: &mut [u64],
 ) -> Result<(), AllocError>
-    requires few { length has.now < 2 ^ 57 }
-    requires spans { AreSpans (length texts.now) offsets.now }
-    requires many { length offsets.now ≡ length has.now + 1 }
+    requires texts { AreTexts (length texts.now) offsets.now (length has.now) }
     requires blank { IsTrue (are_blank (rows texts.now offsets.now) has.now) }
-    requires short { length texts.now < 2 ^ 32 }
     requires room { length codes.old ≡ length has.now }
     ensures { out.new.items ≡ (if is_ok result
         then out.old.items ++ text_chunk (rows texts.now offsets.now) has.now
@@ -62,10 +60,7 @@ fn append_parts(
     has: &[bool],
     codes: &mut [u64],
 ) -> Result<(), AllocError>
-    requires few { length has.now < 2 ^ 57 }
-    requires spans { AreSpans (length texts.now) offsets.now }
-    requires many { length offsets.now ≡ length has.now + 1 }
-    requires short { length texts.now < 2 ^ 32 }
+    requires texts { AreTexts (length texts.now) offsets.now (length has.now) }
     requires room { length codes.old ≡ length has.now }
     ensures ok { OnOk result (out.new.items
         ≡ out.old.items ++ text_chunk (rows texts.now offsets.now) has.now) }
@@ -89,10 +84,7 @@ fn append_kind(
     codes: &mut [u64],
 ) -> Result<(), AllocError>
     requires some { IsTrue (some_has has.now) }
-    requires few { length has.now < 2 ^ 57 }
-    requires spans { AreSpans (length texts.now) offsets.now }
-    requires many { length offsets.now ≡ length has.now + 1 }
-    requires short { length texts.now < 2 ^ 32 }
+    requires texts { AreTexts (length texts.now) offsets.now (length has.now) }
     requires room { length codes.old ≡ length has.now }
     ensures ok { OnOk result (out.new.items
         ≡ out.old.items ++ text_kind (rows texts.now offsets.now) has.now) }

@@ -7,7 +7,8 @@ ghost use Rattle.typed_vector.specs.Cells.{rows};
 ghost use Rattle.typed_chunk.specs.Flags.{some_has};
 ghost use Rattle.typed_chunk.specs.Frame.{frame, naturals_fault, numbers_in, unsigned_word};
 ghost use Rattle.typed_chunk.specs.Texts.{AreSpans, text_bytes};
-ghost use Rattle.typed_chunk.specs.TextReading.{are_blank, begun_fault, behind_frame, frame_before};
+ghost use Rattle.typed_chunk.specs.TextReading.{AreBegun, are_blank, begun_fault, behind_frame};
+ghost use Rattle.typed_chunk.specs.TextReading.{frame_before};
 ghost use Rattle.typed_chunk.specs.TextReading.{frame_len, offsets_of, rows_fault, sum_fault};
 ghost use Rattle.typed_chunk.specs.TextReading.{texts_fault, with_beginning};
 
@@ -57,6 +58,8 @@ pub fn read_texts<'a>(
     requires ends { length offsets.old ≡ length has.now + 1 }
     ensures fault { result_err result ≡ texts_fault has.now bytes.now }
     ensures spans { IfOk result (λ read. AreSpans (length read.tails.now) offsets.new) }
+    ensures form { IfOk result (λ read.
+        AreBegun read.start.now (rows read.tails.now offsets.new) has.now) }
     ensures ok { IfOk result (λ read. bytes.now ≡ text_bytes
         (with_beginning read.start.now (rows read.tails.now offsets.new) has.now) has.now
         ++ read.rest.now) }
@@ -92,6 +95,8 @@ fn read_begun<'a>(
     requires ends { length offsets.old ≡ length has.now + 1 }
     ensures fault { result_err result ≡ begun_fault (length start.now) has.now bytes.now }
     ensures spans { IfOk result (λ read. AreSpans (length read.tails.now) offsets.new) }
+    ensures form { IfOk result (λ read.
+        AreBegun read.start.now (rows read.tails.now offsets.new) has.now) }
     ensures ok { IfOk result (λ read. length start.now ∷ (start.now ++ bytes.now) ≡ text_bytes
         (with_beginning read.start.now (rows read.tails.now offsets.new) has.now) has.now
         ++ read.rest.now) }

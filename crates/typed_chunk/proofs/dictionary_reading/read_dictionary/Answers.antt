@@ -8,7 +8,7 @@ use Rattle.typed_chunk.specs.Flags.{some_has}
 use Rattle.typed_chunk.specs.Packed.{bits, least_width, packed}
 use Rattle.typed_chunk.specs.Places.{places_fault}
 use Rattle.typed_chunk.specs.Texts.{text_bytes}
-use Rattle.typed_chunk.specs.TextReading.{are_blank, texts_fault, with_beginning}
+use Rattle.typed_chunk.specs.TextReading.{AreBegun, are_blank, texts_fault, with_beginning}
 use Rattle.typed_chunk.proofs.DictionaryLaws.{all_blank, are_packed, bytes_of, codes_left}
 use Rattle.typed_chunk.proofs.DictionaryLaws.{entries_behind, places_front, places_left}
 use Rattle.std.proofs.Common.{refl}
@@ -262,3 +262,12 @@ returns-clause-back c = λ entries items many each none is.
       ap (λ (bs : List Bool). with_beginning c.in_ok-read.read.start.now tails bs)
           (sym c.set_all.ensures) ∙ back.1.0,
     )
+
+pub returns-clause-form : goal.returns-clause-form
+returns-clause-form c =
+    subst (λ bs. AreBegun c.in_ok-read.read.start.now
+    (rows c.in_ok-read.read.tails.now c.read_texts.new.offsets) bs) c.set_all.ensures
+    c.in_ok-read.ensures.form
+
+pub returns-clause-places : goal.returns-clause-places
+returns-clause-places c = sym c.in_ok-check_places.ensures

@@ -50,12 +50,10 @@ pub returns-then-kind-eq0-clause-unset : goal.returns-then-kind-eq0-clause-unset
 returns-then-kind-eq0-clause-unset c = c.in_ok-read_packed.ensures.ok.unset
 
 pub returns-then-kind-eq0-clause-back : goal.returns-then-kind-eq0-clause-back
-returns-then-kind-eq0-clause-back c = λ items many fit is same. (
-  refl,
-  (c.in_ok-read_packed.ensures.back items many fit
-      (packed c.args.has.now items c.args.kind c.args.bytes.now c.requires.some many (omega arith) is
-      same)).1,
-)
+returns-then-kind-eq0-clause-back c = λ items many fit is same.
+    let are = packed c.args.has.now items c.args.kind c.args.bytes.now c.requires.some many
+    (omega arith) is same in
+    (refl, (c.in_ok-read_packed.ensures.back items many fit are).1)
 
 pub returns-in_err-read_risen-clause-back : goal.returns-in_err-read_risen-clause-back
 returns-in_err-read_risen-clause-back c = λ items many fit is same.

@@ -11,8 +11,8 @@ append_coded-requires-clause-some c =
     let entries = rows c.in-Some.entries.texts.items c.in-Some.entries.offsets.items in
     let many : length texts ≡ length c.args.has.now = omega (
       arith,
-      many_spans c.args.texts.now c.args.offsets.now c.requires.spans,
-      c.requires.many,
+      many_spans c.args.texts.now c.args.offsets.now c.requires.texts.spans,
+      c.requires.texts.many,
     ) in
     omega (
       arith,
@@ -53,8 +53,8 @@ returns-in-Some-clause-ok c =
     let entries = rows c.in-Some.entries.texts.items c.in-Some.entries.offsets.items in
     let many : length texts ≡ length c.args.has.now = omega (
       arith,
-      many_spans c.args.texts.now c.args.offsets.now c.requires.spans,
-      c.requires.many,
+      many_spans c.args.texts.now c.args.offsets.now c.requires.texts.spans,
+      c.requires.texts.many,
     ) in
     c.in_ok-append_coded.ensures.ok
     ∙ ap₂ (λ (b os : List ℕ). c.args.out.now.items

@@ -119,3 +119,7 @@ returns-clause-back c = λ items rest many blank is.
         c.behind-rest.ensures ∙ ap (λ (n : ℕ). drop n behind) c.in_ok-size.ensures.size ∙ r.left,
       ),
     )
+
+pub returns-clause-form : goal.returns-clause-form
+returns-clause-form c =
+    record { low = c.requires.low; form = sym c.in_ok-check_tails.ensures }
