@@ -226,7 +226,7 @@ module _ {W : Type 0} (rule : W → LineRule) (after : W → List ℕ → W) (ke
       → AnswersNext (rule v) plan.form left new End
       → u ≡ after_answer after v End
       → IfSome input (λ i. IsRun (rule w) after w u plan i o p e f
-      (record { rows = rows; faults = faults; is_stopped = false }))
+      (record { rows = rows; faults = faults; is_stopped = false; lacks_input = false }))
   run_ends None left new u so_far read same = tt
   run_ends (Some input) None new u so_far read same = absurd so_far
   run_ends (Some input) (Some left) None u so_far read same = absurd read
@@ -242,6 +242,7 @@ module _ {W : Type 0} (rule : W → LineRule) (after : W → List ℕ → W) (ke
     whole = λ on. empty;
     rows = t.rows_are;
     faults = t.faults_are;
+    lacks = refl;
   }
 
   -- a row gave rows, which were appended
@@ -340,7 +341,7 @@ module _ {W : Type 0} (rule : W → LineRule) (after : W → List ℕ → W) (ke
       → Appends f h (fault_line plan.name.now (before + 1) fault)
       → stops_at plan (Err fault) ≡ true
       → IfSome input (λ i. IsRun (rule w) after w u plan i o q e h
-      (record { rows = rows; faults = faults + 1; is_stopped = true }))
+      (record { rows = rows; faults = faults + 1; is_stopped = true; lacks_input = false }))
   run_halts None left new q h u fault so_far answer same kept appends stops = tt
   run_halts (Some input) None new q h u fault so_far answer same kept appends stops = absurd so_far
   run_halts (Some input) (Some left) None q h u fault t answer same kept appends stops =
@@ -362,6 +363,7 @@ module _ {W : Type 0} (rule : W → LineRule) (after : W → List ℕ → W) (ke
         whole = λ on. absurd cc;
         rows = omega (arith, t.rows_are, more_rows);
         faults = omega (arith, t.faults_are, more_faults);
+        lacks = refl;
       }
 
   -- only a prefix of the report was appended

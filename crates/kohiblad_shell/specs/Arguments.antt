@@ -1,8 +1,6 @@
 -- What commands read of their arguments.
 use Rattle.std.specs.Prelude.{◌≡◌, ◌&&◌, ◌||◌, ℕ, Bool, true, false, List, [], Option, None, Some}
-use Rattle.std.specs.Prelude.{◌++◌, ◌∷◌, ◌*◌, ◌+◌, ◌-◌, ◌<◌, ◌^◌, codes, length, option_map}
-use Rattle.std.specs.Prelude.{if◌then◌else◌, ◌⊎◌}
-use Rattle.std.specs.Char.{is_ascii_digit}
+use Rattle.std.specs.Prelude.{codes, if◌then◌else◌, option_map}
 use Rattle.std.specs.Str.{bytes_eq}
 use Rattle.clap.specs.Matches.{first_value, found_of, matched_of, one_text, raw_values}
 use Rattle.clap.specs.declared.parser.matches.ArgMatches.{ArgMatches}
@@ -16,6 +14,8 @@ use Rattle.kohiblad_shell.specs.declared.operation.TextLayout.TheVariants.{Compa
 use Rattle.kohiblad_shell.specs.declared.operation.Style.{Style}
 use Rattle.kohiblad_shell.specs.declared.operation.Style.TheVariants.{Raw}
 use Rattle.kohiblad_shell.specs.declared.operation.Style.TheVariants as styles
+use Rattle.kohiblad_shell.specs.declared.table_text.TableLayout.{TableLayout}
+use Rattle.kohiblad_shell.specs.declared.table_text.TableLayout.TheVariants.{Csv, Tsv}
 use Rattle.kohiblad_shell.specs.declared.operand_kind.ValueKind.{ValueKind}
 use Rattle.kohiblad_shell.specs.declared.operand_kind.ValueKind.TheVariants.{Json, Text}
 
@@ -32,44 +32,6 @@ value_of arguments id = text_or_empty (first_value (found_of arguments) id)
 abbrev pub text_or : List ℕ → Option (List ℕ) → List ℕ
 text_or other None = other
 text_or other (Some text) = text
-
--- The number that digits spell after a number, or none if they are no digits.
-abbrev pub digits_value : ℕ → List ℕ → Option ℕ
-digits_value n [] = Some n
-digits_value n (b ∷ bs) = if is_ascii_digit b then digits_value (n * 10 + (b - 48)) bs else None
-
--- What a unit says: one, or so many times 1,024.
-pub data IsUnit : List ℕ → ℕ → Type 0 where
-  bytes : IsUnit [] 1
-  kilobytes : IsUnit (codes "K") (2 ^ 10)
-  megabytes : IsUnit (codes "M") (2 ^ 20)
-  gigabytes : IsUnit (codes "G") (2 ^ 30)
-
--- The number of these digits, of which there are some, times a factor.
-pub record IsScaled (digits : List ℕ) (factor size : ℕ) : Type 0 where
-  pub number : ℕ
-  pub some : 0 < length digits
-  pub spells : digits_value 0 digits ≡ Some number
-  pub is : size ≡ number * factor
-
--- The text says a number: that of its digits, times its unit.
-pub record IsCount (text : List ℕ) (size : ℕ) : Type 0 where
-  pub digits : List ℕ
-  pub unit : List ℕ
-  pub factor : ℕ
-  pub parts : text ≡ digits ++ unit
-  pub means : IsUnit unit factor
-  pub scaled : IsScaled digits factor size
-
--- The text says a size: a number, and after it a `B` or nothing.
-abbrev pub IsSize : List ℕ → ℕ → Type 0
-IsSize text size = IsCount text size
-    ⊎ ((count : List ℕ) × ((text ≡ count ++ codes "B") × IsCount count size))
-
--- The size of memory that a text says, or 1 GiB if there is none.
-abbrev pub IsMemory : Option (List ℕ) → ℕ → Type 0
-IsMemory None size = size ≡ 2 ^ 30
-IsMemory (Some text) size = IsSize text size
 
 -- All values of an argument, if it has any.
 abbrev pub values_of : ArgMatches → List ℕ → Option (List (List ℕ))
@@ -109,10 +71,20 @@ abbrev pub are_documents : Form → Bool
 are_documents Documents = true
 are_documents (Lines reading) = false
 
+-- Whether rows are values one after another.
+abbrev pub are_values : Form → Bool
+are_values Documents = false
+are_values (Lines reading) = reading.are_values
+
 -- Whether each item and member has a line of its own.
 abbrev pub is_pretty : TextLayout → Bool
 is_pretty Pretty = true
 is_pretty Compact = false
+
+-- Whether values have tabs between them.
+abbrev pub is_tsv : TableLayout → Bool
+is_tsv Tsv = true
+is_tsv Csv = false
 
 -- Whether a run stops at a wrong line, by the word for it, or if there is none as is usual.
 abbrev pub stops_of : Option (List ℕ) → Bool → Bool

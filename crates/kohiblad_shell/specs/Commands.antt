@@ -31,7 +31,7 @@ operation_of commands.Pick (given.Names names) = Some (operations.Change (change
 operation_of commands.Set (given.Steps path value) =
     Some (operations.Change (changes.Set path value))
 operation_of commands.Remove (given.Removed paths) = Some (operations.Remove paths)
-operation_of commands.Extract (given.Columns columns) = Some (operations.Extract columns)
+operation_of commands.Extract (given.Table table) = Some (operations.Extract table)
 operation_of commands.Build (given.Template template) = Some (operations.Build template)
 operation_of commands.Range (given.Range range) = Some (operations.Range range)
 operation_of commands.Grep (given.Search search) = Some (operations.Grep search)
@@ -41,11 +41,6 @@ operation_of commands.ComparableKeys (given.Keys paths) = Some (operations.Key p
 operation_of commands.Sort (given.Keys paths) = Some (operations.Sort paths)
 operation_of commands.MergeSorted (given.Keys paths) = Some (operations.Sort paths)
 operation_of command operands = None
-
--- Whether a command that ends so says what could have come where a line is wrong.
-abbrev pub explains_faults : End → Bool
-explains_faults ends.Reports = true
-explains_faults end = false
 
 -- Whether a command that ends so passes over empty lines.
 abbrev pub passes_empty_lines : End → Bool

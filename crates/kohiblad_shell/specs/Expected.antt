@@ -1,6 +1,7 @@
 -- What could have come where a line is wrong, in words.
 use Rattle.std.specs.Prelude.{◌==◌, ◌/◌, ◌%◌, ℕ, Bool, true, false, List, [], ◌∷◌, ◌++◌, codes}
-use Rattle.std.specs.Prelude.{if◌then◌else◌}
+use Rattle.std.specs.Prelude.{Option, None, Some, encode_utf8_all, if◌then◌else◌}
+use Rattle.kohiblad_shell.specs.Escapes.{shown_char}
 
 -- What may come in a text, by the bits of the library's classes.
 abbrev pub class_names : List (List ℕ)
@@ -24,6 +25,20 @@ listed_classes is_first bits (name ∷ names) =
     then mark_before is_first bits ++ (name ++ listed_classes false (bits / 2) names)
     else listed_classes is_first (bits / 2) names
 
--- What could have come, of these classes; nothing if there are none.
-unfoldable pub expected_text : ℕ → List ℕ
-expected_text classes = listed_classes true classes class_names
+-- A character between quotes, as a terminal may show it.
+abbrev pub quoted_character : ℕ → List ℕ
+quoted_character character = if character == 39 then codes "\"'\""
+    else codes "'" ++ encode_utf8_all (shown_char character) ++ codes "'"
+
+-- What came: a character, or the end.
+abbrev pub found_text : Option ℕ → List ℕ
+found_text None = codes ", found the end"
+found_text (Some character) = codes ", found " ++ quoted_character character
+
+-- What could have come, of these classes, and what came.
+unfoldable pub explained_text : ℕ → Option ℕ → List ℕ
+explained_text classes found = listed_classes true classes class_names ++ found_text found
+
+-- The same; nothing if there are no classes.
+abbrev pub expected_text : ℕ → Option ℕ → List ℕ
+expected_text classes found = if classes == 0 then [] else explained_text classes found

@@ -1,12 +1,12 @@
 -- Faults of lines, and the lines that report them.
-use Rattle.std.specs.Prelude.{ℕ, suc, Bool, true, false, List, [], ◌∷◌, ◌++◌, codes, length}
+use Rattle.std.specs.Prelude.{ℕ, suc, Bool, true, false, List, [], ◌∷◌, ◌++◌, None, codes, length}
 use Rattle.std.specs.Fmt.{decimal}
 use Rattle.kohiblad_shell.specs.Escapes.{escaped_text}
 use Rattle.kohiblad_shell.specs.Expected.{expected_text}
 use Rattle.kohiblad_shell.specs.declared.outcome.LineFault.{LineFault}
 use Rattle.kohiblad_shell.specs.declared.outcome.Reason.{Reason}
-use Rattle.kohiblad_shell.specs.declared.outcome.Reason.TheVariants.{BadUtf8, BadSyntax, BadNumber}
-use Rattle.kohiblad_shell.specs.declared.outcome.Reason.TheVariants.{TooDeep, TooLarge}
+use Rattle.kohiblad_shell.specs.declared.outcome.Reason.TheVariants.{InvalidUtf8, InvalidJson}
+use Rattle.kohiblad_shell.specs.declared.outcome.Reason.TheVariants.{BadNumber, TooDeep, TooLarge}
 use Rattle.kohiblad_shell.specs.declared.outcome.Reason.TheVariants.{BadDocument, Cut, NotSorted}
 use Rattle.kohiblad_shell.specs.declared.outcome.Reason.TheVariants.{GivenUp, NotOfType}
 use Rattle.jsonb_path.specs.declared.path.PathError.{PathError}
@@ -28,8 +28,8 @@ path_error_name errors.BooleanRequired = codes "BooleanRequired"
 
 -- The word for a reason.
 abbrev pub reason_name : Reason → List ℕ
-reason_name BadUtf8 = codes "BadUtf8"
-reason_name BadSyntax = codes "BadSyntax"
+reason_name InvalidUtf8 = codes "InvalidUtf8"
+reason_name InvalidJson = codes "InvalidJson"
 reason_name BadNumber = codes "BadNumber"
 reason_name TooDeep = codes "TooDeep"
 reason_name TooLarge = codes "TooLarge"
@@ -46,7 +46,8 @@ is_cut reason = false
 
 -- The fault after so many bytes of a row of which nothing is said that could have come there.
 abbrev pub plain_fault : ℕ → Reason → LineFault
-plain_fault offset reason = record { offset = offset; reason = reason; expected = 0 }
+plain_fault offset reason =
+    record { offset = offset; reason = reason; expected = 0; found = None }
 
 -- The fault of a row of documents that is no document, or nests too deep.
 abbrev pub bad_document : LineFault
@@ -56,13 +57,13 @@ bad_document = plain_fault 0 BadDocument
 abbrev pub cut_after : List ℕ → LineFault
 cut_after part = plain_fault (length part) Cut
 
--- The reason of a fault, and what could have come there, if that is said.
+-- The reason of a fault, and what could have come there and what came, if that is said.
 unfoldable pub reason_text : LineFault → List ℕ
-reason_text fault = reason_name fault.reason ++ expected_text fault.expected
+reason_text fault = reason_name fault.reason ++ expected_text fault.expected fault.found
 
 -- The line that reports a fault, with its line feed: the name of the input with escapes, the number
--- of the line and of the byte, both counted from 1, the reason, and what could have come, if that
--- is said.
+-- of the line and of the byte, both counted from 1, the reason, and what could have come and what
+-- came, if that is said.
 abbrev pub fault_line : List ℕ → ℕ → LineFault → List ℕ
 fault_line name number fault = escaped_text name ++ codes ":" ++ decimal number ++ codes ":"
     ++ decimal (suc fault.offset) ++ codes ": " ++ reason_text fault ++ 10 ∷ []

@@ -2,7 +2,7 @@
 use Rattle.std.specs.Prelude.{◌≡◌, ◌⊎◌, ◌==◌, ◌||◌, ℕ, false, List, codes, Result, Ok}
 use Rattle.std.specs.Prelude.{◌+◌, ◌-◌, ◌^◌, Err, if◌then◌else◌, min}
 use Rattle.std.specs.declared.io.ErrorKind.{ErrorKind}
-use Rattle.std.specs.declared.io.ErrorKind.TheVariants.{BrokenPipe}
+use Rattle.std.specs.declared.io.ErrorKind.TheVariants.{BrokenPipe, OutOfMemory}
 use Rattle.kohiblad_shell.specs.declared.halt.Halt.{Halt}
 use Rattle.kohiblad_shell.specs.declared.halt.Halt.TheVariants.{Read, Write, Closed, Memory}
 use Rattle.kohiblad_shell.specs.declared.run.Summary.{Summary}
@@ -15,6 +15,11 @@ halt_reason Read = codes "read failed"
 halt_reason Write = codes "write failed"
 halt_reason Closed = codes "output closed"
 halt_reason Memory = codes "out of memory"
+
+-- The halt after an error of a reader of this kind.
+abbrev pub halt_of_read : ErrorKind → Halt
+halt_of_read OutOfMemory = Memory
+halt_of_read kind = Read
 
 -- The halt after an error of a writer of this kind.
 abbrev pub halt_of_write : ErrorKind → Halt
@@ -31,22 +36,33 @@ abbrev pub halt_status : Halt → ℕ
 halt_status Closed = 141
 halt_status halt = 3
 
--- The counts of two runs, up to the greatest, and whether one of them ended at a fault.
+-- The counts of two runs, up to the greatest, whether one of them ended at a fault, and whether one
+-- lacks an input.
 abbrev pub both : Summary → Summary → Summary
 both first second = record {
   rows = min (first.rows + second.rows) (2 ^ 64 - 1);
   faults = min (first.faults + second.faults) (2 ^ 64 - 1);
   is_stopped = first.is_stopped || second.is_stopped;
+  lacks_input = first.lacks_input || second.lacks_input;
 }
 
 -- The counts of a run whose rows are the reports of faults: the faults do not count against it.
 abbrev pub of_reports : Summary → Summary
-of_reports summary = record { rows = summary.faults; faults = 0; is_stopped = false }
+of_reports summary = record {
+  rows = summary.faults;
+  faults = 0;
+  is_stopped = false;
+  lacks_input = summary.lacks_input;
+}
 
--- The status of a run that searched for rows, and of one that searched for faults.
+-- The status of a run that read all inputs: one that searched for rows, or for faults.
+abbrev pub whole_status : Aim → Summary → ℕ
+whole_status Rows summary = if summary.rows == 0 || summary.is_stopped then 1 else 0
+whole_status Faults summary = if summary.faults == 0 then 0 else 1
+
+-- The status of a run that came to an end: 3 if it lacks an input.
 abbrev pub summary_status : Aim → Summary → ℕ
-summary_status Rows summary = if summary.rows == 0 || summary.is_stopped then 1 else 0
-summary_status Faults summary = if summary.faults == 0 then 0 else 1
+summary_status aim summary = if summary.lacks_input then 3 else whole_status aim summary
 
 -- The status of the program after a run.
 abbrev pub run_status : Aim → Result Summary Halt → ℕ

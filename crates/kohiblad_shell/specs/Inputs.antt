@@ -11,6 +11,7 @@ use Rattle.kohiblad_shell.specs.declared.input.Form.{Form}
 use Rattle.kohiblad_shell.specs.declared.input.Form.TheVariants.{Lines, Documents}
 use Rattle.kohiblad_shell.specs.declared.input.Found.{Found}
 use Rattle.kohiblad_shell.specs.declared.input.Found.TheVariants.{Row, Cut, End}
+use Rattle.kohiblad_shell.specs.Values.{IsNextValue}
 
 -- A row as it stands among others: with its line feed, or after its length.
 abbrev pub framed : Form → List ℕ → List ℕ
@@ -28,13 +29,18 @@ abbrev pub IsNextLine : List ℕ → List ℕ → List ℕ → Type 0
 IsNextLine bytes line rest = IsLine line
     × ((bytes ≡ line ++ 10 ∷ rest) ⊎ ((bytes ≡ line) × ((0 < length line) × (rest ≡ []))))
 
+-- The first text of the bytes, and what follows it: a value, or a line.
+abbrev pub IsNextText : Bool → List ℕ → List ℕ → List ℕ → Type 0
+IsNextText true bytes row rest = IsNextValue bytes row rest
+IsNextText false bytes row rest = IsNextLine bytes row rest
+
 -- The first row of the bytes, and what follows it. The length of a document has eight bytes.
 abbrev pub IsNextRow : Form → List ℕ → List ℕ → List ℕ → Type 0
-IsNextRow (Lines reading) bytes row rest = IsNextLine bytes row rest
+IsNextRow (Lines reading) bytes row rest = IsNextText reading.are_values bytes row rest
 IsNextRow Documents bytes row rest = (length row < 2 ^ 64) × (bytes ≡ row_bytes row ++ rest)
 
 -- Whether a row is passed over: a line that is empty, or has white space alone, where lines are
--- read so.
+-- read so. Of a value this is what white space alone leaves.
 abbrev pub is_passed_over : Form → List ℕ → Bool
 is_passed_over (Lines reading) row = reading.passes_over_empty && list_all is_blank row
 is_passed_over Documents row = false
@@ -55,6 +61,18 @@ abbrev pub ReadsLine : Option (List ℕ) → Option (List ℕ) → List ℕ → 
 ReadsLine None new line is_line = ⊤
 ReadsLine (Some bytes) None line is_line = ⊥
 ReadsLine (Some bytes) (Some rest) line is_line = TakesLine bytes rest line is_line
+
+-- The next text was taken, where there is one.
+abbrev pub TakesText : Bool → List ℕ → List ℕ → List ℕ → Bool → Type 0
+TakesText are_values bytes rest row true = IsNextText are_values bytes row rest
+TakesText are_values bytes rest row false = bytes ≡ []
+
+-- The same where the bytes are known.
+abbrev pub ReadsText : Bool → Option (List ℕ) → Option (List ℕ) → List ℕ → Bool → Type 0
+ReadsText are_values None new row is_row = ⊤
+ReadsText are_values (Some bytes) None row is_row = ⊥
+ReadsText are_values (Some bytes) (Some rest) row is_row =
+    TakesText are_values bytes rest row is_row
 
 -- The next row was taken, or the part of it that is there, or there is none.
 abbrev pub TakesRow : Form → List ℕ → List ℕ → List ℕ → Found → Type 0

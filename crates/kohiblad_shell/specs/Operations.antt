@@ -105,7 +105,7 @@ row_lines (Key paths) form row bytes =
     encode_lower (row_key paths.now (tree_in bytes)) ++ 10 ∷ []
 row_lines (Sort paths) form row bytes =
     key_and_line (row_key paths.now (tree_in bytes)) (framed form row)
-row_lines (Extract columns) form row bytes = []
+row_lines (Extract table) form row bytes = []
 row_lines (Show look) form row bytes = []
 row_lines (Build template) form row bytes = []
 
@@ -144,8 +144,7 @@ abbrev pub IsRowAnswer : Operation → Form → List ℕ → List ℕ → Outcom
 IsRowAnswer (operations.Change change) form row bytes outcome =
     IsMade form (changed change (tree_in bytes)) outcome
 IsRowAnswer (Remove paths) form row bytes outcome = IsRemoved form paths.now bytes outcome
-IsRowAnswer (Extract columns) form row bytes outcome =
-    IsExtracted columns.now (tree_in bytes) outcome
+IsRowAnswer (Extract table) form row bytes outcome = IsExtracted table (tree_in bytes) outcome
 IsRowAnswer (Get path style) form row bytes outcome =
     IsFirstGiven style (asked path.now (tree_in bytes)) outcome
 IsRowAnswer (Select path style) form row bytes outcome =

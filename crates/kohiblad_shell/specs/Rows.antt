@@ -1,5 +1,6 @@
 -- The document of a row, and why a row has none.
-use Rattle.std.specs.Prelude.{◌≡◌, ◌≤◌, ℕ, Bool, true, false, List, chars, Ok, Err, ⊤, IsUtf8}
+use Rattle.std.specs.Prelude.{◌≡◌, ◌≤◌, ℕ, List, ◌++◌, Ok, Err, Option, None, ⊤}
+use Rattle.std.specs.Prelude.{IsUtf8, chars, encode_utf8_all, length, slice_get}
 use Rattle.std.specs.Str.{IsValidUpTo}
 use Rattle.jsonb_value.specs.TextDepth.{text_depth}
 use Rattle.jsonb_value.specs.declared.parser.number.Exponents.{Exponents}
@@ -17,8 +18,8 @@ use Rattle.kohiblad_shell.specs.declared.input.Form.TheVariants.{Lines, Document
 use Rattle.kohiblad_shell.specs.declared.input.Reading.{Reading}
 use Rattle.kohiblad_shell.specs.declared.outcome.LineFault.{LineFault}
 use Rattle.kohiblad_shell.specs.declared.outcome.Reason.{Reason}
-use Rattle.kohiblad_shell.specs.declared.outcome.Reason.TheVariants.{BadUtf8, BadSyntax, BadNumber}
-use Rattle.kohiblad_shell.specs.declared.outcome.Reason.TheVariants.{TooDeep, TooLarge}
+use Rattle.kohiblad_shell.specs.declared.outcome.Reason.TheVariants.{InvalidUtf8, InvalidJson}
+use Rattle.kohiblad_shell.specs.declared.outcome.Reason.TheVariants.{BadNumber, TooDeep, TooLarge}
 use Rattle.kohiblad_shell.specs.declared.outcome.Unanswered.{Unanswered}
 use Rattle.kohiblad_shell.specs.declared.outcome.Unanswered.TheVariants.{Wrong, OutOfMemory}
 use Rattle.kohiblad_shell.specs.declared.row.TheConstants.{MAX_ROW_DEPTH}
@@ -32,8 +33,8 @@ IsParsed rule line bytes = IsUtf8 line × ParsesUnderWithin rule MAX_ROW_DEPTH l
 -- The line is no row, for this reason, and these many of its bytes are before the fault: those that
 -- are UTF-8, those that begin some JSON text, or none.
 abbrev pub IsFaultFor : Exponents → Reason → List ℕ → ℕ → Type 0
-IsFaultFor rule BadUtf8 line offset = (IsUtf8 line → ⊥) × IsValidUpTo line offset
-IsFaultFor rule BadSyntax line offset = IsUtf8 line × ((text_depth line ≤ MAX_ROW_DEPTH)
+IsFaultFor rule InvalidUtf8 line offset = (IsUtf8 line → ⊥) × IsValidUpTo line offset
+IsFaultFor rule InvalidJson line offset = IsUtf8 line × ((text_depth line ≤ MAX_ROW_DEPTH)
     × IsFaultUnder rule (chars line) (record { offset = offset; reason = Syntax }))
 IsFaultFor rule BadNumber line offset = IsUtf8 line × ((text_depth line ≤ MAX_ROW_DEPTH)
     × IsFaultUnder rule (chars line) (record { offset = offset; reason = Number }))
@@ -44,28 +45,29 @@ IsFaultFor rule TooLarge line offset = IsUtf8 line
     × (offset ≡ 0))
 IsFaultFor rule reason line offset = ⊥
 
--- These are the library's classes of what could have come where a text is not JSON, if they are
--- asked for, and else none.
-abbrev pub AreAsked : Bool → Exponents → List ℕ → ℕ → Type 0
-AreAsked true rule text classes = IsExpected rule (chars text) classes
-AreAsked false rule text classes = classes ≡ 0
+-- The character that begins after so many bytes of a text; none at its end.
+abbrev pub IsCharacterAt : List ℕ → ℕ → Option ℕ → Type 0
+IsCharacterAt text offset found = (front back : List ℕ) → chars text ≡ front ++ back
+    → offset ≡ length (encode_utf8_all front) → found ≡ slice_get back 0
 
--- The same where lines are read so.
-abbrev pub AreExpected : Reading → List ℕ → ℕ → Type 0
-AreExpected reading text classes = AreAsked reading.is_explained reading.exponents text classes
+-- A fault of a text that is not JSON says what could have come there, by the library's classes, and
+-- what came.
+abbrev pub IsExplained : Exponents → List ℕ → LineFault → Type 0
+IsExplained rule text fault = IsExpected rule (chars text) fault.expected
+    × IsCharacterAt text fault.offset fault.found
 
 -- The same of a line that is wrong for this reason: of one that is no text, nests too deep or is
 -- too large for a document nothing is said.
-abbrev pub AreExpectedAt : Reason → Reading → List ℕ → ℕ → Type 0
-AreExpectedAt BadSyntax reading line classes = AreExpected reading line classes
-AreExpectedAt BadNumber reading line classes = AreExpected reading line classes
-AreExpectedAt reason reading line classes = classes ≡ 0
+abbrev pub IsExplainedFor : Reason → Exponents → List ℕ → LineFault → Type 0
+IsExplainedFor InvalidJson rule line fault = IsExplained rule line fault
+IsExplainedFor BadNumber rule line fault = IsExplained rule line fault
+IsExplainedFor reason rule line fault = (fault.expected ≡ 0) × (fault.found ≡ None)
 
--- The line is no row, for the reason of the fault, which says what could have come there if that is
--- asked for.
+-- The line is no row, for the reason of the fault, which says what could have come there and what
+-- came if the line is not JSON.
 abbrev pub IsLineFault : Reading → List ℕ → LineFault → Type 0
 IsLineFault reading line fault = IsFaultFor reading.exponents fault.reason line fault.offset
-    × AreExpectedAt fault.reason reading line fault.expected
+    × IsExplainedFor fault.reason reading.exponents line fault
 
 -- The bytes are the document of a row: that of the text of a line, or the row itself, which nests
 -- at most so deep.
@@ -91,14 +93,15 @@ IsRefusedLine reading line OutOfMemory = ⊤
 
 -- The reason in this crate's words.
 abbrev pub line_reason : FaultReason → Reason
-line_reason Syntax = BadSyntax
+line_reason Syntax = InvalidJson
 line_reason Number = BadNumber
 
--- The same of a text that is not JSON: where it is at fault, and what could have come there.
+-- The same of a text that is not JSON: where it is at fault, what could have come there, and what
+-- came.
 abbrev pub IsNotJson : Reading → List ℕ → Unanswered → Type 0
 IsNotJson reading text (Wrong fault) = (f : FaultReason) × ((fault.reason ≡ line_reason f)
     × (IsFaultUnder reading.exponents (chars text) (record { offset = fault.offset; reason = f })
-    × AreExpected reading text fault.expected))
+    × IsExplained reading.exponents text fault))
 IsNotJson reading text OutOfMemory = ⊤
 
 -- An error of the library as a reason why a line has no answer: a value is too large, unless an

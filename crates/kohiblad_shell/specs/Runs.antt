@@ -30,6 +30,7 @@ pub record IsRun {W : Type 0} (rule : LineRule) (after : W → List ℕ → W)
     pub whole : summary.is_stopped ≡ false → rest ≡ []
     pub rows : summary.rows ≡ row_count outcomes
     pub faults : summary.faults ≡ fault_count outcomes
+    pub lacks : summary.lacks_input ≡ false
 
 -- Some rows of the input were answered, in order, none after a fault at which the run ends; a
 -- prefix of what they gave and one of their reports were appended; the worker is what it is

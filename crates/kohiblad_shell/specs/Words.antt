@@ -15,7 +15,8 @@ pub use Rattle.kohiblad_shell.specs.SortPaths.{SaysDirection}
 pub use Rattle.kohiblad_shell.specs.KeyProofs.{key_laws}
 pub use Rattle.kohiblad_shell.specs.Sorts.{AreSorted, arranged, distinct, has_key, key_and_line}
 pub use Rattle.kohiblad_shell.specs.Sorts.{keyed_bytes, keyed_key, keyed_line, turned}
-pub use Rattle.kohiblad_shell.specs.Halts.{IsWriteHalt, halt_of_write, halt_reason, halt_status}
+pub use Rattle.kohiblad_shell.specs.Halts.{IsWriteHalt, halt_of_read, halt_of_write}
+pub use Rattle.kohiblad_shell.specs.Halts.{halt_reason, halt_status}
 pub use Rattle.kohiblad_shell.specs.Halts.{both, of_reports, run_status, summary_status}
 pub use Rattle.kohiblad_shell.specs.declared.halt.Halt.TheVariants.{Memory}
 pub use Rattle.jsonb_codec.specs.Canon.{canon, Fits}
@@ -27,31 +28,37 @@ pub use Rattle.jsonb.specs.Parsing.{ParsesUnderWithin}
 pub use Rattle.jsonb_functions.specs.MadeWithMemory.{MadeWithMemory}
 pub use Rattle.clap.specs.Matches.{first_value, found_of}
 pub use Rattle.kohiblad_shell.specs.Arguments.{IsFlag, are_documents, are_texts, is_pretty}
-pub use Rattle.kohiblad_shell.specs.Arguments.{is_raw}
-pub use Rattle.kohiblad_shell.specs.Arguments.{IsCount, IsMemory, IsScaled, IsSize, colors_of}
-pub use Rattle.kohiblad_shell.specs.Arguments.{digits_value, exponents_of, form_of, shows_of}
+pub use Rattle.kohiblad_shell.specs.Arguments.{are_values, is_raw, is_tsv}
+pub use Rattle.kohiblad_shell.specs.Arguments.{colors_of, exponents_of, form_of, shows_of}
 pub use Rattle.kohiblad_shell.specs.Arguments.{stops_of, text_or}
 pub use Rattle.kohiblad_shell.specs.Arguments.{value_of, values_of}
-pub use Rattle.kohiblad_shell.specs.Commands.{explains_faults, passes_empty_lines}
+pub use Rattle.kohiblad_shell.specs.Commands.{passes_empty_lines}
 pub use Rattle.kohiblad_shell.specs.Escapes.{escape, escaped_text, escaped_unit, is_escaped}
 pub use Rattle.kohiblad_shell.specs.Escapes.{shown_char}
-pub use Rattle.kohiblad_shell.specs.Expected.{expected_text, listed_classes, mark_before}
+pub use Rattle.kohiblad_shell.specs.Expected.{expected_text, explained_text, found_text}
+pub use Rattle.kohiblad_shell.specs.Expected.{listed_classes, mark_before}
 pub use Rattle.kohiblad_shell.specs.Faults.{bad_document, fault_line, is_cut, plain_fault}
 pub use Rattle.kohiblad_shell.specs.Faults.{reason_name, reason_text}
 pub use Rattle.kohiblad_shell.specs.Inputs.{AppendsHeld, AppendsHeldLine, ReadsLine, ReadsPart}
-pub use Rattle.kohiblad_shell.specs.Inputs.{ReadsRow, framed, is_passed_over, made_row}
+pub use Rattle.kohiblad_shell.specs.Inputs.{ReadsRow, ReadsText, framed, is_passed_over}
+pub use Rattle.kohiblad_shell.specs.Inputs.{made_row}
 pub use Rattle.kohiblad_shell.specs.Kinds.{compressed_kind, foreign_kind, input_kind}
 pub use Rattle.kohiblad_shell.specs.Kinds.{is_document_start, is_text_start, kind_words}
 pub use Rattle.kohiblad_shell.specs.Marks.{PassesMark}
 pub use Rattle.kohiblad_shell.specs.Outcomes.{AnswersNext, IsAnswer, IsOutcome, KeepsRule, LineRule}
 pub use Rattle.kohiblad_shell.specs.Outcomes.{after_answer, gives_nothing, row_count, stops_at}
-pub use Rattle.kohiblad_shell.specs.Rows.{AreExpected, IsNotJson, IsParsed}
+pub use Rattle.kohiblad_shell.specs.Rows.{IsCharacterAt, IsNotJson, IsParsed}
 pub use Rattle.kohiblad_shell.specs.Rows.{IsRefusedLine, IsRefusedRow, IsRow}
 pub use Rattle.kohiblad_shell.specs.Rows.{line_reason, unanswered_of}
 pub use Rattle.kohiblad_shell.specs.Extracts.{IsCsvLine, IsField, IsFieldAt, IsFieldBy}
-pub use Rattle.kohiblad_shell.specs.Extracts.{IsFieldOf, IsScalarField, IsTypedLine}
-pub use Rattle.kohiblad_shell.specs.Extracts.{column_words, csv_text}
-pub use Rattle.kohiblad_shell.specs.Extracts.{doubled, ends_field, is_quoted, value_text}
+pub use Rattle.kohiblad_shell.specs.Extracts.{IsFieldOf, IsScalarField, IsTableLine, IsTypedLine}
+pub use Rattle.kohiblad_shell.specs.Extracts.{plain_text, value_text}
+pub use Rattle.kohiblad_shell.specs.TableTexts.{absent_field, csv_text, doubled, ends_field}
+pub use Rattle.kohiblad_shell.specs.TableTexts.{escape_letter, is_quoted, separator, text_field}
+pub use Rattle.kohiblad_shell.specs.TableTexts.{tsv_text}
+pub use Rattle.kohiblad_shell.specs.Columns.{IsColumnWord, IsPlainName, column_words, heading}
+pub use Rattle.kohiblad_shell.specs.Columns.{heading_line, is_column, is_equals, is_name_byte}
+pub use Rattle.kohiblad_shell.specs.Columns.{is_named}
 pub use Rattle.kohiblad_shell.specs.Extracts.{IsDatedField, IsShownField}
 pub use Rattle.kohiblad_shell.specs.Extracts.{ShowsDate, ShowsTimestamp, ShowsZoned}
 pub use Rattle.kohiblad_shell.specs.IsoForms.{IsBeyondClock, IsBeyondYears, IsDayText}
@@ -61,10 +68,12 @@ pub use Rattle.kohiblad_shell.specs.IsoTexts.{SaysDate, SaysTimestamp, SaysZoned
 pub use Rattle.kohiblad_shell.specs.IsoTexts.{calendar_day, clock_second, digit_or_zero}
 pub use Rattle.kohiblad_shell.specs.IsoTexts.{digit_pair, digits_millionths, is_utc, iso_day}
 pub use Rattle.kohiblad_shell.specs.IsoTexts.{iso_millionths, iso_offset, iso_second, iso_wall}
-pub use Rattle.kohiblad_shell.specs.IsoTexts.{iso_zoned, offset_of_parts, wall_micros, wall_of_parts}
-pub use Rattle.kohiblad_shell.specs.IsoTexts.{wall_said}
+pub use Rattle.kohiblad_shell.specs.IsoTexts.{iso_zoned, offset_of_parts, wall_micros}
+pub use Rattle.kohiblad_shell.specs.IsoTexts.{wall_of_parts, wall_said}
 pub use Rattle.kohiblad_shell.specs.Ranges.{is_in_range, is_tree_in}
 pub use Rattle.kohiblad_shell.specs.Removals.{IsRemoved, begins_path, path_count, without}
+pub use Rattle.kohiblad_shell.specs.Sizes.{EndsInLetter, HasUnit, IsCount, IsDecimal}
+pub use Rattle.kohiblad_shell.specs.Sizes.{IsLetter, IsMemory, IsScaled, IsSize, digits_value}
 pub use Rattle.kohiblad_shell.specs.Runs.{BeginsRun, IsRun}
 pub use Rattle.kohiblad_shell.specs.Searches.{is_match, is_searched, text_of}
 pub use Rattle.kohiblad_shell.specs.Surveys.{container_count_lines, count_line}
@@ -72,6 +81,14 @@ pub use Rattle.kohiblad_shell.specs.Surveys.{extension_count_lines, length_lines
 pub use Rattle.kohiblad_shell.specs.Surveys.{number_count_lines, row_count_lines}
 pub use Rattle.kohiblad_shell.specs.Surveys.{scale_lines, survey_lines, time_count_lines}
 pub use Rattle.kohiblad_shell.specs.Surveys.{document_rule, with_row}
+pub use Rattle.kohiblad_shell.specs.SurveyJson.{container_count_members, count_member}
+pub use Rattle.kohiblad_shell.specs.SurveyJson.{count_members}
+pub use Rattle.kohiblad_shell.specs.SurveyJson.{extension_count_members, length_members}
+pub use Rattle.kohiblad_shell.specs.SurveyJson.{number_count_members, row_count_members}
+pub use Rattle.kohiblad_shell.specs.SurveyJson.{scales_json, survey_json, time_count_members}
+pub use Rattle.kohiblad_shell.specs.Values.{ReadsValue, TakesHeld, begins_value, closes, ended}
+pub use Rattle.kohiblad_shell.specs.Values.{container_step, first_step, has_ended, left_from}
+pub use Rattle.kohiblad_shell.specs.Values.{opens, place_after, step_at, text_step, value_from}
 pub use Rattle.kohiblad_shell.specs.declared.input.Form.TheVariants.{Documents}
 pub use Rattle.kohiblad_shell.specs.declared.outcome.Unanswered.TheVariants.{OutOfMemory, Wrong}
 pub use Rattle.hex.specs.Hex.{encode_lower}

@@ -1,10 +1,11 @@
 //! What the arguments of a command say.
 
-ghost use Rattle.std.specs.Prelude.{◌≡◌, IfSome, codes, false, map, option_map};
-ghost use Rattle.kohiblad_shell.specs.Words.{IsFlag, IsMemory, are_documents, are_texts, colors_of};
-ghost use Rattle.kohiblad_shell.specs.Words.{explains_faults, exponents_of, first_value, form_of};
-ghost use Rattle.kohiblad_shell.specs.Words.{found_of, is_pretty, is_raw, passes_empty_lines};
-ghost use Rattle.kohiblad_shell.specs.Words.{shows_of, stops_of, text_or};
+ghost use Rattle.std.specs.Prelude.{◌≡◌, ◌||◌, IfSome, codes, false, map, option_map};
+ghost use Rattle.kohiblad_shell.specs.Words.{IsFlag, IsMemory, are_documents, are_texts};
+ghost use Rattle.kohiblad_shell.specs.Words.{are_values, colors_of, exponents_of};
+ghost use Rattle.kohiblad_shell.specs.Words.{first_value, form_of};
+ghost use Rattle.kohiblad_shell.specs.Words.{found_of, is_pretty, is_raw, is_tsv};
+ghost use Rattle.kohiblad_shell.specs.Words.{passes_empty_lines, shows_of, stops_of, text_or};
 ghost use Rattle.kohiblad_shell.specs.Words.{value_of, values_of};
 
 use crate::commands::End;
@@ -14,6 +15,7 @@ use crate::operation::{Style, TextLayout};
 use crate::part_lines::Look;
 use crate::size::size_of;
 use crate::sort::Arrangement;
+use crate::table_text::TableLayout;
 use clap::ArgMatches;
 use jsonb::Exponents;
 use jsonb_pattern::Flags;
@@ -41,11 +43,36 @@ pub fn value_in<'a>(arguments: &ArgMatches<'a>) -> &'a str
     }
 }
 
+/// Whether the counts of a survey are to be written as JSON.
+pub fn writes_json_in(arguments: &ArgMatches<'_>) -> bool
+    ensures { IsFlag arguments.now (codes "json") result }
+{
+    has_flag(arguments, "json")
+}
+
 /// Whether texts are read as dates and timestamps, and these written as texts.
 pub fn has_iso_dates_in(arguments: &ArgMatches<'_>) -> bool
     ensures { IsFlag arguments.now (codes "iso-dates") result }
 {
     has_flag(arguments, "iso-dates")
+}
+
+/// How the lines of a table are laid out: with tabs if the flag says so.
+pub fn table_layout_in(arguments: &ArgMatches<'_>) -> TableLayout
+    ensures { IsFlag arguments.now (codes "tsv") (is_tsv result) }
+{
+    if has_flag(arguments, "tsv") {
+        TableLayout::Tsv
+    } else {
+        TableLayout::Csv
+    }
+}
+
+/// Whether the first line of a table is the names of its columns.
+pub fn has_heading_in(arguments: &ArgMatches<'_>) -> bool
+    ensures { IsFlag arguments.now (codes "header") result }
+{
+    has_flag(arguments, "header")
 }
 
 /// What the values among the operands are: texts if the flag says so, or else JSON texts.
@@ -97,22 +124,27 @@ pub fn layout_in(arguments: &ArgMatches<'_>) -> TextLayout
 }
 
 /// In which form rows are read and written by a command that ends so: as documents if the flag says
-/// so, and else as lines, of which numbers may have exponents unless these are refused.
+/// so, or else as values if another flag does, or else as lines. Numbers of texts may have
+/// exponents unless these are refused. Some commands pass over lines of white space alone, and all
+/// commands white space after the last value.
 pub fn form_in(arguments: &ArgMatches<'_>, end: End) -> Form
     ensures documents { IsFlag arguments.now (codes "documents") (are_documents result) }
+    ensures values { are_documents result ≡ false
+        → IsFlag arguments.now (codes "values") (are_values result) }
     ensures form { result ≡ form_of (are_documents result) (record {
       exponents = exponents_of (first_value (found_of arguments.now) (codes "exponents"));
-      is_explained = explains_faults end;
-      passes_over_empty = passes_empty_lines end;
+      passes_over_empty = are_values result || passes_empty_lines end;
+      are_values = are_values result;
     }) }
 {
     if has_flag(arguments, "documents") {
         Form::Documents
     } else {
+        let are_values = has_flag(arguments, "values");
         Form::Lines(Reading {
             exponents: exponents_in(arguments),
-            is_explained: end.explains_faults(),
-            passes_over_empty: end.passes_empty_lines(),
+            passes_over_empty: are_values || end.passes_empty_lines(),
+            are_values,
         })
     }
 }
@@ -180,7 +212,8 @@ pub fn output_in<'a>(arguments: &ArgMatches<'a>) -> &'a str
     }
 }
 
-/// Whether a line is to say how far the run is, where `otherwise` holds if the arguments do not say.
+/// Whether a line is to say how far the run is, where `otherwise` holds if the arguments do not
+/// say.
 pub fn shows_progress_in(arguments: &ArgMatches<'_>, otherwise: bool) -> bool
     ensures { result
         ≡ shows_of (first_value (found_of arguments.now) (codes "progress")) otherwise }

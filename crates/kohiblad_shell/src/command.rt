@@ -3,11 +3,11 @@
 ghost use Rattle.std.specs.Prelude.{◌≡◌};
 ghost use Rattle.kohiblad_shell.specs.Commands.{operation_of};
 
-use crate::extract::TypedPath;
 use crate::operation::{Change, Operation, Style, TextLayout};
 use crate::part_lines::Look;
 use crate::range::ValueRange;
 use crate::sort_path::SortPath;
+use crate::table::Table;
 use crate::template::Template;
 use crate::text_search::TextSearch;
 use jsonb::Document;
@@ -25,6 +25,7 @@ pub enum Command {
     Filter,
     Count,
     Survey,
+    Group,
     Extract,
     Contains,
     Set,
@@ -42,6 +43,18 @@ pub enum Command {
     Encode,
     Decode,
     Show,
+}
+
+impl Command {
+    /// Another name, for those who know the command by it.
+    pub fn alias(self) -> Option<&'static str> {
+        match self {
+            Command::Check => Some("validate"),
+            Command::Merge => Some("patch"),
+            Command::Remove => Some("del"),
+            _ => None,
+        }
+    }
 }
 
 /// What a command is given besides its files and the form of its rows.
@@ -67,8 +80,8 @@ pub enum Operands<'a> {
     Range(ValueRange<'a>),
     /// A pattern that is looked for.
     Search(TextSearch<'a>),
-    /// Paths, each with a type.
-    Columns(&'a [TypedPath]),
+    /// Paths, each with a name and a type, and how their lines are laid out.
+    Table(Table<'a>),
     /// What new rows are made of.
     Template(&'a Template),
     /// How parts are shown.
@@ -100,7 +113,7 @@ pub fn operation_of<'a>(command: Command, operands: Operands<'a>) -> Option<Oper
             Some(Operation::Change(Change::Set(path, value)))
         }
         (Command::Remove, Operands::Removed(paths)) => Some(Operation::Remove(paths)),
-        (Command::Extract, Operands::Columns(columns)) => Some(Operation::Extract(columns)),
+        (Command::Extract, Operands::Table(table)) => Some(Operation::Extract(table)),
         (Command::Build | Command::Keys, Operands::Template(template)) => {
             Some(Operation::Build(template))
         }

@@ -10,6 +10,10 @@ use std::alloc::{AllocError, Global};
 const BY_HELP: &str = "A path to the value that decides, as '$.size', or '$.size desc' for the \
     greatest first; with several the first one decides first";
 
+// What is said of the paths to values by which rows are grouped.
+const GROUP_HELP: &str = "A path to the value that rows of one group have in common, as \
+    '$.town'; several may be given, and with none all rows are one group";
+
 const AFTER_HELP: &str = "The status is 0 if some row gave a result, 1 if none did or a row is \
     wrong, 2 for wrong use, and 3 if a device or memory failed.";
 
@@ -30,6 +34,9 @@ pub fn program<'a>(alloc: Global) -> Result<Command<'a>, AllocError> {
 // A command of the table.
 fn command_of<'a>(alloc: Global, row: &CommandRow) -> Result<Command<'a>, AllocError> {
     let mut command = Command::new(alloc, row.name).about(row.about);
+    if let Some(alias) = row.command.alias() {
+        command = command.visible_alias(alias)?;
+    }
     for operand in row.operands.operands() {
         command = command.arg(operand_of(alloc, operand))?;
     }
@@ -40,7 +47,7 @@ fn command_of<'a>(alloc: Global, row: &CommandRow) -> Result<Command<'a>, AllocE
         command = command.arg(option_of(alloc, *option))?;
     }
     if row.reads_lines() {
-        command = command.arg(exponents(alloc))?;
+        command = command.arg(values(alloc)?)?.arg(exponents(alloc))?;
     }
     if row.end.writes() {
         command = command.arg(output(alloc))?;
@@ -67,6 +74,12 @@ fn option_of<'a>(alloc: Global, option: CommandOption) -> Arg<'a> {
             let help = "Read and write dates and timestamps as texts of RFC 3339, not as numbers";
             flag(alloc, "iso-dates", help)
         }
+        CommandOption::Header => flag(alloc, "header", "Write the names of the columns first"),
+        CommandOption::Tsv => {
+            let help =
+                "Write tabs between values, with \\t, \\n, \\r and \\\\ in texts, and \\N for none";
+            flag(alloc, "tsv", help)
+        }
         CommandOption::Text => {
             let help = "Take VALUE, or FROM and TO, as texts, and not as JSON texts";
             flag(alloc, "text", help)
@@ -80,6 +93,9 @@ fn option_of<'a>(alloc: Global, option: CommandOption) -> Arg<'a> {
         }
         CommandOption::By => deciding_path(alloc).help(BY_HELP).action(ArgAction::Append),
         CommandOption::ByOne => deciding_path(alloc).help("A path to the value that decides"),
+        CommandOption::GroupBy => deciding_path(alloc)
+            .help(GROUP_HELP)
+            .action(ArgAction::Append),
         CommandOption::Texts => deciding_path(alloc).help(
             "A path to the texts; all texts of the row if none",
         ),
@@ -95,13 +111,10 @@ fn option_of<'a>(alloc: Global, option: CommandOption) -> Arg<'a> {
             let help = "Write the rows in which it is not found";
             flag(alloc, "invert-match", help).short('v')
         }
-        CommandOption::Reverse => flag(alloc, "reverse", "Write the last one first"),
+        CommandOption::Reverse => flag(alloc, "reverse", "Write the last one first").short('r'),
         CommandOption::Unique => {
-            flag(
-                alloc,
-                "unique",
-                "Write only the first of several rows that are equal",
-            )
+            let help = "Write only the first of several rows that are equal";
+            flag(alloc, "unique", help).short('u')
         }
         CommandOption::Memory => memory(alloc),
         CommandOption::TemporaryDirectory => temporary_directory(alloc),
@@ -124,6 +137,7 @@ fn option_of<'a>(alloc: Global, option: CommandOption) -> Arg<'a> {
             "Write the bytes of long texts and data whole",
         ),
         CommandOption::Color => color(alloc),
+        CommandOption::Json => flag(alloc, "json", "Write all counts as one JSON object"),
     }
 }
 
@@ -144,14 +158,16 @@ fn deciding_path<'a>(alloc: Global) -> Arg<'a> {
 fn memory<'a>(alloc: Global) -> Arg<'a> {
     Arg::new(alloc, "memory")
         .long("memory")
+        .short('S')
         .value_name("SIZE")
-        .help("About how many bytes the rows may take in memory, as 500MB or 2G; 1G if none")
+        .help("About how many bytes the rows may take in memory, as 500MB or 1.5G; 1G if none")
 }
 
 // Where rows go that do not fit.
 fn temporary_directory<'a>(alloc: Global) -> Arg<'a> {
     Arg::new(alloc, "temporary-directory")
         .long("temporary-directory")
+        .short('T')
         .value_name("DIR")
         .help("Where rows go that do not fit in memory; $TMPDIR or /tmp if none")
 }
@@ -163,6 +179,12 @@ fn output<'a>(alloc: Global) -> Arg<'a> {
         .short('o')
         .value_name("FILE")
         .help("The output, which takes the place of FILE at the end; standard output if none or -")
+}
+
+// Whether rows are values one after another.
+fn values<'a>(alloc: Global) -> Result<Arg<'a>, AllocError> {
+    let help = "Read JSON values one after another, over several lines or several on a line";
+    flag(alloc, "values", help).conflicts_with("documents")
 }
 
 // Whether numbers of rows may have exponents.
@@ -179,7 +201,7 @@ fn on_error<'a>(alloc: Global) -> Arg<'a> {
     Arg::new(alloc, "on-error")
         .long("on-error")
         .value_name("WHAT")
-        .help("What to do after a row that is wrong")
+        .help("What to do after a row that is wrong, or a file that cannot be opened")
         .value_parser(["stop", "skip"].as_slice())
 }
 

@@ -1,7 +1,7 @@
 //! The table of the commands.
 
 ghost use Rattle.std.specs.Prelude.{◌≡◌, IfSome};
-ghost use Rattle.kohiblad_shell.specs.Words.{explains_faults, passes_empty_lines};
+ghost use Rattle.kohiblad_shell.specs.Words.{passes_empty_lines};
 
 use crate::command::Command;
 use crate::operand_kind::OperandKind;
@@ -29,10 +29,13 @@ impl CommandRow {
 pub enum CommandOption {
     Raw,
     IsoDates,
+    Header,
+    Tsv,
     Text,
     Pretty,
     By,
     ByOne,
+    GroupBy,
     Texts,
     IgnoreCase,
     FixedStrings,
@@ -46,6 +49,7 @@ pub enum CommandOption {
     OnError,
     Whole,
     Color,
+    Json,
 }
 
 /// What becomes of what the rows of a command give.
@@ -61,6 +65,8 @@ pub enum End {
     Count,
     /// How many values there are of each kind is written.
     Survey,
+    /// A row for each group of rows is written.
+    Groups,
     /// Rows are written in the order of their keys.
     Sorted,
     /// The rows of sorted files are written in the order of their keys.
@@ -73,13 +79,6 @@ impl End {
         !matches!(self, End::Faults)
     }
 
-    /// Whether the report of a line that is wrong says what could have come there.
-    pub fn explains_faults(self) -> bool
-        ensures { result ≡ explains_faults self }
-    {
-        matches!(self, End::Reports)
-    }
-
     /// Whether lines that are empty, or have white space alone, are passed over.
     pub fn passes_empty_lines(self) -> bool
         ensures { result ≡ passes_empty_lines self }
@@ -89,12 +88,15 @@ impl End {
 
     /// Whether nothing is written before the last row is read.
     pub fn is_last(self) -> bool {
-        matches!(self, End::Faults | End::Count | End::Survey | End::Sorted)
+        matches!(
+            self,
+            End::Faults | End::Count | End::Survey | End::Groups | End::Sorted
+        )
     }
 }
 
 /// The commands, in the order of the help.
-pub static COMMANDS: [CommandRow; 25] = [
+pub static COMMANDS: [CommandRow; 26] = [
     CommandRow {
         command: Command::Check,
         name: "check",
@@ -106,7 +108,7 @@ pub static COMMANDS: [CommandRow; 25] = [
     CommandRow {
         command: Command::Fault,
         name: "fault",
-        about: "Write where rows are wrong, why, and what could have come there",
+        about: "Write the reports of the rows that are not JSON",
         operands: OperandKind::Nothing,
         options: &[CommandOption::Documents],
         end: End::Reports,
@@ -176,19 +178,34 @@ pub static COMMANDS: [CommandRow; 25] = [
         operands: OperandKind::Path,
         options: &[
             CommandOption::Documents,
+            CommandOption::Json,
             CommandOption::Quiet,
             CommandOption::OnError,
         ],
         end: End::Survey,
     },
     CommandRow {
+        command: Command::Group,
+        name: "group",
+        about: "Count the rows of each group, and sum their values, in the order of the first rows",
+        operands: OperandKind::Aggregates,
+        options: &[
+            CommandOption::Documents,
+            CommandOption::GroupBy,
+            CommandOption::OnError,
+        ],
+        end: End::Groups,
+    },
+    CommandRow {
         command: Command::Extract,
         name: "extract",
-        about: "Write the values at paths as CSV, each as one of a type",
+        about: "Write the values at paths as a table, each as one of a type",
         operands: OperandKind::Columns,
         options: &[
             CommandOption::Documents,
             CommandOption::IsoDates,
+            CommandOption::Header,
+            CommandOption::Tsv,
             CommandOption::Quiet,
             CommandOption::OnError,
         ],

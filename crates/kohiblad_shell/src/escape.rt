@@ -23,13 +23,20 @@ pub fn shown_chars(alloc: Global, text: &str) -> Result<Vec<char>, AllocError>
 {
     let mut shown = Vec::new(alloc);
     for character in text.chars() {
-        if is_escaped(character) {
-            push_escape(alloc, &mut shown, character)?;
-        } else {
-            shown.push(character)?;
-        }
+        push_shown(alloc, &mut shown, character)?;
     }
     Ok(shown)
+}
+
+/// Appends a character, or its escape.
+pub fn push_shown(alloc: Global, shown: &mut Vec<char>, character: char) -> Result<(), AllocError>
+    ensures { OnOk result (shown.new.items ≡ shown.old.items ++ shown_char character) }
+{
+    if is_escaped(character) {
+        push_escape(alloc, shown, character)
+    } else {
+        Ok(shown.push(character)?)
+    }
 }
 
 /// The text of these characters.

@@ -1,8 +1,10 @@
-//! What could have come where a row is wrong, in words.
+//! What could have come where a row is wrong, and what came, in words.
 
-ghost use Rattle.std.specs.Prelude.{◌≡◌, IfOk, map, string_bytes, true};
-ghost use Rattle.kohiblad_shell.specs.Words.{expected_text, listed_classes, mark_before};
+ghost use Rattle.std.specs.Prelude.{◌≡◌, IfOk, encode_utf8_all, map, string_bytes, true};
+ghost use Rattle.kohiblad_shell.specs.Words.{expected_text, explained_text, found_text};
+ghost use Rattle.kohiblad_shell.specs.Words.{listed_classes, mark_before, shown_char};
 
+use crate::escape::{push_shown, text_of_chars};
 use std::alloc::{AllocError, Global};
 
 // What may come in a text, by the bits of the library's classes.
@@ -30,13 +32,49 @@ const CLASSES: [&str; 21] = [
     "the end",
 ];
 
-/// What could have come, of these classes of the library, as the end of a report; nothing if there
-/// are none.
-#[tactic(auto, unfolding(crate::specs::Expected::expected_text))]
-pub fn expected_text(alloc: Global, classes: u32) -> Result<String, AllocError>
-    ensures { IfOk result (λ text. string_bytes text ≡ expected_text classes) }
+/// What could have come, of these classes of the library, and what came, as the end of a report;
+/// nothing if there are no classes.
+pub fn expected_text(alloc: Global, classes: u32, found: Option<char>) -> Result<String, AllocError>
+    ensures { IfOk result (λ text. string_bytes text ≡ expected_text classes found) }
 {
-    listed_classes(alloc, classes, &CLASSES)
+    if classes == 0 {
+        Ok(String::new(alloc))
+    } else {
+        explained_text(alloc, classes, found)
+    }
+}
+
+// What could have come, of these classes, and what came.
+#[tactic(auto, unfolding(crate::specs::Expected::explained_text))]
+fn explained_text(alloc: Global, classes: u32, found: Option<char>) -> Result<String, AllocError>
+    ensures { IfOk result (λ text. string_bytes text ≡ explained_text classes found) }
+{
+    let expected = listed_classes(alloc, classes, &CLASSES)?;
+    let found = found_text(alloc, found)?;
+    format!(in alloc; "{expected}{found}")
+}
+
+// What came: a character, or the end.
+fn found_text(alloc: Global, found: Option<char>) -> Result<String, AllocError>
+    ensures { IfOk result (λ text. string_bytes text ≡ found_text found) }
+{
+    match found {
+        None => String::from_str(alloc, ", found the end"),
+        Some('\'') => String::from_str(alloc, ", found \"'\""),
+        Some(character) => {
+            let shown = shown_character(alloc, character)?;
+            format!(in alloc; ", found '{shown}'")
+        }
+    }
+}
+
+// A character, or its escape.
+fn shown_character(alloc: Global, character: char) -> Result<String, AllocError>
+    ensures { IfOk result (λ text. string_bytes text ≡ encode_utf8_all (shown_char character)) }
+{
+    let mut shown = Vec::new(alloc);
+    push_shown(alloc, &mut shown, character)?;
+    text_of_chars(alloc, &shown)
 }
 
 // Those of these names whose bits are set, from the lowest bit on.

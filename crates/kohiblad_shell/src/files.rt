@@ -1,8 +1,8 @@
 //! The files that a command reads, and the output that it writes.
 
 use crate::arguments::{output_in, shows_progress_in, words_in};
+use crate::columns::column_words;
 use crate::commands::End;
-use crate::extract::column_words;
 use crate::halt::Halt;
 use crate::input::Form;
 use crate::kind::{InputKind, input_kind};
@@ -26,8 +26,8 @@ pub fn inputs_of<'m, 'a>(files: &'m [&'a str]) -> &'m [&'a str] {
     if files.is_empty() { &["-"] } else { files }
 }
 
-/// Refuses files of which several are standard input, which can be read once, and returns the status
-/// after the report.
+/// Refuses files of which several are standard input, which can be read once, and returns the
+/// status after the report.
 pub fn expect_input_once(rt: &HostRuntime, files: &[&str]) -> Result<(), u8> {
     let mut is_read = false;
     for name in files {
@@ -115,15 +115,15 @@ pub fn open_source(rt: &HostRuntime, name: &str) -> Result<Source, Halt> {
     }
 }
 
-/// The inputs of these names. A file that cannot be opened is reported.
-pub fn open_sources<'a>(
+/// The inputs of these names. One that cannot be opened, or read, is reported.
+pub fn open_inputs<'a>(
     rt: &HostRuntime,
     progress: &'a Progress<'a>,
-    names: &[&str],
-) -> Result<Vec<BufReader<Metered<'a, Source>>>, Halt> {
+    names: &[&'a str],
+) -> Result<Vec<Input<'a>>, Halt> {
     let mut readers = Vec::new(rt.alloc());
     for name in names {
-        let reader = buffered(rt, progress, open_source(rt, *name)?)?;
+        let reader = open_input(rt, progress, *name)?;
         if readers.push(reader).is_err() {
             return Err(Halt::Memory);
         }
@@ -131,16 +131,27 @@ pub fn open_sources<'a>(
     Ok(readers)
 }
 
-/// A reader that reads many bytes at a time, which are counted.
-pub fn buffered<'a, R: Read + Drop>(
+/// What reads an input, many bytes at a time.
+pub type Input<'a> = BufReader<Metered<'a, Source>>;
+
+/// The input of this name, of which the first bytes are read. One that cannot be opened, or read,
+/// is reported.
+fn open_input<'a>(
     rt: &HostRuntime,
     progress: &'a Progress<'a>,
-    reader: R,
-) -> Result<BufReader<Metered<'a, R>>, Halt> {
-    let metered = Metered { reader, progress };
-    match BufReader::with_capacity(rt.alloc(), BUFFER_LEN, metered) {
-        Ok(reader) => Ok(reader),
-        Err(_) => Err(Halt::Memory),
+    name: &'a str,
+) -> Result<Input<'a>, Halt> {
+    let metered = Metered {
+        reader: open_source(rt, name)?,
+        name,
+        progress,
+    };
+    let Ok(mut input) = BufReader::with_capacity(rt.alloc(), BUFFER_LEN, metered) else {
+        return Err(Halt::Memory);
+    };
+    match input.fill_buf() {
+        Ok(_) => Ok(input),
+        Err(_) => Err(Halt::Read),
     }
 }
 
@@ -185,7 +196,9 @@ pub fn run_files<W: Write, E: Write>(
     };
     let mut worker = job;
     let total = run_inputs(rt, &mut worker, inputs, writer, errors)?;
-    job.watch.is_whole.set(!total.is_stopped);
+    job.watch
+        .is_whole
+        .set(!total.is_stopped && !total.lacks_input);
     Ok(total)
 }
 
@@ -202,7 +215,8 @@ pub struct Inputs<'n, 'p> {
 }
 
 /// Answers the rows of each input up to a fault at which the run ends. A search for faults goes on
-/// with the next input after a row that is cut off.
+/// with the next input after a row that is cut off, and a run that does not end at faults after an
+/// input that cannot be opened, or of which no byte can be read.
 pub fn run_inputs<L: LineWorker, W: Write, E: Write>(
     rt: &HostRuntime,
     worker: &mut L,
@@ -214,10 +228,19 @@ pub fn run_inputs<L: LineWorker, W: Write, E: Write>(
         rows: 0,
         faults: 0,
         is_stopped: false,
+        lacks_input: false,
     };
     let goes_on = inputs.are_checked && !inputs.stops_at_faults;
     for name in inputs_of(inputs.names) {
-        let summary = run_input(rt, worker, inputs, *name, writer, errors)?;
+        let input = match open_input(rt, inputs.progress, *name) {
+            Ok(input) => input,
+            Err(Halt::Read) if !inputs.stops_at_faults => {
+                total.lacks_input = true;
+                continue;
+            }
+            Err(halt) => return Err(halt),
+        };
+        let summary = run_input(rt, worker, inputs, *name, input, writer, errors)?;
         total = total.with(summary);
         if total.is_stopped && !goes_on {
             break;
@@ -232,6 +255,7 @@ fn run_input<L: LineWorker, W: Write, E: Write>(
     worker: &mut L,
     inputs: Inputs<'_, '_>,
     name: &str,
+    input: Input<'_>,
     writer: &mut W,
     errors: &mut E,
 ) -> Result<Summary, Halt> {
@@ -240,7 +264,7 @@ fn run_input<L: LineWorker, W: Write, E: Write>(
         form: inputs.form,
         stops_at_faults: inputs.stops_at_faults,
     };
-    let mut reader = buffered(rt, inputs.progress, open_source(rt, name)?)?;
+    let mut reader = input;
     let kind = if inputs.are_checked {
         kind_of(plan.form, &mut reader)
     } else {
@@ -265,7 +289,8 @@ pub fn output_of<'a>(
     Output::open(rt, output_in(arguments), files_of(operation, words))
 }
 
-/// Ends the output after a run: it is whole if the run came to its end.
+/// Ends the output after a run: it is whole if the run came to its end, also if this passed over an
+/// input.
 pub fn closed(output: Output<'_>, outcome: Result<Summary, Halt>) -> Result<Summary, Halt> {
     let is_whole = matches!(outcome, Ok(summary) if !summary.is_stopped);
     output.close(is_whole)?;

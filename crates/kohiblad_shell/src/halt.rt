@@ -1,7 +1,8 @@
 //! Why a run ended early.
 
 ghost use Rattle.std.specs.Prelude.{◌≡◌};
-ghost use Rattle.kohiblad_shell.specs.Words.{Memory, error_kind, halt_of_write, halt_reason};
+ghost use Rattle.kohiblad_shell.specs.Words.{Memory, error_kind, halt_of_read, halt_of_write};
+ghost use Rattle.kohiblad_shell.specs.Words.{halt_reason};
 
 use std::alloc::AllocError;
 use std::io;
@@ -38,6 +39,16 @@ impl From<AllocError> for Halt {
 
     fn from(_error: AllocError) -> Halt {
         Halt::Memory
+    }
+}
+
+/// Why a run ends after this error of a reader.
+pub fn halt_of_read(error: &io::Error) -> Halt
+    ensures { result ≡ halt_of_read (error_kind error.now) }
+{
+    match error.kind() {
+        io::ErrorKind::OutOfMemory => Halt::Memory,
+        _ => Halt::Read,
     }
 }
 

@@ -4,10 +4,11 @@ ghost use Rattle.std.specs.Prelude.{◌≡◌, IfOk, length, min};
 ghost use Rattle.std.specs.Int.{to_be_bytes, w64};
 ghost use Rattle.std.specs.List.{list_all};
 ghost use Rattle.kohiblad_shell.specs.Words.{AppendsHeld, AppendsHeldLine, Documents, ReadsLine};
-ghost use Rattle.kohiblad_shell.specs.Words.{ReadsPart, ReadsRow, is_blank, is_passed_over};
-ghost use Rattle.kohiblad_shell.specs.Words.{strip_last};
+ghost use Rattle.kohiblad_shell.specs.Words.{ReadsPart, ReadsRow, ReadsText, is_blank};
+ghost use Rattle.kohiblad_shell.specs.Words.{is_passed_over, strip_last};
 
-use crate::halt::Halt;
+use crate::halt::{Halt, halt_of_read};
+use crate::value::read_value;
 use byteorder::{BigEndian, ByteOrder};
 use jsonb::Exponents;
 use memchr::memchr;
@@ -16,15 +17,15 @@ use std::io::{self, BufRead};
 /// How rows stand one after another.
 #[derive(Clone, Copy)]
 pub enum Form {
-    /// A JSON text on each line.
+    /// JSON texts: one on each line, or one after another.
     Lines(Reading),
     /// Documents as a column stores them, each after its length.
     Documents,
 }
 
 impl Form {
-    /// Whether a row gives nothing and is not wrong: a line that is empty, or has white space alone,
-    /// where such lines are passed over.
+    /// Whether a row gives nothing and is not wrong: a line that is empty, or has white space
+    /// alone, where such lines are passed over.
     pub fn passes_over(self, row: &[u8]) -> bool
         ensures { result ≡ is_passed_over self row.now }
     {
@@ -54,10 +55,10 @@ fn is_blank(byte: u8) -> bool
 pub struct Reading {
     /// Whether numbers may have exponents.
     pub exponents: Exponents,
-    /// Whether the fault of a line says what could have come there.
-    pub is_explained: bool,
     /// Whether lines that are empty, or have white space alone, are passed over.
     pub passes_over_empty: bool,
+    /// Whether rows are values one after another, and not lines.
+    pub are_values: bool,
 }
 
 /// What a read found.
@@ -82,14 +83,26 @@ pub fn read_row<R: BufRead>(form: Form, reader: &mut R, row: &mut Vec<u8>) -> Re
         (R.remaining reader.old) (R.remaining reader.new) row.new.items found) }
 {
     match form {
-        Form::Lines(_) => {
-            if read_line(reader, row)? {
+        Form::Lines(reading) => {
+            if read_text(reading, reader, row)? {
                 Ok(Found::Row)
             } else {
                 Ok(Found::End)
             }
         }
         Form::Documents => read_stored(reader, row),
+    }
+}
+
+// Reads the next line or value in place of what `row` held. `false` if nothing is left.
+fn read_text<R: BufRead>(reading: Reading, reader: &mut R, row: &mut Vec<u8>) -> Result<bool, Halt>
+    ensures ok { IfOk result (λ is_row. ReadsText reading.are_values
+        (R.remaining reader.old) (R.remaining reader.new) row.new.items is_row) }
+{
+    if reading.are_values {
+        read_value(reader, row)
+    } else {
+        read_line(reader, row)
     }
 }
 
@@ -217,13 +230,5 @@ fn first_len(length: usize, limit: u64) -> usize
         length
     } else {
         limit as usize
-    }
-}
-
-// Why a run ends after this error of a reader.
-fn halt_of_read(error: &io::Error) -> Halt {
-    match error.kind() {
-        io::ErrorKind::OutOfMemory => Halt::Memory,
-        _ => Halt::Read,
     }
 }

@@ -54,8 +54,12 @@ pub fn row_key(alloc: Global, document: Document<'_>, paths: &[SortPath]) -> Res
     }
 }
 
-// The keys of what the paths lead to, one after another.
-fn path_keys(alloc: Global, document: Document<'_>, paths: &[SortPath]) -> Result<Vec<u8>, Error>
+/// The keys of what the paths lead to, one after another. `OutOfMemory` is the only error.
+pub fn path_keys(
+    alloc: Global,
+    document: Document<'_>,
+    paths: &[SortPath],
+) -> Result<Vec<u8>, Error>
     ensures ok { IfOk result
         (λ key. key.items ≡ path_keys paths.now (document_tree document.entry)) }
     ensures memory { IfErr result (λ e. e ≡ Error.OutOfMemory) }

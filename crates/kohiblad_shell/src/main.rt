@@ -2,6 +2,7 @@
 #![tactic(auto)]
 
 mod arguments;
+mod columns;
 mod command;
 mod command_line;
 mod commands;
@@ -11,6 +12,11 @@ mod expected;
 mod extract;
 mod files;
 mod first;
+mod group;
+mod group_command;
+mod group_rows;
+mod group_words;
+mod groups;
 mod halt;
 mod input;
 mod iso;
@@ -46,24 +52,30 @@ mod spill;
 mod status;
 mod survey;
 mod survey_command;
+mod survey_json;
+mod table;
+mod table_text;
 mod template;
 mod template_text;
 mod temporary;
 mod text_search;
 mod titles;
+mod total;
+mod value;
 mod watch;
 mod write;
 
 use arguments::{
-    form_in, has_iso_dates_in, is_inverted_in, is_quiet_in, layout_in, look_in, operand_in,
-    pattern_flags_in, style_in, value_in, value_kind_in, words_in,
+    form_in, has_heading_in, is_inverted_in, is_quiet_in, layout_in, look_in, operand_in,
+    pattern_flags_in, style_in, table_layout_in, value_in, value_kind_in, words_in,
 };
 use clap::ArgMatches;
+use columns::{column_words, columns_in, split_name};
 use command::{Command, Operands, operation_of};
 use command_line::program;
 use commands::{CommandRow, End, row_named};
-use extract::column_words;
 use files::{expect_input_once, files_of, goes_to_terminal, progress_of};
+use group_command::write_groups;
 use halt::{Halt, halt_of_write};
 use input::Form;
 use jsonb::Document;
@@ -71,8 +83,8 @@ use merge_command::write_merged;
 use messages::{failure, misuse, notice_missed, refused_line};
 use operand_kind::OperandKind;
 use operands::{
-    deciding_path_in, document_of, path_in, pattern_in, push_column, push_path, push_sort_path,
-    push_steps, steps_in, template_in,
+    deciding_path_in, document_of, path_in, pattern_in, push_path, push_sort_path, push_steps,
+    steps_in, template_in,
 };
 use operation::Job;
 use range::ValueRange;
@@ -85,6 +97,7 @@ use std::alloc::AllocError;
 use std::env;
 use std::process::ExitCode;
 use survey_command::write_survey;
+use table::Table;
 use text_search::TextSearch;
 use watch::Watch;
 
@@ -140,6 +153,7 @@ fn run_command(rt: &HostRuntime, row: &CommandRow, arguments: &ArgMatches<'_>) -
         OperandKind::Steps => with_steps(rt, row, arguments),
         OperandKind::Removed => with_removals(rt, row, arguments),
         OperandKind::Columns => with_columns(rt, row, arguments),
+        OperandKind::Aggregates => write_groups(rt, arguments),
         OperandKind::Bounds => with_bounds(rt, row, arguments),
         OperandKind::Pattern => with_pattern(rt, row, arguments),
         OperandKind::Keys => with_paths(rt, row, arguments),
@@ -211,7 +225,7 @@ fn run_job(rt: &HostRuntime, end: End, job: Job<'_, '_>, arguments: &ArgMatches<
         End::Count => count(rt, job, arguments),
         End::Sorted => write_in_order(rt, job, arguments),
         End::Merged => write_merged(rt, job, arguments),
-        End::Rows | End::Survey => write_rows(rt, job, arguments),
+        End::Rows | End::Survey | End::Groups => write_rows(rt, job, arguments),
     }
 }
 
@@ -241,10 +255,10 @@ fn watched_texts<'a>(
             }
         }
         Command::Extract => {
-            texts.push(operand_in(arguments))?;
+            texts.push(split_name(operand_in(arguments)).1)?;
             let words = words_in(arguments).unwrap_or(&[]);
-            for text in words[..column_words(words)].iter().step_by(2) {
-                texts.push(*text)?;
+            for word in words[..column_words(words)].iter().step_by(2) {
+                texts.push(split_name(*word).1)?;
             }
         }
         Command::Range | Command::Grep => {
@@ -363,25 +377,17 @@ fn with_removals(rt: &HostRuntime, row: &CommandRow, arguments: &ArgMatches<'_>)
 
 // Runs the command whose operands are paths, each with a type, which come before the files.
 fn with_columns(rt: &HostRuntime, row: &CommandRow, arguments: &ArgMatches<'_>) -> u8 {
-    let mut columns = Vec::new(rt.alloc());
-    let has_iso_dates = has_iso_dates_in(arguments);
-    let (path, type_name) = (operand_in(arguments), value_in(arguments));
-    if let Err(status) = push_column(rt, &mut columns, path, type_name, has_iso_dates) {
-        return status;
-    }
-    let words = words_in(arguments).unwrap_or(&[]);
-    let (typed, files) = words.split_at(column_words(words));
-    let mut left = typed;
-    while let [path, type_name, rest @ ..] = left {
-        if let Err(status) = push_column(rt, &mut columns, *path, *type_name, has_iso_dates) {
-            return status;
+    match columns_in(rt, arguments) {
+        Ok(columns) => {
+            let table = Table {
+                columns: &columns,
+                layout: table_layout_in(arguments),
+                has_heading: has_heading_in(arguments),
+            };
+            run_operands(rt, row, Operands::Table(table), arguments)
         }
-        left = rest;
+        Err(status) => status,
     }
-    if path_count(files) > 0 {
-        return misuse(rt, "the last path has no type after it");
-    }
-    run_operands(rt, row, Operands::Columns(&columns), arguments)
 }
 
 // Runs the command whose operand is a pattern.

@@ -150,8 +150,8 @@ fn first_heads<L: LineWorker + Copy, R: BufRead>(
     Ok(heads)
 }
 
-// Reads the next row of an input that gives something, after the last one, if there is one. `row` is
-// a buffer.
+// Reads the next row of an input that gives something, after the last one, if there is one. `row`
+// is a buffer.
 fn next_head<L: LineWorker + Copy, R: BufRead>(
     alloc: Global,
     worker: &L,
@@ -221,6 +221,7 @@ const NOT_SORTED: LineFault = LineFault {
     offset: 0,
     reason: Reason::NotSorted,
     expected: 0,
+    found: None,
 };
 
 // A fault of a row as the end of a merge.

@@ -1,7 +1,7 @@
 //! The command that merges files whose rows are sorted.
 
 use crate::arguments::words_in;
-use crate::files::{BUFFER_LEN, closed, inputs_of, kind_after_mark, open_sources, output_of};
+use crate::files::{BUFFER_LEN, closed, inputs_of, kind_after_mark, open_inputs, output_of};
 use crate::halt::Halt;
 use crate::kind::InputKind;
 use crate::merge::{self, InputFault, MergeEnd};
@@ -27,7 +27,7 @@ pub fn write_merged(rt: &HostRuntime, job: Job<'_, '_>, arguments: &ArgMatches<'
         Ok(output) => output,
         Err(status) => return status,
     };
-    match open_sources(rt, job.watch.progress, names) {
+    match open_inputs(rt, job.watch.progress, names) {
         Ok(mut readers) => merge_readers(rt, job, &mut readers, names, output),
         Err(halt) => not_written(rt, output, halt),
     }
@@ -64,6 +64,7 @@ fn merge_readers<R: BufRead>(
                 rows,
                 faults: 0,
                 is_stopped: false,
+                lacks_input: false,
             };
             ended(rt, Aim::Rows, closed(output, Ok(summary)))
         }

@@ -21,8 +21,11 @@ pub enum OperandKind {
     Steps,
     /// Paths without wildcards.
     Removed,
-    /// Paths, each with a type.
+    /// Paths, each with a type, and with a name or none.
     Columns,
+    /// What is reckoned of each group of rows, and the paths to values that rows of one have in
+    /// common.
+    Aggregates,
     /// The bounds of a range, and the path to the value that decides.
     Bounds,
     /// A pattern, and the path to the texts.
@@ -47,6 +50,7 @@ impl OperandKind {
             OperandKind::Steps => &[STEPS, NEW_VALUE],
             OperandKind::Removed => &[REMOVED],
             OperandKind::Columns => &[COLUMN, TYPE],
+            OperandKind::Aggregates => &[AGGREGATE],
             OperandKind::Bounds => &[FROM, TO],
             OperandKind::Pattern => &[PATTERN],
             OperandKind::Nothing
@@ -156,7 +160,8 @@ const REMOVED: Operand = Operand {
 const COLUMN: Operand = Operand {
     id: "operand",
     name: "PATH",
-    help: "A path, such as '$.price'; after TYPE more paths may come, each with its type",
+    help: "A path, such as '$.price', or NAME=PATH, where NAME has letters, digits, spaces, '_', \
+        '-' and '.' alone; after TYPE more may come, each with its type",
     is_value: false,
 };
 
@@ -165,6 +170,14 @@ const TYPE: Operand = Operand {
     name: "TYPE",
     help: "boolean, int64, uint64, 'decimal 2', text, date, timestamp, timestamp_tz, interval, \
         binary, nothing or mixed",
+    is_value: false,
+};
+
+const AGGREGATE: Operand = Operand {
+    id: "operand",
+    name: "AGGREGATE",
+    help: "count, or sum and after it a path, such as sum '$.price'; more of them may come after \
+        it, before the files",
     is_value: false,
 };
 

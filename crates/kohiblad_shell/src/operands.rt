@@ -3,12 +3,13 @@
 ghost use Rattle.std.specs.Prelude.{IfOk};
 ghost use Rattle.kohiblad_shell.specs.Words.{IsDocument, owned_bytes};
 
+use crate::columns::split_name;
 use crate::extract::TypedPath;
 use crate::halt::Halt;
 use crate::input::Reading;
 use crate::messages::{failure, misuse, refused_path, refused_template};
 use crate::operand_kind::ValueKind;
-use crate::outcome::{LineFault, Unanswered};
+use crate::outcome::{LineFault, Unanswered, reason_text};
 use crate::row::parse_line;
 use crate::sort_path::{SortPath, split_direction};
 use crate::template::Template;
@@ -24,7 +25,7 @@ use jsonb_typed::{LeastType, parse_type};
 // How operands are read.
 const OPERAND: Reading = Reading {
     exponents: Exponents::Allowed,
-    is_explained: false,
+    are_values: false,
     passes_over_empty: false,
 };
 
@@ -57,7 +58,9 @@ fn document_of_json(rt: &HostRuntime, text: &str) -> Result<OwnedJsonb, u8>
 fn refused_value(rt: &HostRuntime, text: &str, fault: LineFault) -> u8 {
     let alloc = rt.alloc();
     let byte = fault.offset as u128 + 1;
-    let reason = fault.reason.name();
+    let Ok(reason) = reason_text(alloc, fault) else {
+        return failure(rt, Halt::Memory);
+    };
     let Ok(wrong) = format!(in alloc; "the operand is wrong at byte {byte}: {reason}") else {
         return failure(rt, Halt::Memory);
     };
@@ -189,17 +192,20 @@ fn type_in(rt: &HostRuntime, type_name: &str) -> Result<LeastType, u8> {
 const NO_TYPE: &str = "there is no such type; the types are boolean, int64, uint64, 'decimal 2', \
     text, date, timestamp, timestamp_tz, interval, binary, nothing and mixed";
 
-/// Adds a path with its type, or returns the status after the fault of either is reported.
-pub fn push_column(
+/// Adds a column by its word and the name of its type, or returns the status after the fault of
+/// either is reported.
+pub fn push_column<'a>(
     rt: &HostRuntime,
-    columns: &mut Vec<TypedPath>,
-    path: &str,
+    columns: &mut Vec<TypedPath<'a>>,
+    word: &'a str,
     type_name: &str,
     has_iso_dates: bool,
 ) -> Result<(), u8> {
+    let (name, path) = split_name(word);
     let path = path_in(rt, path)?;
     let value_type = type_in(rt, type_name)?;
     let column = TypedPath {
+        name,
         path,
         value_type,
         has_iso_dates,

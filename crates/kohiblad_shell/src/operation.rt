@@ -13,7 +13,7 @@ ghost use Rattle.kohiblad_shell.specs.Words.{value_line, value_lines};
 ghost use Rattle.kohiblad_shell.specs.Operations.{IsFirstGiven, IsGiven};
 ghost use Rattle.jsonb_path.specs.Found.{outcome_of};
 
-use crate::extract::{TypedPath, csv_line};
+use crate::extract::table_line;
 use crate::first::{asked, first_of, given_up, passes_path};
 use crate::input::Form;
 use crate::key::row_key;
@@ -24,6 +24,7 @@ use crate::removal::removed_row;
 use crate::row::{check_document, parse_line};
 use crate::show::shown_lines;
 use crate::sort_path::SortPath;
+use crate::table::Table;
 use crate::template::{Template, built_row};
 use crate::text_search::{TextSearch, is_searched};
 use crate::watch::Watch;
@@ -91,8 +92,9 @@ pub enum Operation<'a> {
     Key(&'a [SortPath]),
     /// Keeps the key of the row by these paths and the row as it stands, each after its length.
     Sort(&'a [SortPath]),
-    /// Writes the values at paths as a line of CSV. A row of which one is not of its type is wrong.
-    Extract(&'a [TypedPath]),
+    /// Writes the values at paths as a line of a table. A row of which one is not of its type is
+    /// wrong.
+    Extract(Table<'a>),
     /// Writes the value that a template makes of the row, as a compact text or as its canonical
     /// document. A row of which a path is given up is wrong.
     Build(&'a Template),
@@ -199,7 +201,9 @@ fn row_lines(
         Operation::Decode(layout) => Ok(document_line(alloc, document, layout)?),
         Operation::Key(paths) => Ok(key_line(alloc, document, paths)?),
         Operation::Sort(paths) => Ok(keyed_row(alloc, form, document, paths, row)?),
-        Operation::Extract(columns) => typed_line(csv_line(alloc, document, columns)?),
+        Operation::Extract(table) => {
+            typed_line(table_line(alloc, document, table.layout, table.columns)?)
+        }
         Operation::Build(template) => built_row(alloc, form, document, template),
         Operation::Show(look) => Ok(shown_lines(alloc, document.as_bytes(), look)?),
     }

@@ -16,9 +16,9 @@ use std::alloc::{AllocError, Global};
 #[derive(Clone, Copy, Debug, PartialEq, Eq)]
 pub enum Reason {
     /// It is not UTF-8.
-    BadUtf8,
+    InvalidUtf8,
     /// It is not JSON, and no number is at fault.
-    BadSyntax,
+    InvalidJson,
     /// It is not JSON: a number is unfinished or too large.
     BadNumber,
     /// It nests too deep.
@@ -43,8 +43,8 @@ impl Reason {
         ensures { result.now ≡ reason_name self }
     {
         match self {
-            Reason::BadUtf8 => "BadUtf8",
-            Reason::BadSyntax => "BadSyntax",
+            Reason::InvalidUtf8 => "InvalidUtf8",
+            Reason::InvalidJson => "InvalidJson",
             Reason::BadNumber => "BadNumber",
             Reason::TooDeep => "TooDeep",
             Reason::TooLarge => "TooLarge",
@@ -92,6 +92,8 @@ pub struct LineFault {
     pub reason: Reason,
     /// What could have come there, as the sum of the library's classes; 0 if that is not said.
     pub expected: u32,
+    /// The character that came, if one is there.
+    pub found: Option<char>,
 }
 
 impl LineFault {
@@ -103,6 +105,7 @@ impl LineFault {
             offset,
             reason,
             expected: 0,
+            found: None,
         }
     }
 }
@@ -143,7 +146,8 @@ pub trait LineWorker {
 }
 
 /// The line that reports a fault: the name of the input with escapes, the number of the line, that
-/// of the byte, both counted from 1, the reason, and what could have come there, if that is said.
+/// of the byte, both counted from 1, the reason, and of a text that is not JSON what could have
+/// come there and what came.
 pub fn fault_text(alloc: Global, name: &str, number: u64, fault: LineFault) -> Result<String, Halt>
     ensures ok { IfOk result (λ text. string_bytes text ≡ fault_line name.now number fault) }
     ensures memory { IfErr result (λ e. e ≡ Halt.Memory) }
@@ -154,12 +158,13 @@ pub fn fault_text(alloc: Global, name: &str, number: u64, fault: LineFault) -> R
     Ok(format!(in alloc; "{shown}:{number}:{byte}: {reason}\n")?)
 }
 
-// Why a row is wrong, and what could have come there, if that is said.
+/// Why a row is wrong: the reason, and of a text that is not JSON what could have come there and
+/// what came.
 #[tactic(auto, unfolding(crate::specs::Faults::reason_text))]
-fn reason_text(alloc: Global, fault: LineFault) -> Result<String, AllocError>
+pub fn reason_text(alloc: Global, fault: LineFault) -> Result<String, AllocError>
     ensures { IfOk result (λ text. string_bytes text ≡ reason_text fault) }
 {
     let reason = fault.reason.name();
-    let expected = expected_text(alloc, fault.expected)?;
-    format!(in alloc; "{reason}{expected}")
+    let words = expected_text(alloc, fault.expected, fault.found)?;
+    format!(in alloc; "{reason}{words}")
 }

@@ -2,8 +2,9 @@
 
 ghost use Rattle.std.specs.Prelude.{◌≡◌, ◌≤◌, ◌<◌, ◌+◌, ◌-◌, ◌*◌, ◌/◌};
 
+use crate::messages::tell_failed;
 use std::cell::Cell;
-use std::io::{self, Read, Write};
+use std::io::{self, ErrorKind, Read, Write};
 use std::time::Instant;
 
 // How many milliseconds a run takes before the line is shown, and how many lie between two of them.
@@ -60,6 +61,16 @@ impl<'a> Progress<'a> {
         }
     }
 
+    // Says that an input of this name could not be read, unless the read is only to be tried again.
+    fn tell_unread(&self, name: &str, error: &io::Error) {
+        if error.kind() == ErrorKind::Interrupted {
+            return;
+        }
+        self.clear();
+        let shown = if name == "-" { "standard input" } else { name };
+        tell_failed(self.rt, "cannot read", shown, error);
+    }
+
     // Counts bytes that were read, and shows the line if it is time.
     fn count_bytes(&self, count: usize) {
         self.bytes
@@ -111,10 +122,11 @@ fn seconds_left(elapsed: u64, done: u64, size: u64) -> u128
     elapsed as u128 * (size - done) as u128 / done as u128 / 1000
 }
 
-/// A reader whose bytes are counted.
+/// A reader whose bytes are counted, and whose faults are reported with its name.
 #[derive(Drop)]
 pub struct Metered<'a, R> {
     pub reader: R,
+    pub name: &'a str,
     pub progress: &'a Progress<'a>,
 }
 
@@ -122,9 +134,16 @@ impl<R: Read> Read for Metered<'_, R> {
     ghost remaining = { λ metered. R.remaining metered.reader };
 
     fn read(&mut self, buf: &mut [u8]) -> io::Result<usize> {
-        let count = self.reader.read(buf)?;
-        self.progress.count_bytes(count);
-        Ok(count)
+        match self.reader.read(buf) {
+            Ok(count) => {
+                self.progress.count_bytes(count);
+                Ok(count)
+            }
+            Err(error) => {
+                self.progress.tell_unread(self.name, &error);
+                Err(error)
+            }
+        }
     }
 }
 

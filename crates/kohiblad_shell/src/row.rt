@@ -1,7 +1,7 @@
 //! The document of a row, or why the row is wrong.
 
 ghost use Rattle.std.specs.Prelude.{◌≡◌, ◌↔◌, IfOk, IfErr, IsOk, chars};
-ghost use Rattle.kohiblad_shell.specs.Words.{AreExpected, IsDocument, IsDocumentWithin};
+ghost use Rattle.kohiblad_shell.specs.Words.{IsCharacterAt, IsDocument, IsDocumentWithin};
 ghost use Rattle.kohiblad_shell.specs.Words.{IsJsonUnder, IsNotJson};
 ghost use Rattle.kohiblad_shell.specs.Words.{IsParsed, IsRefusedLine, ParsesUnderWithin, Wrong};
 ghost use Rattle.kohiblad_shell.specs.Words.{bad_document, document_bytes, line_reason};
@@ -44,7 +44,7 @@ pub fn parse_line(alloc: Global, line: &[u8], reading: Reading) -> Result<OwnedJ
 {
     match compat::from_utf8(line) {
         Ok(text) => parse_text(alloc, text, reading),
-        Err(error) => Err(wrong(error.valid_up_to(), Reason::BadUtf8)),
+        Err(error) => Err(wrong(error.valid_up_to(), Reason::InvalidUtf8)),
     }
 }
 
@@ -73,17 +73,18 @@ fn parse_under(alloc: Global, text: &str, exponents: Exponents) -> Result<OwnedJ
     }
 }
 
-// Where a text is not JSON, why, and what could have come there if that is asked for.
+// Where a text is not JSON, why, what could have come there, and what came.
 fn fault_in(alloc: Global, text: &str, reading: Reading) -> Unanswered
     requires { IsJsonUnder reading.exponents (chars text.now) → ⊥ }
     ensures { IsNotJson reading text.now result }
 {
     match fault_of(alloc, text, reading.exponents) {
-        Ok(Some(fault)) => match expected_in(alloc, text, reading) {
+        Ok(Some(fault)) => match text_expected(alloc, text, reading.exponents) {
             Ok(expected) => Unanswered::Wrong(LineFault {
                 offset: fault.offset,
                 reason: reason_of(fault.reason),
                 expected,
+                found: character_at(text, fault.offset),
             }),
             Err(_) => Unanswered::OutOfMemory,
         },
@@ -92,14 +93,13 @@ fn fault_in(alloc: Global, text: &str, reading: Reading) -> Unanswered
     }
 }
 
-// What could have come where a text is not JSON, if that is asked for.
-fn expected_in(alloc: Global, text: &str, reading: Reading) -> Result<u32, Error>
-    ensures { IfOk result (AreExpected reading text.now) }
+// The character that begins after so many bytes of a text; `None` at its end.
+fn character_at(text: &str, offset: usize) -> Option<char>
+    ensures { IsCharacterAt text.now offset result }
 {
-    if reading.is_explained {
-        text_expected(alloc, text, reading.exponents)
-    } else {
-        Ok(0)
+    match text.get(offset..) {
+        Some(rest) => rest.chars().next(),
+        None => None,
     }
 }
 
@@ -120,7 +120,7 @@ fn reason_of(reason: FaultReason) -> Reason
     ensures { result ≡ line_reason reason }
 {
     match reason {
-        FaultReason::Syntax => Reason::BadSyntax,
+        FaultReason::Syntax => Reason::InvalidJson,
         FaultReason::Number => Reason::BadNumber,
     }
 }

@@ -4,10 +4,11 @@ use crate::arguments::stops_in;
 use crate::files::{BUFFER_LEN, closed, output_of, run_files};
 use crate::halt::Halt;
 use crate::messages::{ended, reports};
-use crate::operation::Job;
+use crate::operation::{Job, Operation};
 use crate::output::Output;
 use crate::run::Summary;
 use crate::status::Aim;
+use crate::table::write_heading;
 use crate::write::{flush, write_bytes};
 use clap::ArgMatches;
 use std::io::{self, BufWriter};
@@ -55,7 +56,7 @@ pub fn write_rows(rt: &HostRuntime, job: Job<'_, '_>, arguments: &ArgMatches<'_>
     ended(rt, Aim::Rows, closed(output, outcome))
 }
 
-// Runs a job, whose rows go to an output.
+// Runs a job, whose rows go to an output, after the heading of a table.
 fn run_to(
     rt: &HostRuntime,
     job: Job<'_, '_>,
@@ -65,6 +66,9 @@ fn run_to(
     let Ok(mut writer) = BufWriter::with_capacity(rt.alloc(), BUFFER_LEN, output) else {
         return Err(Halt::Memory);
     };
+    if let Operation::Extract(table) = job.operation {
+        write_heading(rt.alloc(), table, &mut writer)?;
+    }
     let stops = stops_in(arguments, true);
     let mut errors = reports(rt, job.watch.progress);
     run_files(rt, job, arguments, stops, &mut writer, &mut errors)

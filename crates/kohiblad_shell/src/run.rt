@@ -32,13 +32,14 @@ impl Plan<'_> {
     }
 }
 
-/// How many rows of the input gave a row, how many were wrong, and whether the run ended at one of
-/// these.
+/// How many rows of the input gave a row, how many were wrong, whether the run ended at one of
+/// these, and whether it passed over an input that could not be read.
 #[derive(Clone, Copy, Debug, PartialEq, Eq)]
 pub struct Summary {
     pub rows: u64,
     pub faults: u64,
     pub is_stopped: bool,
+    pub lacks_input: bool,
 }
 
 impl Summary {
@@ -50,6 +51,7 @@ impl Summary {
             rows: self.rows.saturating_add(other.rows),
             faults: self.faults.saturating_add(other.faults),
             is_stopped: self.is_stopped || other.is_stopped,
+            lacks_input: self.lacks_input || other.lacks_input,
         }
     }
 
@@ -61,6 +63,7 @@ impl Summary {
             rows: self.faults,
             faults: 0,
             is_stopped: false,
+            lacks_input: self.lacks_input,
         }
     }
 }
@@ -131,6 +134,7 @@ fn take_lines<L: LineWorker, R: BufRead, W: Write, E: Write>(
                         rows,
                         faults,
                         is_stopped: true,
+                        lacks_input: false,
                     });
                 }
             }
@@ -139,6 +143,7 @@ fn take_lines<L: LineWorker, R: BufRead, W: Write, E: Write>(
                     rows,
                     faults,
                     is_stopped: false,
+                    lacks_input: false,
                 });
             }
         }

@@ -16,7 +16,7 @@ use std::io::{BufWriter, Read};
 /// Sorts the lines by their keys.
 pub fn write_in_order(rt: &HostRuntime, job: Job<'_, '_>, arguments: &ArgMatches<'_>) -> u8 {
     let Some(memory) = memory_in(arguments) else {
-        return misuse(rt, "the memory is no size, such as 500M or 2G");
+        return misuse(rt, "the memory is no size, such as 500M or 1.5G");
     };
     let Ok(usual) = env::temp_dir(rt) else {
         return failure(rt, Halt::Read);

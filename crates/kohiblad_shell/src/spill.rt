@@ -5,7 +5,7 @@ use crate::halt::Halt;
 use crate::messages::tell_failed;
 use crate::sort::{self, Arrangement, sort_rows};
 use crate::sorted_run::{RowParts, merge_runs, write_run};
-use crate::temporary::unnamed_file;
+use crate::temporary::{TemporaryFile, unnamed_file};
 use std::fs::File;
 use std::io::{self, BufReader, BufWriter, ErrorKind, Seek, SeekFrom, Write};
 
@@ -98,7 +98,7 @@ impl<'a> Spill<'a> {
     // once there are many, so that no row is merged more often than there are levels.
     fn end_part(&mut self) -> Result<(), Halt> {
         let file = self.new_run()?;
-        let mut writer = buffered_writer(self.rt, &file)?;
+        let mut writer = self.buffered_writer(&file)?;
         write_run(self.rt.alloc(), &self.kept, self.arrangement, &mut writer)?;
         drop(writer);
         self.kept.clear();
@@ -125,6 +125,18 @@ impl<'a> Spill<'a> {
         }
     }
 
+    // What writes to this temporary file.
+    fn buffered_writer<'f>(&self, file: &'f File) -> Result<BufWriter<TemporaryFile<'f>>, Halt>
+    where
+        'a: 'f,
+    {
+        let target = TemporaryFile::new(self.rt, self.folder, file);
+        match BufWriter::with_capacity(self.rt.alloc(), BUFFER_LEN, target) {
+            Ok(writer) => Ok(writer),
+            Err(_) => Err(Halt::Memory),
+        }
+    }
+
     // Adds a run.
     fn push_run(&mut self, run: Run) -> Result<(), Halt> {
         match self.runs.push(run) {
@@ -148,7 +160,7 @@ impl<'a> Spill<'a> {
     fn merge_last(&mut self, count: usize, level: u32) -> Result<(), Halt> {
         let first = self.runs.len().saturating_sub(count);
         let file = self.new_run()?;
-        let mut writer = buffered_writer(self.rt, &file)?;
+        let mut writer = self.buffered_writer(&file)?;
         self.write_merged(first, RowParts::KeyAndLine, &mut writer)?;
         drop(writer);
         self.runs.truncate(first);
@@ -169,7 +181,8 @@ impl<'a> Spill<'a> {
             if file.seek(SeekFrom::Start(0)).is_err() {
                 return Err(Halt::Read);
             }
-            let Ok(reader) = BufReader::with_capacity(alloc, BUFFER_LEN, file) else {
+            let source = TemporaryFile::new(self.rt, self.folder, file);
+            let Ok(reader) = BufReader::with_capacity(alloc, BUFFER_LEN, source) else {
                 return Err(Halt::Memory);
             };
             if readers.push(reader).is_err() {
@@ -195,13 +208,5 @@ impl<'a> Spill<'a> {
             self.merge_last(MAX_MERGED, u32::MAX)?;
         }
         self.write_merged(0, RowParts::Line, writer)
-    }
-}
-
-// A writer to a temporary file.
-fn buffered_writer<'f>(rt: &HostRuntime, file: &'f File) -> Result<BufWriter<&'f File>, Halt> {
-    match BufWriter::with_capacity(rt.alloc(), BUFFER_LEN, file) {
-        Ok(writer) => Ok(writer),
-        Err(_) => Err(Halt::Memory),
     }
 }

@@ -15,7 +15,7 @@ pub const NOT_FOUND: u8 = 1;
 /// The status after wrong use.
 pub const MISUSE: u8 = 2;
 
-/// The status if a device or memory failed.
+/// The status if a device or memory failed, also at an input that was passed over.
 pub const FAILURE: u8 = 3;
 
 /// The status if nobody reads the output: what a shell says of a program that the signal of a
@@ -45,6 +45,9 @@ pub fn run_status(aim: Aim, outcome: Result<Summary, Halt>) -> u8
 fn summary_status(aim: Aim, summary: Summary) -> u8
     ensures { result ≡ summary_status aim summary }
 {
+    if summary.lacks_input {
+        return FAILURE;
+    }
     let is_missed = match aim {
         Aim::Rows => summary.rows == 0 || summary.is_stopped,
         Aim::Faults => summary.faults != 0,

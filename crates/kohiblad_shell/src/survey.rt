@@ -45,8 +45,8 @@ impl LineWorker for ValueCounter<'_> {
     }
 }
 
-// The document of a row.
-fn row_document(alloc: Global, form: Form, row: &[u8]) -> Result<Vec<u8>, Unanswered>
+/// The document of a row.
+pub fn row_document(alloc: Global, form: Form, row: &[u8]) -> Result<Vec<u8>, Unanswered>
     ensures row { IfOk result (λ bytes. IsRow form row.now bytes.items) }
     ensures document { IfOk result (λ bytes. IsDocument bytes.items) }
     ensures refused { IfErr result (IsRefusedRow form row.now) }

@@ -1,6 +1,8 @@
 //! The command that counts what values are.
 
-use crate::arguments::{form_in, is_quiet_in, operand_in, output_in, stops_in, words_in};
+use crate::arguments::{
+    form_in, is_quiet_in, operand_in, output_in, stops_in, words_in, writes_json_in,
+};
 use crate::commands::End;
 use crate::files::{Inputs, closed, expect_input_once, progress_of, run_inputs};
 use crate::halt::Halt;
@@ -10,6 +12,7 @@ use crate::progress::Progress;
 use crate::run::Summary;
 use crate::status::Aim;
 use crate::survey::{ValueCounter, survey_text};
+use crate::survey_json::survey_json;
 use crate::write::write_bytes;
 use clap::ArgMatches;
 use jsonb_path::Path;
@@ -47,7 +50,11 @@ fn write_counts(
     };
     let summary = count_values(rt, &mut counter, arguments, &progress)?;
     if !summary.is_stopped {
-        let text = survey_text(rt.alloc(), &counter.survey)?;
+        let text = if writes_json_in(arguments) {
+            survey_json(rt.alloc(), &counter.survey)?
+        } else {
+            survey_text(rt.alloc(), &counter.survey)?
+        };
         write_bytes(output, text.as_bytes())?;
         notice_absent(rt, &counter.survey, arguments);
     }

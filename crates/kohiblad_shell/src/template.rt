@@ -70,8 +70,8 @@ pub fn built<'a>(
     one_of(template_values(alloc, document, template)?)
 }
 
-// The canonical document of a value.
-fn encoded(alloc: Global, value: &Value<'_>) -> Result<OwnedJsonb, Error>
+/// The canonical document of a value.
+pub fn encoded(alloc: Global, value: &Value<'_>) -> Result<OwnedJsonb, Error>
     ensures ok { IfOk result (λ owned. owned_bytes owned ≡ canon (tree_of value.now)) }
     ensures limits { MadeWithMemory (Fits (tree_of value.now)) result }
 {
@@ -146,9 +146,13 @@ fn members_of<'a>(
     Ok(made)
 }
 
-// Puts a value among members, in place of that with its name, if there is one.
+/// Puts a value among members, in place of that with its name, if there is one.
 #[tactic(auto, using(crate::proofs::TemplateLaws::pairs_inserted))]
-fn insert_member<'a>(members: &mut Object<'a>, key: String, value: Value<'a>) -> Result<(), Error>
+pub fn insert_member<'a>(
+    members: &mut Object<'a>,
+    key: String,
+    value: Value<'a>,
+) -> Result<(), Error>
     ensures ok { OnOk result (pairs_view members.new.entries
         ≡ with_key (string_bytes key) (tree_of value.entry) (pairs_view members.old.entries)) }
     ensures memory { IfErr result (λ e. e ≡ Error.OutOfMemory) }
@@ -199,8 +203,8 @@ fn values_of<'a>(alloc: Global, nodes: &[Node<'a>]) -> Result<Vec<Value<'a>>, Er
     Ok(values)
 }
 
-// A value in memory.
-fn value_of<'a>(alloc: Global, node: Node<'a>) -> Result<Value<'a>, Error>
+/// A value in memory.
+pub fn value_of<'a>(alloc: Global, node: Node<'a>) -> Result<Value<'a>, Error>
     ensures ok { IfOk result (λ value. tree_of value ≡ node_tree node.entry) }
     ensures memory { IfErr result (λ e. e ≡ Error.OutOfMemory) }
 {

@@ -1,8 +1,9 @@
 //! Temporary files.
 
+use crate::messages::tell_failed;
 use hex::encode;
 use std::fs::{self, File, OpenOptions};
-use std::io::{self, ErrorKind};
+use std::io::{self, ErrorKind, Read, Write};
 use std::os::unix::fs::OpenOptionsExt;
 use std::random::RandomSource;
 
@@ -15,6 +16,62 @@ pub fn unnamed_file(rt: &HostRuntime, folder: &str) -> io::Result<File> {
     let (file, name) = new_file(rt, folder, "kohiblad")?;
     fs::remove_file(rt, name.as_str())?;
     Ok(file)
+}
+
+/// What reads or writes a temporary file in a folder. The first thing that cannot be done with it
+/// is reported.
+#[derive(Drop)]
+pub struct TemporaryFile<'a> {
+    rt: &'a HostRuntime,
+    folder: &'a str,
+    file: &'a File,
+    is_told: bool,
+}
+
+impl<'a> TemporaryFile<'a> {
+    /// What reads or writes this file, which lies in this folder.
+    pub fn new(rt: &'a HostRuntime, folder: &'a str, file: &'a File) -> TemporaryFile<'a> {
+        TemporaryFile {
+            rt,
+            folder,
+            file,
+            is_told: false,
+        }
+    }
+
+    // Reports what could not be done.
+    fn tell(&mut self, what: &str, error: &io::Error) {
+        if !self.is_told && error.kind() != ErrorKind::Interrupted {
+            self.is_told = true;
+            tell_failed(self.rt, what, self.folder, error);
+        }
+    }
+}
+
+impl Read for TemporaryFile<'_> {
+    fn read(&mut self, bytes: &mut [u8]) -> io::Result<usize> {
+        let mut file = self.file;
+        let count = file.read(bytes);
+        if let Err(error) = &count {
+            self.tell("cannot read a temporary file in", error);
+        }
+        count
+    }
+}
+
+impl Write for TemporaryFile<'_> {
+    fn write(&mut self, bytes: &[u8]) -> io::Result<usize> {
+        let mut file = self.file;
+        let count = file.write(bytes);
+        if let Err(error) = &count {
+            self.tell("cannot write a temporary file in", error);
+        }
+        count
+    }
+
+    fn flush(&mut self) -> io::Result<()> {
+        Ok(())
+    }
 }
 
 /// A new file in this folder, which its owner alone may open, and its name, which no file had: a

@@ -117,7 +117,7 @@ fn path_at<'a>(operation: Operation<'a>, index: usize) -> Option<&'a Path> {
         Operation::Range(range) => Some(range.path),
         Operation::Grep(search) => Some(search.path),
         Operation::Sort(paths) => paths.get(index).map(|path| &path.path),
-        Operation::Extract(columns) => columns.get(index).map(|column| &column.path),
+        Operation::Extract(table) => table.columns.get(index).map(|column| &column.path),
         _ => None,
     }
 }

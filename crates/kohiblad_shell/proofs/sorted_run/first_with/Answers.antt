@@ -1,4 +1,4 @@
-use Rattle.std.proofs.Common.{◌≡◌, false, sym, ◌∙◌, get_or, arith}
+use Rattle.std.proofs.Common.{◌≡◌, sym, ◌∙◌, get_or, arith}
 use Rattle.std.proofs.lemmas.List.{get_or_default}
 use Rattle.kohiblad_shell.specs.SortedRuns.{IsFirst}
 use Rattle.kohiblad_shell.specs.declared.sorted_run.RunHead.{RunHead}

@@ -1,6 +1,0 @@
--- Fewer words are left.
-use Rattle.std.proofs.Common.{length}
-use Rattle.kohiblad_shell.proofs.with_columns.Given as goal
-
-abbrev pub decreases-loop-left : goal.decreases-loop-left
-decreases-loop-left l = length l.left
