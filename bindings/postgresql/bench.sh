@@ -1,5 +1,5 @@
 #!/usr/bin/env bash
-# Times the extension beside jsonb on 100,000 rows, and prints the table of README.md.
+# Times the extension beside jsonb on 100,000 rows, and prints rows of README.md's table.
 #
 #     bindings/postgresql/bench.sh [ROUNDS [NAME]]
 #

@@ -139,6 +139,19 @@ run_page() {
     passed "$(wc -l < "$scratch/page")"
 }
 
+# Dates, timestamps and intervals have the texts that Python shows.
+run_times() {
+    note "tests/times.tsv"
+    local times=$folder/../../tests/times.tsv answer
+    query "CREATE TABLE times (bytes text, shown text)"
+    psql -c "COPY times FROM STDIN" < "$times"
+    for answer in "d #>> '{}'" "kohiblad_build_array(d) ->> 0" \
+        "kohiblad_build_object('at', d) ->> 'at'"; do
+        expect "texts by $answer" "$(grep -c '' "$times")" "$(query "SELECT count(*)
+            FROM times, LATERAL kohiblad(decode(bytes, 'hex')) d WHERE $answer = shown")"
+    done
+}
+
 load_vectors() {
     query "CREATE TABLE lines (request text, answer text)"
     paste "$vectors.in" "$vectors.out" | psql -c "COPY lines FROM STDIN"
@@ -488,6 +501,7 @@ run_partitions
 run_refusals
 run_memory
 run_page
+run_times
 load_vectors
 run_script vectors
 run_latin

@@ -3,13 +3,13 @@
 
     tests/paths/against_program.py PROGRAM [--seed S] [--count N]
 
-PROGRAM is run without arguments. It is to answer each line of its standard input by a line. A line
-asked is a path, a document as JSON and an object with the variables, each in hexadecimal, with
-spaces between them. The answer has tabs between its parts: the compact JSON of each value that
-`Path::query` gives, the name of the error that they end with or `.`, what `Path::exists` says,
-`True`, `False` or `Unknown`, and what `Path::matches` says, one of these or the name of an error.
-For example `242e61 7b2261223a5b5d7d 7b7d`, which is `$.a` of `{"a":[]}`, is answered by `[]`, `.`,
-`True` and `BooleanRequired`.
+PROGRAM is run without arguments; answers.c is one, over the library for C. It is to answer each
+line of its standard input by a line. A line asked is a path, a document as JSON and an object with
+the variables, each in hexadecimal, with spaces between them. The answer has tabs between its parts:
+the compact JSON of each value that `Path::query` gives, the name of the error that they end with or
+`.`, what `Path::exists` says, `True`, `False` or `Unknown`, and what `Path::matches` says, one of
+these or the name of an error. For example `242e61 7b2261223a5b5d7d 7b7d`, which is `$.a` of
+`{"a":[]}`, is answered by `[]`, `.`, `True` and `BooleanRequired`.
 
 The last line is `N questions, D differ`, and the status is 1 unless D is 0.
 """

@@ -18,6 +18,11 @@ SELECT kohiblad_kind(('[1]'::kohiblad || day) -> 1) FROM dated;
 SELECT '{"a":1,"b":2}'::kohiblad - 'a', '["a",1,"a"]'::kohiblad - 'a', '{"a":1}'::kohiblad - 'x';
 SELECT '{"a":1,"b":2,"c":3}'::kohiblad - '{a,NULL,c}'::text[],
     '["a","b"]'::kohiblad - '{b}'::text[];
+-- Of a document in an old form too, a zone as whole hours, what is left is canonical.
+SELECT (d - 'k')::bytea = kohiblad_canonical(d - 'k')::bytea,
+    (d - 'k')::bytea <> kohiblad_build_object('z', d -> 'z')::bytea
+FROM (SELECT kohiblad_build_object('k', 1, 'z',
+    '\x200000006000000a30000640d6b723800008'::kohiblad) AS d) zoned;
 SELECT '[1,2,3]'::kohiblad - 0, '[1,2,3]'::kohiblad - -1, '[1,2,3]'::kohiblad - 3;
 SELECT '{"a":[1,{"b":2}]}'::kohiblad #- '{a,1,b}', '{"a":[1]}'::kohiblad #- '{a,7}';
 SELECT refusal($$ SELECT '1'::kohiblad - 'a' $$), refusal($$ SELECT '1'::kohiblad - 1 $$);

@@ -1,6 +1,7 @@
 \set ECHO none \a \t
 -- Paths of SQL/JSON, which are followed in documents or in a jsonb of them: 200 random ones find in
--- 2,000 random documents what they find in their jsonb.
+-- 2,000 random documents what they find in their jsonb. Members come in the order of their names,
+-- those of jsonb by lengths first, so that no name here is longer than one that comes after it.
 SELECT setseed(0.67) IS NOT NULL;
 CREATE FUNCTION random_filter(depth int) RETURNS text LANGUAGE sql VOLATILE AS $$ SELECT '' $$;
 -- Steps after $ or @; few of them are of kinds that are not followed in documents.
@@ -47,7 +48,8 @@ CREATE TABLE paths AS SELECT i, (CASE WHEN random() < 0.05 THEN 'strict ' ELSE '
         ::jsonpath AS path
     FROM generate_series(1, 200) i;
 CREATE TABLE walked AS SELECT i, shown::kohiblad AS d, shown::jsonb AS j
-    FROM (SELECT i, random_text(3) AS shown FROM generate_series(1, 2000) i) s;
+    FROM (SELECT i, replace(random_text(3), '"-1":', '"_":') AS shown
+          FROM generate_series(1, 2000) i) s;
 -- In a document that jsonb cannot hold, those that are followed in documents have an answer.
 SELECT count(*), count(kohiblad_path_exists('["\u0000"]', path, silent => true)) > 150 FROM paths;
 SELECT count(*), count(*) FILTER (WHERE d @? path IS NOT DISTINCT FROM j @? path) AS finds,
@@ -88,7 +90,7 @@ FROM (SELECT '{"a":[{"b":1},{"b":[2,[3]]},[{"b":4}]],"c":null,"bb":"x","d":{}}':
         || '$.d == $.d;$.bb < 1;!($.bb < 1);($.bb < 1) is unknown;$.e > 1;$.a ? (@.b == 1);'
         || '$.a[*] ? (exists (@[0].b)).b;$.bb starts with "";$.a.b.size();strict $.a.b', ';')
     ::jsonpath[]) path;
--- What a method makes of each kind of value, and texts by a pattern; a date is a string.
+-- What a method makes of each kind of value, and texts by a pattern; a date is of its own type.
 SELECT path, d @@ path, kohiblad_path_query_array(d, path, silent => true)
 FROM (SELECT kohiblad_set('{"a":[1,[2,3],{"b":1}],"c":null,"n":1.5,"s":"AbC","t":true}', '{d}',
                           '\x20000000600000051000000001') AS d) s,
@@ -103,19 +105,20 @@ FROM (VALUES ('$[*] ? (@ > $x)', '{"x":2}'), ('$[*] ? (@ > 2)', '{"x":2}'), ('$[
 SELECT refusal($$ SELECT kohiblad_path_exists('[1]', '$[0]', '[]') $$),
     refusal($$ SELECT kohiblad_path_match('[1,2]', '$[*]') $$),
     refusal($$ SELECT kohiblad_path_match('[1]', '$[0]') $$);
--- A date is its string, which the server's engine compares and finds.
-SELECT d @@ '$.d == "1"', d @? '$.d ? (@ == "1")', kohiblad_path_query_first(d, '$.d'),
-    kohiblad_path_query_array(d, '$.*'), d @? '$.d', d @@ '$.n == 5'
+-- A date is found as it is, and compares with nothing but null; the server's engine has a text.
+SELECT d @@ '$.d == "1"', d @? '$.d ? (@ == @)', kohiblad_path_query_first(d, '$.d'), d @? '$.d',
+    kohiblad_path_query_array(d, '$.*'), d @@ '$.d != null', d @@ '$.d == "1" && 1/1 == 1'
 FROM (SELECT kohiblad_set('{"n":5}', '{d}', '\x20000000600000051000000001') AS d) s;
--- Paths that the library follows: 300 random ones, with variables, give what the server's functions
--- give, and the same errors.
+-- Paths with arithmetic, variables and levels: 300 random ones give what the server's functions
+-- give, and the same errors. No sign stands at the end, and all variables are given, since the server
+-- has answers of its own there.
 CREATE TABLE followed AS SELECT i, (one_of('{"lax ","strict "}') || CASE i % 6
     WHEN 0 THEN '$' || random_steps(1) || one_of('{.abs(),.floor(),.ceiling(),.type(),.size()}')
     WHEN 1 THEN format('$%s %s $%s', random_steps(1), one_of('{+,-,*,%}'), random_steps(1))
     WHEN 2 THEN format('$%s ? (@ %s $%s)', random_steps(1), one_of('{==,<,>=}'), one_of('{x,y}'))
     WHEN 3 THEN format('$.** ? (%s)', random_test(1, '@'))
     WHEN 4 THEN format('$%s[$x to last]%s', random_steps(0), one_of('{"",.type(),.abs()}'))
-    ELSE format('%s$%s', one_of('{+,-}'), random_steps(1)) END)::jsonpath AS path
+    ELSE format('(%s$%s) ? (@ > 0)', one_of('{+,-}'), random_steps(1)) END)::jsonpath AS path
     FROM generate_series(1, 300) i;
 SELECT count(*), count(*) FILTER (WHERE kohiblad_path_exists(d, path, vars::kohiblad, true)
             IS NOT DISTINCT FROM jsonb_path_exists(j, path, vars, true)) AS finds,
@@ -129,7 +132,10 @@ SELECT number, count(*), count(*) FILTER (WHERE of_jsonb IS NOT DISTINCT FROM of
         OR same_json(of_jsonb, of_kohiblad))
 FROM (SELECT number, called(call, j::text, path, 'jsonb') AS of_jsonb,
              called(call, j::text, path, 'kohiblad') AS of_kohiblad
-      FROM calls, walked w JOIN followed p ON p.i = 1 + w.i % 300 WHERE w.i <= 600) s
+      FROM calls, walked w JOIN (
+          SELECT i, replace(replace(path::text, '$"x"', '1.5'), '$"y"', '"a"')::jsonpath AS path
+          FROM followed) p ON p.i = 1 + w.i % 300
+      WHERE w.i <= 600) s
 GROUP BY number ORDER BY number;
 -- Numbers keep their digits, and arithmetic has those of numeric; strings stay as they are.
 SELECT path, kohiblad_path_query_array('{"a":[1.50,2,-0.75],"b":"\u0000\"é","c":{"d":null}}',
@@ -149,8 +155,8 @@ SELECT refusal($$ SELECT kohiblad_path_match('[1,2]', 'strict $[*]') $$),
     detail_of($$ SELECT kohiblad_path_match('[1,2]', 'strict $[*]') $$),
     kohiblad_path_match('[true,2]', 'strict $[0,1,2]', silent => true) IS NULL,
     kohiblad_path_match('[true,2]', 'strict $[0,2]', silent => true);
--- Who follows a path, as a session is told that listens to messages for debugging: a date and what
--- takes long are left to the server.
+-- Who follows a path, as a session is told that listens to messages for debugging: what takes long
+-- and what is left out of the language are left to the server.
 SET client_min_messages = debug1;
 SELECT '{"a":1}'::kohiblad @? '$.a';
 SELECT '{"a":1}'::kohiblad @? 'strict $.a', '{"a":1}'::kohiblad @? '$.a.abs()';
@@ -161,10 +167,15 @@ SELECT kohiblad_path_query('{"bb":1,"c":2}', '$.**.type()');
 SELECT kohiblad_path_query('{"bb":1,"c":2}', 'strict $.*');
 SELECT '{"a":1}'::kohiblad @? '$.a.double()', '{"a":1}'::kohiblad @? 'strict $.x ? (@ / 2 > 1)';
 SELECT kohiblad_path_exists('\x20000000600000051000000001', 'strict $ ? (@ == "1")');
-SELECT '1'::kohiblad @? '$ ? (1 == 1 || $x > 1)', '1'::kohiblad @? '-$';
-SELECT ('[' || repeat('1,', 3000) || '1]')::kohiblad @? 'strict $[*] ? (@ > $[*])';
-SELECT kohiblad_path_query('99999999999999999999999999999999999999', '-$ * $ * 0');
+SELECT kohiblad_path_query('[1,[2,3]]', '$[last - $[0], $[1][last]]'), '["a"]'::kohiblad @? '-$[*]';
+SELECT kohiblad_path_query('{"a":1}', '$.keyvalue().key');
+SELECT ('[' || repeat('1,', 3000) || '1]')::kohiblad @? 'strict $[*] ? (@ > $[0 to last - 0 * 1])';
 RESET client_min_messages;
+-- A variable is looked for before all else, and no number has more than 128 bits, unlike numeric.
+SELECT refusal($$ SELECT '1'::kohiblad @? '$ ? (1 == 1 || $x > 1)' $$),
+    refusal(format('SELECT kohiblad_path_query(%L, %L)', d, '-$ * $ * 0')),
+    kohiblad_path_exists(d::kohiblad, '-$ * $', silent => true) IS NULL
+FROM (SELECT repeat('9', 38) AS d) s;
 -- Rows of a set are taken in parts too, beside others, and from a table.
 SELECT kohiblad_path_query('[1,[2],3]', '$[*]') AS it, generate_series(1, 2) AS i;
 SELECT it FROM (SELECT kohiblad_path_query('[1,2,3]', '$[*]') AS it LIMIT 2) s;

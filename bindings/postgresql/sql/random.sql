@@ -91,7 +91,7 @@ INSERT INTO commands VALUES
     (19, true, 'SELECT TYPE_agg(squeezed(it)) FROM TYPE_array_elements_text(%1$L) it'),
     (20, true, 'SELECT TYPE_agg(it ORDER BY it) FROM TYPE_object_keys(%1$L) it'),
     (21, false, 'SELECT TYPE_array_length(%1$L)'),
-    (22, true, 'SELECT TYPE_path_query_array(%1$L, ''$.*[*]'')'),
+    (22, true, 'SELECT TYPE_path_query_array(%1$L, ''$[*][*]'')'),
     (23, false, 'SELECT %1$L::TYPE @@ ''$.a[*] == 1'''),
     (24, false, 'SELECT TYPE_typeof(%1$L)'),
     (25, true, 'SELECT d -> %4$L FROM (SELECT %1$L::TYPE AS d OFFSET 0) s'),

@@ -131,26 +131,20 @@ struct kohiblad_value_kind kind_of(Bytes document) {
     return kind;
 }
 
-/* The type of the entry in the document of a scalar. */
-static uint32_t type_of_scalar(Bytes document, uint32_t kind) {
-    static const uint32_t types[] = {
-        [KOHIBLAD_NULL] = KOHIBLAD_TYPE_NULL,
-        [KOHIBLAD_NUMBER] = KOHIBLAD_TYPE_NUMBER,
-        [KOHIBLAD_STRING] = KOHIBLAD_TYPE_STRING,
-        [KOHIBLAD_EXTENSION] = KOHIBLAD_TYPE_EXTENSION,
-    };
-    if (kind != KOHIBLAD_BOOLEAN) return types[kind];
-    struct kohiblad_truth truth = kohiblad_as_boolean(document.at, document.size);
-    if (truth.status != KOHIBLAD_OK) refuse(truth.status, ERRCODE_DATA_CORRUPTED);
-    return truth.value ? KOHIBLAD_TYPE_TRUE : KOHIBLAD_TYPE_FALSE;
+/* The type in the entry word of a scalar; false if there is none. */
+static bool tells_type(Bytes document, uint32_t *type) {
+    if (document.size < SCALAR_FRONT || !has_kind(document, SCALAR_BITS)) return false;
+    *type = (uint32_t)(document.at[HEADER_SIZE] & TYPE_BITS) << 24;
+    return *type != KOHIBLAD_TYPE_CONTAINER && *type <= KOHIBLAD_TYPE_EXTENSION;
 }
 
 Part part_of_document(Bytes document) {
-    struct kohiblad_value_kind kind = kind_of(document);
-    if (kind.kind == KOHIBLAD_ARRAY || kind.kind == KOHIBLAD_OBJECT)
-        return (Part){KOHIBLAD_TYPE_CONTAINER, document};
-    uint32_t type = type_of_scalar(document, kind.kind);
-    return (Part){type, {document.at + SCALAR_FRONT, document.size - SCALAR_FRONT}};
+    uint32_t type;
+    if (is_container_document(document)) return (Part){KOHIBLAD_TYPE_CONTAINER, document};
+    if (tells_type(document, &type))
+        return (Part){type, {document.at + SCALAR_FRONT, document.size - SCALAR_FRONT}};
+    kind_of(document);
+    refuse(KOHIBLAD_INVALID_JSONB, ERRCODE_DATA_CORRUPTED);
 }
 
 Bytes write_part(Part part, uint8_t *out, size_t room) {
@@ -161,16 +155,16 @@ Bytes write_part(Part part, uint8_t *out, size_t room) {
     return (Bytes){out, length};
 }
 
+/* A container is its own document. */
 struct varlena *document_of_part(Part part) {
+    Bytes payload = part.payload;
+    if (is_container(part))
+        return (struct varlena *)cstring_to_text_with_len((const char *)payload.at, payload.size);
     size_t room = room_of_part(part);
     struct varlena *value = palloc(VARHDRSZ + room);
     Bytes document = write_part(part, (uint8_t *)VARDATA(value), room);
     SET_VARSIZE(value, VARHDRSZ + document.size);
     return value;
-}
-
-bool is_array(Part container) {
-    return kohiblad_kind(container.payload.at, container.payload.size).kind == KOHIBLAD_ARRAY;
 }
 
 bool is_document(Bytes given) {

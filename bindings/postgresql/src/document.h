@@ -33,10 +33,18 @@
 /* The largest document of a number, a decimal of 128 bits. */
 #define NUMBER_ROOM (SCALAR_FRONT + 18)
 
-/* An entry word, of which each value and each key has one; and what each level but the last takes
- * at least: a header, and the entry word of the next. */
+/* A header, and an entry word, of which each value and each key has one; and what each level but
+ * the last takes at least: a header, and the entry word of the next. */
+#define HEADER_SIZE 4
 #define ENTRY_SIZE 4
 #define LEVEL_SIZE 8
+
+/* The kind in the first byte of a header, and the type in that of an entry word: docs/FORMAT.md. */
+#define KIND_BITS 0xE0
+#define ARRAY_BITS 0x80
+#define OBJECT_BITS 0x40
+#define SCALAR_BITS 0x20
+#define TYPE_BITS 0x70
 
 /* Loops over bytes ask after so many whether the query is cancelled. */
 #define BYTES_UNCHECKED 65536
@@ -66,6 +74,20 @@ typedef uint32_t (*WriteCall)(const uint8_t *bytes, size_t size, size_t depth, u
 
 static inline Bytes bytes_of(const struct varlena *value) {
     return (Bytes){(const uint8_t *)VARDATA_ANY(value), VARSIZE_ANY_EXHDR(value)};
+}
+
+/* Whether bytes begin as a document of this kind. A call of the library takes longer to say it. */
+static inline bool has_kind(Bytes document, uint8_t bits) {
+    return document.size >= HEADER_SIZE && (document.at[0] & KIND_BITS) == bits;
+}
+
+/* Whether bytes begin as an array or an object. */
+static inline bool is_container_document(Bytes document) {
+    return has_kind(document, OBJECT_BITS) || has_kind(document, ARRAY_BITS);
+}
+
+static inline bool are_same_bytes(Bytes left, Bytes right) {
+    return left.size == right.size && memcmp(left.at, right.at, left.size) == 0;
 }
 
 /* The order of texts and keys: by bytes, and the shorter first. */
@@ -180,7 +202,9 @@ static inline bool is_hex(const char *given) {
 extern struct varlena *bytes_of_hex(const char *given, size_t *bad);
 
 /* Whether the part is an array, and not an object. */
-extern bool is_array(Part container);
+static inline bool is_array(Part container) {
+    return has_kind(container.payload, ARRAY_BITS);
+}
 
 /* Whether a part is an array or an object, and which. */
 static inline bool is_container(Part part) {

@@ -247,42 +247,93 @@ static bool lacks_few(Bytes object, const Names *names) {
     return true;
 }
 
+/* Whether a document is canonical. Then its parts are, and what the library builds of them, which is
+ * sooner done than that it writes a changed document anew. */
+static bool is_canonical(Bytes document) {
+    size_t depth = depth_of_size(document.size);
+    check_stack_for(stack_of_depth(depth));
+    CHECK_FOR_INTERRUPTS();
+    return kohiblad_is_canonical(document.at, document.size, depth);
+}
+
+/* A walk over the children of a container, one by one. */
+typedef struct Walk {
+    Bytes container;
+    struct kohiblad_cursor cursor;
+    bool is_list;
+    Part key, child; /* an item has no key */
+} Walk;
+
+static Walk walk_over(Bytes container) {
+    Walk walk = {.container = container, .is_list = has_kind(container, ARRAY_BITS)};
+    uint32_t status = kohiblad_begin(container.at, container.size, &walk.cursor);
+    if (status != KOHIBLAD_OK) refuse(status, ERRCODE_DATA_CORRUPTED);
+    return walk;
+}
+
+static bool walks_on(Walk *walk) {
+    Bytes container = walk->container;
+    struct kohiblad_place key, child;
+    CHECK_FOR_INTERRUPTS();
+    uint32_t status = kohiblad_next(container.at, container.size, &walk->cursor, &key, &child);
+    if (status == KOHIBLAD_NONE) return false;
+    if (status != KOHIBLAD_OK) refuse(status, ERRCODE_DATA_CORRUPTED);
+    if (!walk->is_list) walk->key = part_at(container, key);
+    walk->child = part_at(container, child);
+    return true;
+}
+
+/* Adds the child that a walk is at, a key and a value of an object. */
+static void add_child(Rows *rows, const Walk *walk) {
+    if (!walk->is_list) add_row(rows, walk->key.payload);
+    add_part(rows, walk->child);
+}
+
+/* The container that a walk was over, of these rows. */
+static struct varlena *built_of(const Walk *walk, Rows *rows) {
+    struct varlena *built = walk->is_list ? array_of_rows(rows) : object_of_unique_rows(rows);
+    free_rows(rows);
+    return built;
+}
+
+/* Whether the child that a walk is at goes: a member by its key, an item if it is a text. */
+static bool goes(const Walk *walk, const Names *names) {
+    Part named = walk->is_list ? walk->child : walk->key;
+    return named.type == KOHIBLAD_TYPE_STRING && is_among(names, named.payload);
+}
+
+/* A container without the children that go by some names, or as it was if there are none. */
+static struct varlena *without_children(struct varlena *given, const Names *names) {
+    Rows *rows = new_rows();
+    Walk walk = walk_over(bytes_of(given));
+    bool any_goes = false;
+    while (walks_on(&walk)) {
+        if (goes(&walk, names))
+            any_goes = true;
+        else
+            add_child(rows, &walk);
+    }
+    if (any_goes) return built_of(&walk, rows);
+    free_rows(rows);
+    return given;
+}
+
 /* An object without the members that are named, or as it was if there are none. */
 static struct varlena *without_members(struct varlena *given, Names *names) {
     Bytes document = bytes_of(given);
     if (lacks_few(document, names)) return given;
+    if (document.size <= BYTES_UNCHECKED && is_canonical(document))
+        return without_children(given, names);
     struct varlena *result =
         made_of_two(pick_others, KOHIBLAD_LEVEL_STACK, document, listed_names(names));
     return kind_of(bytes_of(result)).count == kind_of(document).count ? given : result;
 }
 
-/* Gathers the items that stay; whether a text among them goes. */
-static bool gather_others(Bytes document, const Names *names, Rows *rows) {
-    struct kohiblad_cursor cursor;
-    struct kohiblad_place key, place;
-    bool any_goes = false;
-    uint32_t status = kohiblad_begin(document.at, document.size, &cursor);
-    while (status == KOHIBLAD_OK) {
-        CHECK_FOR_INTERRUPTS();
-        status = kohiblad_next(document.at, document.size, &cursor, &key, &place);
-        if (status != KOHIBLAD_OK) break;
-        Part item = part_at(document, place);
-        if (item.type == KOHIBLAD_TYPE_STRING && is_among(names, item.payload))
-            any_goes = true;
-        else
-            add_part(rows, item);
-    }
-    if (status != KOHIBLAD_NONE) refuse(status, ERRCODE_DATA_CORRUPTED);
-    return any_goes;
-}
-
 static Datum without(struct varlena *given, Names *names) {
     Bytes document = bytes_of(given);
     if (is_scalar(document)) refuse_edit("cannot delete from scalar");
-    if (kind_of(document).kind == KOHIBLAD_OBJECT) PG_RETURN_POINTER(without_members(given, names));
-    Rows *rows = new_rows();
-    if (!gather_others(document, names, rows)) PG_RETURN_POINTER(given);
-    PG_RETURN_POINTER(array_of_rows(rows));
+    if (has_kind(document, ARRAY_BITS)) PG_RETURN_POINTER(without_children(given, names));
+    PG_RETURN_POINTER(without_members(given, names));
 }
 
 static Names *new_names(int most) {

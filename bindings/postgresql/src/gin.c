@@ -58,7 +58,7 @@ void append_values(Keys *keys, Bytes document) {
 }
 
 /* Appends the keys of a document's values, and those of extension values as the texts that they are
- * to a path of SQL/JSON. */
+ * to a path that the server's engine follows. */
 static void append_shown_values(Keys *keys, Bytes document) {
     append_values(keys, document);
     if (!holds_extension(document)) return;

@@ -1,7 +1,8 @@
 /* Paths of SQL/JSON. Those that pathplan.c knows are followed in the document, and those that
- * pathtext.c knows by the library. The others are followed by the server's own functions over a
- * jsonb of the document: what they return is read back as a document. Numbers come back digit for
- * digit; extension values are texts. */
+ * pathtext.c knows by the library. The few others, as those with `/`, .double(), .datetime() or the
+ * object of .keyvalue(), are followed by the server's own functions over a jsonb of the document:
+ * what they return is read back as a document. Numbers come back digit for digit; extension values
+ * are texts. */
 #include "pathplan.h"
 #include "pathtext.h"
 #include "rows.h"
@@ -72,7 +73,8 @@ typedef struct Kept {
     MemoryContext context; /* of the path, its plan and its text */
     JsonPath *path;
     const PathPlan *plan; /* NULL if it is not followed in the document */
-    PathText *text;       /* NULL if it has a plan, or the library does not follow it */
+    PathText *text;       /* NULL if it was not needed, or the library does not follow it */
+    bool is_text_made;
     const char *follower; /* who the session was told to follow paths here */
 } Kept;
 
@@ -96,12 +98,13 @@ static void tell_follower(Kept *kept, const char *follower) {
 
 static void keep_path(Kept *kept, const JsonPath *path) {
     kept->path = NULL;
+    kept->text = NULL;
+    kept->is_text_made = false;
     MemoryContextReset(kept->context);
     MemoryContext caller = MemoryContextSwitchTo(kept->context);
     JsonPath *copy = palloc(VARSIZE(path));
     memcpy(copy, path, VARSIZE(path));
     kept->plan = plan_of_path(copy);
-    kept->text = kept->plan ? NULL : text_of_path(copy);
     kept->path = copy;
     MemoryContextSwitchTo(caller);
 }
@@ -117,25 +120,50 @@ static Kept *kept_of_path(FunctionCallInfo fcinfo) {
     return kept;
 }
 
-/* Whether variables are given as the server's engine takes them, which refuses all but objects. */
-static bool are_variables(FunctionCallInfo fcinfo) {
-    return PG_NARGS() == 2 ||
-           kind_of(bytes_of(PG_GETARG_VARLENA_PP(2))).kind == KOHIBLAD_OBJECT;
+static const PathText *text_of_kept(Kept *kept) {
+    if (kept->is_text_made) return kept->text;
+    MemoryContext caller = MemoryContextSwitchTo(kept->context);
+    kept->text = text_of_path(kept->path);
+    kept->is_text_made = true;
+    MemoryContextSwitchTo(caller);
+    return kept->text;
+}
+
+/* Refuses variables that are not an object, as the server does. */
+static void check_variables(FunctionCallInfo fcinfo) {
+    if (PG_NARGS() == 2) return;
+    Bytes variables = bytes_of(PG_GETARG_VARLENA_PP(2));
+    if (kind_of(variables).kind == KOHIBLAD_OBJECT) return;
+    ereport(ERROR, (errcode(ERRCODE_INVALID_PARAMETER_VALUE),
+                    errmsg("kohiblad: the variables of a path are the members of an object")));
 }
 
 /* The plan of a call, NULL if the path is not followed in the document. */
 static const PathPlan *plan_of_call(FunctionCallInfo fcinfo) {
-    const Kept *kept = kept_of_path(fcinfo);
-    return kept->plan && are_variables(fcinfo) ? kept->plan : NULL;
+    return kept_of_path(fcinfo)->plan;
+}
+
+/* The variables of a call; no bytes if it has none. */
+static Bytes variables_of_call(FunctionCallInfo fcinfo) {
+    return PG_NARGS() > 2 ? bytes_of(PG_GETARG_VARLENA_PP(2)) : (Bytes){0};
+}
+
+/* What the path of a call is followed in. */
+static Asked open_asked(FunctionCallInfo fcinfo, Sliced *document) {
+    Part root = open_sliced(document, PG_GETARG_RAW_VARLENA_P(0));
+    tell_follower(kept_of(fcinfo), BY_EXTENSION);
+    return (Asked){document, root, variables_of_call(fcinfo), is_silent(fcinfo)};
 }
 
 /* The question to the library, if that follows the path of a call. */
 static bool question_of_call(FunctionCallInfo fcinfo, Question *question) {
     Kept *kept = kept_of_path(fcinfo);
-    if (!kept->text || !are_variables(fcinfo)) return false;
-    *question = (Question){.path = kept->text, .document = bytes_of(PG_GETARG_VARLENA_PP(0))};
-    if (PG_NARGS() > 2) question->variables = bytes_of(PG_GETARG_VARLENA_PP(2));
-    return is_for_library(question);
+    if (!text_of_kept(kept)) return false;
+    *question = (Question){kept->text, bytes_of(PG_GETARG_VARLENA_PP(0)),
+                           variables_of_call(fcinfo)};
+    if (!is_for_library(question)) return false;
+    tell_follower(kept, BY_LIBRARY);
+    return true;
 }
 
 /* Calls a function of the server with the same arguments, but with documents as jsonb. A set takes
@@ -167,44 +195,28 @@ static Datum call_for_document(FunctionCallInfo fcinfo, PGFunction function) {
     return is_done || fcinfo->isnull ? result : document_of_jsonb(result);
 }
 
-/* Whether the library tells that there is a value. A sign at the end passes over what is no number
- * for the server's engine. */
-static bool library_finds_any(FunctionCallInfo fcinfo, bool *is_null, bool *answer) {
-    Question question;
-    if (!question_of_call(fcinfo, &question) || question.path->begins_signed) return false;
-    tell_follower(kept_of(fcinfo), BY_LIBRARY);
-    return ask_any(&question, is_silent(fcinfo), is_null, answer);
-}
-
-static bool library_finds_truth(FunctionCallInfo fcinfo, bool *is_null, bool *answer) {
-    Question question;
-    if (!question_of_call(fcinfo, &question)) return false;
-    tell_follower(kept_of(fcinfo), BY_LIBRARY);
-    return ask_match(&question, is_silent(fcinfo), is_null, answer);
-}
-
-/* Whether the library gives the array of all values: it has its own order of members. */
-static bool library_finds_all(FunctionCallInfo fcinfo, struct varlena **array) {
-    Question question;
-    if (!question_of_call(fcinfo, &question) || question.path->has_members) return false;
-    tell_follower(kept_of(fcinfo), BY_LIBRARY);
-    return ask_values(&question, is_silent(fcinfo), array);
-}
-
-static bool walk_finds_any(FunctionCallInfo fcinfo, bool *answer) {
+static bool walk_finds_any(FunctionCallInfo fcinfo, bool *is_null, bool *answer) {
     const PathPlan *plan = plan_of_call(fcinfo);
     if (!plan) return false;
     Sliced document;
-    Part root = open_sliced(&document, PG_GETARG_RAW_VARLENA_P(0));
-    bool is_found = find_any(plan, &document, root, answer);
+    Asked asked = open_asked(fcinfo, &document);
+    bool is_found = find_any(plan, &asked, is_null, answer);
     close_sliced(&document);
-    if (is_found) tell_follower(kept_of(fcinfo), BY_EXTENSION);
     return is_found;
 }
 
+static bool library_finds_any(FunctionCallInfo fcinfo, bool *is_null, bool *answer) {
+    Question question;
+    if (!question_of_call(fcinfo, &question)) return false;
+    *answer = ask_any(&question, is_silent(fcinfo), is_null);
+    return true;
+}
+
 static Datum answer_exists(FunctionCallInfo fcinfo, PGFunction function) {
-    bool answer, is_null = false;
-    if (!walk_finds_any(fcinfo, &answer) && !library_finds_any(fcinfo, &is_null, &answer))
+    bool answer, is_null;
+    check_variables(fcinfo);
+    if (!walk_finds_any(fcinfo, &is_null, &answer) &&
+        !library_finds_any(fcinfo, &is_null, &answer))
         return call_with_jsonb(fcinfo, function);
     if (is_null) PG_RETURN_NULL();
     PG_RETURN_BOOL(answer);
@@ -214,19 +226,22 @@ static bool walk_finds_truth(FunctionCallInfo fcinfo, bool *is_null, bool *answe
     const PathPlan *plan = plan_of_call(fcinfo);
     if (!plan) return false;
     Sliced document;
-    Part root = open_sliced(&document, PG_GETARG_RAW_VARLENA_P(0));
-    uint32_t type;
-    bool is_found = find_truth(plan, &document, root, &type);
+    Asked asked = open_asked(fcinfo, &document);
+    bool is_found = find_truth(plan, &asked, is_null, answer);
     close_sliced(&document);
-    if (!is_found) return false;
-    tell_follower(kept_of(fcinfo), BY_EXTENSION);
-    *is_null = type == KOHIBLAD_TYPE_NULL;
-    *answer = type == KOHIBLAD_TYPE_TRUE;
+    return is_found;
+}
+
+static bool library_finds_truth(FunctionCallInfo fcinfo, bool *is_null, bool *answer) {
+    Question question;
+    if (!question_of_call(fcinfo, &question)) return false;
+    *answer = ask_match(&question, is_silent(fcinfo), is_null);
     return true;
 }
 
 static Datum answer_match(FunctionCallInfo fcinfo, PGFunction function) {
     bool answer, is_null;
+    check_variables(fcinfo);
     if (!walk_finds_truth(fcinfo, &is_null, &answer) &&
         !library_finds_truth(fcinfo, &is_null, &answer))
         return call_with_jsonb(fcinfo, function);
@@ -239,10 +254,8 @@ static bool walk_finds_all(FunctionCallInfo fcinfo, Parts *values) {
     if (!plan) return false;
     /* The values are in the document, which lasts as long as the call's memory. */
     Sliced document;
-    Part root = open_sliced(&document, PG_GETARG_RAW_VARLENA_P(0));
-    if (!find_values(plan, &document, root, values)) return false;
-    tell_follower(kept_of(fcinfo), BY_EXTENSION);
-    return true;
+    Asked asked = open_asked(fcinfo, &document);
+    return find_values(plan, &asked, values);
 }
 
 /* The items of an array that the library wrote. */
@@ -263,10 +276,11 @@ static void take_items(const struct varlena *array, Parts *values) {
 }
 
 static bool values_of_call(FunctionCallInfo fcinfo, Parts *values) {
-    struct varlena *array;
+    Question question;
+    check_variables(fcinfo);
     if (walk_finds_all(fcinfo, values)) return true;
-    if (!library_finds_all(fcinfo, &array)) return false;
-    take_items(array, values);
+    if (!question_of_call(fcinfo, &question)) return false;
+    take_items(ask_values(&question, is_silent(fcinfo)), values);
     return true;
 }
 
@@ -288,9 +302,11 @@ static struct varlena *array_of_parts(const Parts *values) {
 
 static Datum answer_array(FunctionCallInfo fcinfo, PGFunction function) {
     Parts values;
-    struct varlena *array;
+    Question question;
+    check_variables(fcinfo);
     if (walk_finds_all(fcinfo, &values)) PG_RETURN_POINTER(array_of_parts(&values));
-    if (library_finds_all(fcinfo, &array)) PG_RETURN_POINTER(array);
+    if (question_of_call(fcinfo, &question))
+        PG_RETURN_POINTER(ask_values(&question, is_silent(fcinfo)));
     return call_for_document(fcinfo, function);
 }
 

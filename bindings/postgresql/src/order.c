@@ -13,6 +13,10 @@
 #include "utils/sortsupport.h"
 
 #define SMALL_SCALAR 64
+
+/* Values of so many bytes that are the same are sooner seen to be so than compared. */
+#define FEW_BYTES 256
+
 #define KEY_ROOM 512
 
 /* Where the kinds come in the order; false and true are of one kind. */
@@ -89,6 +93,9 @@ static int compare_containers(Bytes left, Bytes right) {
 }
 
 static int compare_parts(Part left, Part right) {
+    if (left.type == right.type && left.payload.size <= FEW_BYTES &&
+        are_same_bytes(left.payload, right.payload))
+        return 0;
     enum rank rank = rank_of(left), right_rank = rank_of(right);
     if (rank != right_rank) return rank < right_rank ? -1 : 1;
     switch (rank) {

@@ -7,10 +7,6 @@
 /* Less than 0, 0 or more, as memcmp has them. */
 typedef int (*CompareCall)(Bytes left, Bytes right);
 
-static inline bool are_same_bytes(Bytes left, Bytes right) {
-    return left.size == right.size && memcmp(left.at, right.at, left.size) == 0;
-}
-
 /* The order of the two arguments of a function. */
 static inline int compare_arguments_by(FunctionCallInfo fcinfo, CompareCall compare) {
     struct varlena *left = PG_GETARG_VARLENA_PP(0), *right = PG_GETARG_VARLENA_PP(1);

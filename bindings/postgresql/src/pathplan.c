@@ -10,7 +10,7 @@
 /* An index as far from 0, or from the last one, is past every item, and for the server no error. */
 #define MAX_INDEX (1 << 30)
 
-static const Test *plan_test(JsonPathItem *item);
+static const Test *plan_test(PathPlan *plan, JsonPathItem *item);
 
 bool write_number(JsonPathItem *item, uint8_t *out, size_t *size) {
     Datum number = NumericGetDatum(jspGetNumeric(item));
@@ -84,63 +84,131 @@ static bool plan_ranges(JsonPathItem *item, Step *step) {
     return true;
 }
 
-static bool plan_filter(JsonPathItem *item, Step *step) {
+static bool plan_filter(PathPlan *plan, JsonPathItem *item, Step *step) {
     JsonPathItem filter;
     jspGetArg(item, &filter);
-    step->filter = plan_test(&filter);
+    step->filter = plan_test(plan, &filter);
     return step->filter != NULL;
 }
 
-static bool plan_step(JsonPathItem *item, Step *step) {
+static bool plan_step(PathPlan *plan, JsonPathItem *item, Step *step) {
     step->type = item->type;
     switch (item->type) {
         case jpiKey: step->key = string_of_item(item); return true;
         case jpiAnyKey:
         case jpiAnyArray: return true;
+        case jpiAny:
+            step->first_level = item->content.anybounds.first;
+            step->last_level = item->content.anybounds.last;
+            return true;
         case jpiIndexArray: return plan_ranges(item, step);
-        case jpiFilter: return plan_filter(item, step);
+        case jpiFilter: return plan_filter(plan, item, step);
+        case jpiAbs:
+        case jpiFloor:
+        case jpiCeiling: return true;
         case jpiSize:
         case jpiType: return !jspHasNext(item);
         default: return false;
     }
 }
 
-static bool plan_source(JsonPathItem *first, Source *source) {
+/* The number of a variable, which is added to those of the path. */
+static int plan_variable(PathPlan *plan, JsonPathItem *item) {
+    Bytes *names = palloc((plan->name_count + 1) * sizeof *names);
+    if (plan->name_count) memcpy(names, plan->names, plan->name_count * sizeof *names);
+    names[plan->name_count] = string_of_item(item);
+    plan->names = names;
+    return plan->name_count++;
+}
+
+static bool plan_source(PathPlan *plan, JsonPathItem *first, Source *source);
+
+static const Source *plan_operand(PathPlan *plan, JsonPathItem *item) {
+    Source *operand = palloc(sizeof *operand);
+    return plan_source(plan, item, operand) ? operand : NULL;
+}
+
+static bool plan_sign(PathPlan *plan, JsonPathItem *item, Source *source) {
+    JsonPathItem operand;
+    jspGetArg(item, &operand);
+    source->makes_numbers = true;
+    source->left = plan_operand(plan, &operand);
+    return source->left != NULL;
+}
+
+static bool plan_operator(PathPlan *plan, JsonPathItem *item, Source *source) {
+    JsonPathItem left, right;
+    jspGetLeftArg(item, &left);
+    jspGetRightArg(item, &right);
+    source->makes_numbers = true;
+    source->left = plan_operand(plan, &left);
+    if (!source->left) return false;
+    source->right = plan_operand(plan, &right);
+    return source->right != NULL;
+}
+
+/* What comes before the steps. */
+static bool plan_head(PathPlan *plan, JsonPathItem *item, Source *source) {
+    switch (item->type) {
+        case jpiRoot:
+        case jpiCurrent: return true;
+        case jpiVariable: source->variable = plan_variable(plan, item); return true;
+        case jpiPlus:
+        case jpiMinus: return plan_sign(plan, item, source);
+        case jpiAdd:
+        case jpiSub:
+        case jpiMul:
+        case jpiMod: return plan_operator(plan, item, source);
+        default: return plan_literal(item, &source->literal);
+    }
+}
+
+static bool makes_number(JsonPathItemType type) {
+    return type == jpiAbs || type == jpiFloor || type == jpiCeiling;
+}
+
+static bool plan_source(PathPlan *plan, JsonPathItem *first, Source *source) {
     JsonPathItem item = *first, next;
     const Step **end = &source->steps;
+    check_stack_depth();
     *source = (Source){.type = item.type};
-    if (item.type != jpiRoot && item.type != jpiCurrent)
-        return !jspHasNext(&item) && plan_literal(&item, &source->literal);
+    if (!plan_head(plan, &item, source)) return false;
+    bool is_inside = item.type == jpiRoot || item.type == jpiCurrent;
+    plan->goes_apart |= !is_inside && (jspHasNext(&item) || !jspIsScalar(item.type));
     while (jspGetNext(&item, &next)) {
         CHECK_FOR_INTERRUPTS();
         item = next;
         Step *step = palloc0(sizeof *step);
-        if (!plan_step(&item, step)) return false;
+        if (!plan_step(plan, &item, step)) return false;
+        source->makes_numbers |= makes_number(item.type);
+        plan->goes_apart |= source->makes_numbers;
         *end = step;
         end = &step->next;
     }
     return true;
 }
 
-static bool plan_below(JsonPathItem *item, Test *test) {
+static bool plan_below(PathPlan *plan, JsonPathItem *item, Test *test) {
     JsonPathItem left, right;
     jspGetLeftArg(item, &left);
-    test->left = plan_test(&left);
+    test->left = plan_test(plan, &left);
     if (!test->left) return false;
     jspGetRightArg(item, &right);
-    test->right = plan_test(&right);
+    test->right = plan_test(plan, &right);
     return test->right != NULL;
 }
 
-static bool plan_sources(JsonPathItem *item, Test *test) {
+static bool plan_sources(PathPlan *plan, JsonPathItem *item, Test *test) {
     JsonPathItem left, right;
     jspGetLeftArg(item, &left);
     jspGetRightArg(item, &right);
-    return plan_source(&left, &test->source) && plan_source(&right, &test->other);
+    return plan_source(plan, &left, &test->source) && plan_source(plan, &right, &test->other);
 }
 
-static bool plan_pattern(JsonPathItem *item, Test *test) {
+/* Texts have other bytes in other encodings, and the server's engine of patterns takes its own. */
+static bool plan_pattern(PathPlan *plan, JsonPathItem *item, Test *test) {
     JsonPathItem left;
+    if (GetDatabaseEncoding() != PG_UTF8) return false;
     jspInitByBuffer(&left, item->base, item->content.like_regex.expr);
     test->pattern = cstring_to_text_with_len(item->content.like_regex.pattern,
                                              item->content.like_regex.patternlen);
@@ -149,51 +217,49 @@ static bool plan_pattern(JsonPathItem *item, Test *test) {
 #else
     test->flags = jspConvertRegexFlags(item->content.like_regex.flags);
 #endif
-    return plan_source(&left, &test->source);
+    return plan_source(plan, &left, &test->source);
 }
 
-static bool fill_test(JsonPathItem *item, Test *test) {
+static bool fill_test(PathPlan *plan, JsonPathItem *item, Test *test) {
     JsonPathItem argument;
     switch (item->type) {
         case jpiAnd:
-        case jpiOr: return plan_below(item, test);
+        case jpiOr: return plan_below(plan, item, test);
         case jpiNot:
         case jpiIsUnknown:
             jspGetArg(item, &argument);
-            test->left = plan_test(&argument);
+            test->left = plan_test(plan, &argument);
             return test->left != NULL;
-        case jpiExists: jspGetArg(item, &argument); return plan_source(&argument, &test->source);
+        case jpiExists:
+            jspGetArg(item, &argument);
+            return plan_source(plan, &argument, &test->source);
         case jpiEqual:
         case jpiNotEqual:
         case jpiLess:
         case jpiLessOrEqual:
         case jpiGreater:
-        case jpiGreaterOrEqual: return plan_sources(item, test);
-        case jpiStartsWith:
-            jspGetRightArg(item, &argument);
-            return argument.type == jpiString && plan_sources(item, test);
-        case jpiLikeRegex: return plan_pattern(item, test);
+        case jpiGreaterOrEqual:
+        case jpiStartsWith: return plan_sources(plan, item, test);
+        case jpiLikeRegex: return plan_pattern(plan, item, test);
         default: return false;
     }
 }
 
-/* NULL where the server's engine is needed. */
-static const Test *plan_test(JsonPathItem *item) {
+/* NULL where another engine is needed. */
+static const Test *plan_test(PathPlan *plan, JsonPathItem *item) {
     check_stack_depth();
     CHECK_FOR_INTERRUPTS();
     Test *test = palloc0(sizeof *test);
     test->type = item->type;
-    return !jspHasNext(item) && fill_test(item, test) ? test : NULL;
+    return !jspHasNext(item) && fill_test(plan, item, test) ? test : NULL;
 }
 
-/* Texts have other bytes in other encodings, and members of jsonb another order then. */
 const PathPlan *plan_of_path(JsonPath *path) {
     JsonPathItem item;
     PathPlan *plan = palloc0(sizeof *plan);
-    if (GetDatabaseEncoding() != PG_UTF8 || !(path->header & JSONPATH_LAX)) return NULL;
+    plan->is_strict = !(path->header & JSONPATH_LAX);
     jspInit(&item, path);
-    if (item.type == jpiRoot || item.type == jpiCurrent)
-        return plan_source(&item, &plan->source) ? plan : NULL;
-    plan->test = plan_test(&item);
+    if (plan_source(plan, &item, &plan->source)) return plan;
+    plan->test = plan_test(plan, &item);
     return plan->test ? plan : NULL;
 }

@@ -1,25 +1,23 @@
-/* Which paths of SQL/JSON the library follows, how long that may take, and its answers.
- *
- * A path is left to the server's engine if the library does not read it, if it nests deep, if the
- * order of members decides whether it fails, and where that engine has an answer of its own: a sign
- * at the end of `exists`, and `last` where a subscript is inside of another one. */
+/* Which paths of SQL/JSON the library follows, how long that may take, and its answers. A path is
+ * left to the server's engine if the library does not read it, or may take too long. */
 #include "pathtext.h"
 
 #include "pathplan.h"
 
-#include "mb/pg_wchar.h"
 #include "miscadmin.h"
-#include "utils/builtins.h"
 
-/* How deep a path may nest, and the stack that reading takes for each level. */
-#define MAX_LEVELS 32
-#define READ_STACK (16 * 1024)
+/* The stack that a path takes for each level of its brackets and signs, and of its operators. */
+#define BRACKET_STACK (11 * 1024)
+#define OPERATOR_STACK 1900
 
-/* Documents mostly have no more levels than these, and then fewer steps. */
-#define FLAT_LEVELS 16
+/* Documents mostly have no more levels than some of these, and then fewer steps. */
+static const size_t flat_levels[] = {3, 6, 16};
 
 /* The greatest bound of a call's steps, about a second: it is not cancelled while it runs. */
-#define MAX_STEPS (1 << 22)
+#define MAX_STEPS (1 << 25)
+
+/* How far the numbers of a pattern's bound are looked for: the library reads up to `{255,255}`. */
+#define BOUND_SIZE 16
 
 /* What an array of values mostly takes beside them. */
 #define FIRST_ROOM 64
@@ -40,9 +38,8 @@ typedef struct Flow {
 /* What a walk over a path finds out, for documents of so many values and levels. */
 typedef struct Study {
     double values, levels;
-    bool has_members, may_fail, is_left;
-    int level, subscripts; /* how deep the item is in the path, and in subscripts */
-    int levels_of_path;
+    bool is_left;
+    int level, levels_of_path; /* how deep an item is in the path, and at most */
 } Study;
 
 static Flow flow_of(Study *study, JsonPathItem *item);
@@ -65,14 +62,12 @@ static Line count_of(const Flow *flow) {
     return scaled(flow->root, flow->times);
 }
 
-/* Goes one level deeper into the path; false if it nests too deep. */
-static bool enter(Study *study) {
+/* Goes one level deeper into the path. */
+static void enter(Study *study) {
     check_stack_depth();
     CHECK_FOR_INTERRUPTS();
-    if (study->level == MAX_LEVELS) study->is_left = true;
     study->level++;
     study->levels_of_path = Max(study->levels_of_path, study->level);
-    return !study->is_left;
 }
 
 /* The steps of a test on each value. All values below these together are as many as those below the
@@ -92,20 +87,17 @@ static void add_filter(Study *study, JsonPathItem *item, Flow *flow) {
 static void add_subscript(Study *study, JsonPathItem *item, Flow *flow) {
     Subscript index;
     if (plan_index(item, &index)) return;
-    study->may_fail = true;
     Flow inner = flow_of(study, item);
     flow->steps = plus(flow->steps, product(study, count_of(flow), inner.steps));
 }
 
 static void add_subscripts(Study *study, JsonPathItem *item, Flow *flow) {
-    if (study->subscripts++) study->is_left = true;
     for (int i = 0; i < item->content.array.nelems; i++) {
         JsonPathItem from, to;
         bool has_end = jspGetArraySubscript(item, &from, &to, i);
         add_subscript(study, &from, flow);
         if (has_end) add_subscript(study, &to, flow);
     }
-    study->subscripts--;
     flow->times *= item->content.array.nelems;
 }
 
@@ -115,20 +107,20 @@ static void add_accessor(Study *study, JsonPathItem *item, Flow *flow) {
     if (flow->is_nested) flow->times *= 2;
     switch (item->type) {
         case jpiKey:
+        case jpiAnyKey:
         case jpiAnyArray:
+        case jpiKeyValue:
         case jpiType:
-        case jpiSize: break;
-        case jpiAnyKey: study->has_members = true; break;
+        case jpiSize:
+        case jpiAbs:
+        case jpiFloor:
+        case jpiCeiling: break;
         case jpiAny:
-            study->has_members = true;
             if (flow->is_nested) flow->times *= study->levels;
             flow->is_nested = true;
             break;
         case jpiIndexArray: add_subscripts(study, item, flow); break;
         case jpiFilter: add_filter(study, item, flow); break;
-        case jpiAbs:
-        case jpiFloor:
-        case jpiCeiling: study->may_fail = true; break;
         default: study->is_left = true; break;
     }
 }
@@ -143,7 +135,6 @@ static Flow all_values(Line root) {
 
 static Flow flow_of_pair(Study *study, JsonPathItem *item) {
     JsonPathItem left, right;
-    study->may_fail = true;
     jspGetLeftArg(item, &left);
     jspGetRightArg(item, &right);
     return one_value(plus(flow_of(study, &left).steps, flow_of(study, &right).steps));
@@ -151,7 +142,6 @@ static Flow flow_of_pair(Study *study, JsonPathItem *item) {
 
 static Flow flow_of_sign(Study *study, JsonPathItem *item) {
     JsonPathItem operand;
-    study->may_fail = true;
     jspGetArg(item, &operand);
     Flow inner = flow_of(study, &operand);
     Flow flow = all_values(scaled(count_of(&inner), 2));
@@ -179,26 +169,9 @@ static Flow flow_of_head(Study *study, JsonPathItem *item) {
     }
 }
 
-static bool is_operator(const JsonPathItem *item) {
-    switch (item->type) {
-        case jpiNull:
-        case jpiBool:
-        case jpiNumeric:
-        case jpiString:
-        case jpiLast:
-        case jpiRoot:
-        case jpiVariable:
-        case jpiCurrent: return false;
-        default: return true;
-    }
-}
-
-/* What an expression gives: what it begins with, and the accessors after that. The text that the
- * server writes of a path may lack the parentheses of an operator before an accessor, if it is
- * below another one. */
+/* What an expression gives: what it begins with, and the accessors after that. */
 static Flow flow_of(Study *study, JsonPathItem *first) {
-    if (study->level > 0 && is_operator(first) && jspHasNext(first)) study->is_left = true;
-    if (!enter(study)) return one_value((Line){0, 1});
+    enter(study);
     JsonPathItem item = *first, next;
     Flow flow = flow_of_head(study, &item);
     while (jspGetNext(&item, &next)) {
@@ -210,14 +183,9 @@ static Flow flow_of(Study *study, JsonPathItem *first) {
     return flow;
 }
 
-static bool is_signed(const JsonPathItem *item) {
-    return (item->type == jpiPlus || item->type == jpiMinus) && !jspHasNext(item);
-}
-
 static Line steps_of_exists(Study *study, JsonPathItem *item) {
     JsonPathItem argument;
     jspGetArg(item, &argument);
-    if (is_signed(&argument)) study->is_left = true;
     return flow_of(study, &argument).steps;
 }
 
@@ -229,6 +197,38 @@ static Line steps_of_comparison(Study *study, JsonPathItem *item) {
     Flow one = flow_of(study, &left), other = flow_of(study, &right);
     Line pairs = product(study, count_of(&one), count_of(&other));
     return plus(plus(one.steps, other.steps), scaled(pairs, 4));
+}
+
+/* The greatest number from here to the end of a bound, as 3 in `{2,3}`. */
+static double bound_at(const char *pattern, int32 size) {
+    double greatest = 0, number = 0;
+    for (int32 i = 1; i < size && pattern[i] != '}'; i++) {
+        bool is_digit = pattern[i] >= '0' && pattern[i] <= '9';
+        number = is_digit ? number * 10 + (pattern[i] - '0') : 0;
+        greatest = Max(greatest, number);
+    }
+    return greatest;
+}
+
+/* How many states a pattern has, about: those before a bound are there as often as it says. */
+static double states_of(const char *pattern, int32 size) {
+    double states = size;
+    for (int32 i = 0; i < size; i++) {
+        CHECK_FOR_INTERRUPTS();
+        if (pattern[i] == '{') states *= 1 + bound_at(pattern + i, Min(size - i, BOUND_SIZE));
+    }
+    return states;
+}
+
+/* The library compiles the pattern in each call. Each byte of a text is met once by each state. */
+static Line steps_of_pattern(Study *study, JsonPathItem *item) {
+    JsonPathItem operand;
+    jspInitByBuffer(&operand, item->base, item->content.like_regex.expr);
+    Flow flow = flow_of(study, &operand);
+    double states = states_of(item->content.like_regex.pattern,
+                              item->content.like_regex.patternlen);
+    Line searches = scaled(count_of(&flow), states * ENTRY_SIZE);
+    return plus(flow.steps, plus(searches, (Line){0, states}));
 }
 
 static Line steps_of_both(Study *study, JsonPathItem *item) {
@@ -258,12 +258,13 @@ static Line steps_of_kind(Study *study, JsonPathItem *item) {
         case jpiGreater:
         case jpiGreaterOrEqual:
         case jpiStartsWith: return steps_of_comparison(study, item);
+        case jpiLikeRegex: return steps_of_pattern(study, item);
         default: study->is_left = true; return (Line){0};
     }
 }
 
 static Line steps_of_test(Study *study, JsonPathItem *item) {
-    if (!enter(study)) return (Line){0, 1};
+    enter(study);
     Line steps = steps_of_kind(study, item);
     study->level--;
     return steps;
@@ -273,7 +274,6 @@ static Line steps_of_test(Study *study, JsonPathItem *item) {
 static double steps_in(JsonPath *path, size_t size, size_t levels, Study *study) {
     JsonPathItem item;
     *study = (Study){.values = size / ENTRY_SIZE + 1, .levels = levels};
-    study->may_fail = !(path->header & JSONPATH_LAX);
     jspInit(&item, path);
     Flow flow = flow_of(study, &item);
     Line all = plus(flow.steps, count_of(&flow));
@@ -285,25 +285,27 @@ static bool reads(const PathText *path) {
     return kohiblad_path_fault(path->text.at, path->text.size).status == KOHIBLAD_OK;
 }
 
-/* An error ends the path at the first value that has one, so members count in their order then. */
 PathText *text_of_path(JsonPath *path) {
-    JsonPathItem item;
     Study study;
-    if (GetDatabaseEncoding() != PG_UTF8 || steps_in(path, 0, 1, &study) > MAX_STEPS) return NULL;
-    if (study.is_left || (study.has_members && study.may_fail)) return NULL;
-    const char *shown = DatumGetCString(DirectFunctionCall1(jsonpath_out, PointerGetDatum(path)));
+    StringInfoData written;
+    if (steps_in(path, 0, 1, &study) > MAX_STEPS || study.is_left) return NULL;
+    initStringInfo(&written);
+    size_t levels = write_path(&written, path);
+    size_t stack = levels * BRACKET_STACK + study.levels_of_path * OPERATOR_STACK;
     PathText *text = palloc(sizeof *text);
-    jspInit(&item, path);
     *text = (PathText){.path = path,
-                       .text = utf8_of_server(shown, strlen(shown)),
-                       .stack = study.levels_of_path * READ_STACK,
-                       .has_members = study.has_members,
-                       .begins_signed = is_signed(&item)};
+                       .text = utf8_of_server(written.data, written.len),
+                       .stack = Min(stack, KOHIBLAD_PATH_STACK)};
     return reads(text) ? text : NULL;
 }
 
-static bool is_flat(Bytes document) {
-    return kohiblad_check(document.at, document.size, FLAT_LEVELS);
+static bool is_flat(Bytes document, size_t levels) {
+    return kohiblad_check(document.at, document.size, levels);
+}
+
+static bool are_flat(const Question *question, size_t levels) {
+    return is_flat(question->document, levels) &&
+           (!question->variables.size || is_flat(question->variables, levels));
 }
 
 static bool are_few(const PathText *path, size_t size, size_t levels) {
@@ -320,13 +322,13 @@ static bool is_bounded(const Question *question) {
         path->bounded = size;
         return true;
     }
-    return are_few(path, size, FLAT_LEVELS) && is_flat(question->document) &&
-           (!question->variables.size || is_flat(question->variables));
+    for (size_t i = 0; i < lengthof(flat_levels); i++)
+        if (are_few(path, size, flat_levels[i]) && are_flat(question, flat_levels[i])) return true;
+    return false;
 }
 
 bool is_for_library(const Question *question) {
-    return is_bounded(question) && !holds_extension(question->document) &&
-           !(question->variables.size && holds_extension(question->variables));
+    return is_bounded(question);
 }
 
 static size_t depth_of_question(const Question *question) {
@@ -346,26 +348,24 @@ static int code_of_error(uint32_t status) {
         case KOHIBLAD_BOOLEAN_REQUIRED: return ERRCODE_SINGLETON_SQL_JSON_ITEM_REQUIRED;
         case KOHIBLAD_NUMBER_NOT_FOUND: return ERRCODE_SQL_JSON_NUMBER_NOT_FOUND;
         case KOHIBLAD_DIVISION_BY_ZERO: return ERRCODE_DIVISION_BY_ZERO;
+        case KOHIBLAD_OUT_OF_RANGE: return ERRCODE_NUMERIC_VALUE_OUT_OF_RANGE;
+        case KOHIBLAD_UNDEFINED_VARIABLE: return ERRCODE_UNDEFINED_OBJECT;
         default: return 0;
     }
 }
 
+void give_up_path(uint32_t status) {
+    char *detail = psprintf("%s.", kohiblad_status_reason(status));
+    detail[0] = pg_toupper((unsigned char)detail[0]);
+    refuse_because(status, code_of_error(status), detail);
+}
+
 /* Raises the error of a path, or of a document that is damaged. */
-static void refuse_path(uint32_t status, const Question *question) {
-    int code = code_of_error(status);
-    if (code) {
-        char *detail = psprintf("%s.", kohiblad_status_reason(status));
-        detail[0] = pg_toupper((unsigned char)detail[0]);
-        refuse_because(status, code, detail);
-    }
+static void refuse_question(uint32_t status, const Question *question) {
+    if (code_of_error(status)) give_up_path(status);
     bool are_whole = is_document(question->document) &&
                      (!question->variables.size || is_document(question->variables));
     refuse(status, are_whole ? ERRCODE_PROGRAM_LIMIT_EXCEEDED : ERRCODE_DATA_CORRUPTED);
-}
-
-/* Whether only the server's engine can tell. */
-static bool is_for_server(uint32_t status) {
-    return status == KOHIBLAD_OUT_OF_RANGE || status == KOHIBLAD_UNDEFINED_VARIABLE;
 }
 
 /* Writes the array of values into new memory of so much room. */
@@ -398,14 +398,12 @@ static uint32_t values_of_library(const Question *question, size_t depth, bool i
     return write_values(question, depth, is_silent, &room, array);
 }
 
-bool ask_values(const Question *question, bool is_silent, struct varlena **array) {
+struct varlena *ask_values(const Question *question, bool is_silent) {
+    struct varlena *array;
     size_t depth = depth_of_question(question);
-    uint32_t status = values_of_library(question, depth, false, array);
-    if (is_for_server(status)) return false;
-    if (is_silent && code_of_error(status))
-        status = values_of_library(question, depth, true, array);
-    if (status != KOHIBLAD_OK) refuse_path(status, question);
-    return true;
+    uint32_t status = values_of_library(question, depth, is_silent, &array);
+    if (status != KOHIBLAD_OK) refuse_question(status, question);
+    return array;
 }
 
 /* A call of the library that answers by a truth. */
@@ -424,22 +422,17 @@ static struct kohiblad_truth truth_of_library(const Question *question, TruthCal
     return truth;
 }
 
-static bool ask_truth(const Question *question, TruthCall call, bool is_silent, bool *is_null,
-                      bool *answer) {
-    struct kohiblad_truth truth = truth_of_library(question, call, false);
-    if (is_for_server(truth.status)) return false;
-    if (is_silent && code_of_error(truth.status))
-        truth = truth_of_library(question, call, true);
+static bool ask_truth(const Question *question, TruthCall call, bool is_silent, bool *is_null) {
+    struct kohiblad_truth truth = truth_of_library(question, call, is_silent);
     *is_null = truth.status == KOHIBLAD_NONE;
-    *answer = truth.value;
-    if (truth.status != KOHIBLAD_OK && !*is_null) refuse_path(truth.status, question);
-    return true;
+    if (truth.status != KOHIBLAD_OK && !*is_null) refuse_question(truth.status, question);
+    return truth.value;
 }
 
-bool ask_any(const Question *question, bool is_silent, bool *is_null, bool *answer) {
-    return ask_truth(question, kohiblad_path_exists, is_silent, is_null, answer);
+bool ask_any(const Question *question, bool is_silent, bool *is_null) {
+    return ask_truth(question, kohiblad_path_exists, is_silent, is_null);
 }
 
-bool ask_match(const Question *question, bool is_silent, bool *is_null, bool *answer) {
-    return ask_truth(question, kohiblad_path_match, is_silent, is_null, answer);
+bool ask_match(const Question *question, bool is_silent, bool *is_null) {
+    return ask_truth(question, kohiblad_path_match, is_silent, is_null);
 }

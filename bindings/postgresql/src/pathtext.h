@@ -4,6 +4,7 @@
 
 #include "document.h"
 
+#include "lib/stringinfo.h"
 #include "utils/jsonpath.h"
 
 /* A path as the library takes it, with the stack that reading it needs, and the bytes of documents
@@ -12,8 +13,6 @@ typedef struct PathText {
     JsonPath *path;
     Bytes text;
     size_t stack, bounded;
-    bool has_members;   /* whether values come in the order of members, which jsonb has otherwise */
-    bool begins_signed; /* whether it is a sign and what that stands before */
 } PathText;
 
 /* What a path is to be asked of. */
@@ -24,20 +23,25 @@ typedef struct Question {
 
 #pragma GCC visibility push(hidden)
 
+/* Writes a path as the library reads it, in the server's encoding. Returns how deep brackets and
+ * signs nest. */
+extern int write_path(StringInfo out, JsonPath *path);
+
 /* The text of a path, in the current memory context; it points to the path. NULL if the library
- * does not follow it as the server's engine does. */
+ * does not follow it. */
 extern PathText *text_of_path(JsonPath *path);
 
-/* Whether the library may be asked: no call of it is cancelled while it runs, and the server's
- * engine has no dates and other extension values, but their texts. */
+/* Whether the library may be asked: no call of it is cancelled while it runs. */
 extern bool is_for_library(const Question *question);
 
 /* The array of all values, whether there is a value, and what a predicate says. In silence the
- * values are those before an error, and NULL says that there is no answer. False if the server has
- * to be asked: the library has no numbers past 128 bits, and looks for all variables first. */
-extern bool ask_values(const Question *question, bool is_silent, struct varlena **array);
-extern bool ask_any(const Question *question, bool is_silent, bool *is_null, bool *answer);
-extern bool ask_match(const Question *question, bool is_silent, bool *is_null, bool *answer);
+ * values are those before an error, and there may be no answer. */
+extern struct varlena *ask_values(const Question *question, bool is_silent);
+extern bool ask_any(const Question *question, bool is_silent, bool *is_null);
+extern bool ask_match(const Question *question, bool is_silent, bool *is_null);
+
+/* Raises the error of a path. */
+extern void give_up_path(uint32_t status) pg_attribute_noreturn();
 
 #pragma GCC visibility pop
 

@@ -1,8 +1,10 @@
-/* Paths of SQL/JSON followed in documents, by the rules of the server's engine: in its lax mode a
- * key or a filter is also asked of the items of an array, an index finds a scalar or an object as
- * the only item, and values of two kinds are neither equal nor unequal, but for null. */
+/* Paths of SQL/JSON followed in documents. In lax mode a key or a filter is also asked of the items
+ * of an array, and an index finds a scalar or an object as the only item; in strict mode these are
+ * errors, unless the step comes after `.**`. Values of two kinds are neither equal nor unequal, but
+ * for null. */
 #include "paths.h"
 #include "pathplan.h"
+#include "pathtext.h"
 
 #include "catalog/pg_collation.h"
 #include "miscadmin.h"
@@ -10,19 +12,20 @@
 
 enum truth { IS_FALSE, IS_TRUE, IS_UNKNOWN };
 
-/* A walk over a document. It is lost after it came to a value that the server's engine has in
- * another form: then nothing that it found counts. */
+/* A walk over a document. It is lost after it came to a text that the server's engine of patterns
+ * does not take: then nothing that it found counts. */
 typedef struct Run {
-    Sliced *document;
+    Sliced *document; /* NULL if it is at hand */
     Part root, current;
+    Part *variables;
+    bool is_strict, forgives;
+    uint32_t error; /* why the path was given up, or KOHIBLAD_OK: then the walk has ended */
     bool is_lost;
 } Run;
 
-/* What is done with each value at the end of the steps: true ends the walk. Members of an object
- * come in the order of jsonb where that matters. */
+/* What is done with each value at the end of the steps: true ends the walk. */
 typedef struct Taker {
     bool (*take)(Run *run, struct Taker *taker, Part value);
-    bool in_order;
     bool is_blind; /* whether it does not look at values, whose bytes need not be at hand then */
 } Taker;
 
@@ -36,21 +39,23 @@ typedef struct Comparer {
     Taker taker;
     const Test *test;
     const Parts *others;
-    bool is_inside;  /* whether the items of an array are compared in its place */
-    bool is_unknown; /* whether a pair of values could not be compared */
+    bool is_inside; /* whether the items of an array are compared in its place */
+    bool is_true, is_unknown; /* whether that is some pair */
 } Comparer;
 
-/* A member of an object. */
-typedef struct Member {
-    Bytes key;
-    Part value;
-} Member;
+typedef struct Finder {
+    Taker taker;
+    bool is_found;
+} Finder;
 
 static bool follow(Run *run, const Step *step, Part value, bool unwraps, Taker *taker);
+static bool follow_source(Run *run, const Source *source, Taker *taker);
 static enum truth judge(Run *run, const Test *test);
 
-static void check_end(uint32_t status) {
-    if (status != KOHIBLAD_NONE) refuse(status, ERRCODE_DATA_CORRUPTED);
+/* What is not there gives nothing, or in strict mode an error. Whether the walk has ended. */
+static bool is_refused(Run *run, uint32_t error) {
+    if (run->is_strict && !run->forgives) run->error = error;
+    return run->error != KOHIBLAD_OK;
 }
 
 /* Follows steps from the items between two indexes. */
@@ -65,7 +70,7 @@ static bool follow_items(Run *run, const Step *step, Bytes array, uint64 first, 
         if (status != KOHIBLAD_OK || i < first) continue;
         if (follow(run, step, part_at(array, place), unwraps, taker)) return true;
     }
-    if (status != KOHIBLAD_OK) check_end(status);
+    if (status != KOHIBLAD_OK && status != KOHIBLAD_NONE) refuse(status, ERRCODE_DATA_CORRUPTED);
     return false;
 }
 
@@ -73,47 +78,51 @@ static bool follow_all_items(Run *run, const Step *step, Part array, bool unwrap
     return follow_items(run, step, array.payload, 0, PG_UINT64_MAX, unwraps, taker);
 }
 
-/* jsonb has shorter keys first. */
-static int compare_members(const void *left, const void *right) {
-    CHECK_FOR_INTERRUPTS();
-    const Member *l = left, *r = right;
-    if (l->key.size != r->key.size) return l->key.size < r->key.size ? -1 : 1;
-    return memcmp(l->key.at, r->key.at, l->key.size);
-}
-
-static bool follow_sorted(Run *run, const Step *step, Bytes object, Taker *taker) {
-    size_t count = 0, room = kind_of(object).count;
-    if (room > object.size / ENTRY_SIZE) refuse(KOHIBLAD_INVALID_EOF, ERRCODE_DATA_CORRUPTED);
-    Member *members = MemoryContextAllocHuge(CurrentMemoryContext, (room + 1) * sizeof *members);
-    struct kohiblad_cursor cursor;
-    struct kohiblad_place key, place;
-    uint32_t status = kohiblad_begin(object.at, object.size, &cursor);
-    while (status == KOHIBLAD_OK) {
-        CHECK_FOR_INTERRUPTS();
-        status = kohiblad_next(object.at, object.size, &cursor, &key, &place);
-        if (status == KOHIBLAD_OK && count < room)
-            members[count++] = (Member){part_at(object, key).payload, part_at(object, place)};
-    }
-    check_end(status);
-    qsort(members, count, sizeof *members, compare_members);
-    bool is_done = false;
-    for (size_t i = 0; i < count && !is_done; i++)
-        is_done = follow(run, step, members[i].value, true, taker);
-    pfree(members);
-    return is_done;
-}
-
 static bool follow_members(Run *run, const Step *step, Part value, bool unwraps, Taker *taker) {
-    if (!is_container(value)) return false;
-    if (is_array(value))
-        return unwraps && follow_all_items(run, step, value, false, taker);
-    if (taker->in_order) return follow_sorted(run, step->next, value.payload, taker);
-    return follow_all_items(run, step->next, value, true, taker);
+    if (is_object_part(value)) return follow_all_items(run, step->next, value, true, taker);
+    if (unwraps && is_container(value)) return follow_all_items(run, step, value, false, taker);
+    return is_refused(run, KOHIBLAD_OBJECT_NOT_FOUND);
 }
 
 static bool follow_wildcard(Run *run, const Step *step, Part value, Taker *taker) {
     if (is_array_part(value)) return follow_all_items(run, step->next, value, true, taker);
+    if (run->is_strict) return is_refused(run, KOHIBLAD_ARRAY_NOT_FOUND);
     return follow(run, step->next, value, true, taker);
+}
+
+/* Follows steps from the values at some levels below a container, each before those below it. The
+ * level `last` alone is that of scalars. */
+static bool follow_below(Run *run, const Step *step, Bytes container, uint32 level,
+                         Taker *taker) {
+    struct kohiblad_cursor cursor;
+    struct kohiblad_place key, place;
+    check_stack_depth();
+    uint32_t status = kohiblad_begin(container.at, container.size, &cursor);
+    while (status == KOHIBLAD_OK) {
+        CHECK_FOR_INTERRUPTS();
+        status = kohiblad_next(container.at, container.size, &cursor, &key, &place);
+        if (status != KOHIBLAD_OK) break;
+        Part child = part_at(container, place);
+        bool is_meant = step->first_level == PG_UINT32_MAX
+            ? step->last_level == PG_UINT32_MAX && !is_container(child)
+            : level >= step->first_level;
+        if (is_meant && follow(run, step->next, child, true, taker)) return true;
+        if (level < step->last_level && is_container(child) &&
+            follow_below(run, step, child.payload, level + 1, taker))
+            return true;
+    }
+    if (status != KOHIBLAD_NONE) refuse(status, ERRCODE_DATA_CORRUPTED);
+    return false;
+}
+
+static bool follow_levels(Run *run, const Step *step, Part value, Taker *taker) {
+    bool forgave = run->forgives;
+    run->forgives = true;
+    bool is_done = step->first_level == 0 && follow(run, step->next, value, true, taker);
+    if (!is_done && step->last_level > 0 && is_container(value))
+        is_done = follow_below(run, step, value.payload, 1, taker);
+    run->forgives = forgave;
+    return is_done;
 }
 
 static int64 place_of(Subscript index, int64 count) {
@@ -126,14 +135,19 @@ static bool follow_one(Run *run, const Step *step, Bytes array, int64 index, Tak
         && follow(run, step, item, true, taker);
 }
 
-/* What is no array is the only item of one. */
+/* What is no array is the only item of one in lax mode. */
 static bool follow_indexes(Run *run, const Step *step, Part value, Taker *taker) {
     bool is_alone = !is_array_in(run->document, value), is_done = false;
+    if (is_alone && run->is_strict) return is_refused(run, KOHIBLAD_ARRAY_NOT_FOUND);
     int64 count = is_alone ? 1 : kind_in(run->document, value.payload).count;
     for (int i = 0; i < step->range_count && !is_done; i++) {
         CHECK_FOR_INTERRUPTS();
-        int64 first = Max(place_of(step->ranges[i].first, count), 0);
-        int64 last = Min(place_of(step->ranges[i].last, count), count - 1);
+        int64 first = place_of(step->ranges[i].first, count);
+        int64 last = place_of(step->ranges[i].last, count);
+        bool is_within = 0 <= first && first <= last && last < count;
+        if (!is_within && is_refused(run, KOHIBLAD_INVALID_SUBSCRIPT)) return true;
+        first = Max(first, 0);
+        last = Min(last, count - 1);
         if (first > last) continue;
         if (is_alone) {
             is_done = follow(run, step->next, value, true, taker);
@@ -165,36 +179,80 @@ static Part part_of_count(int64 count) {
     return part_of_document((Bytes){document, size});
 }
 
-/* What is no array is the only item of one. */
+/* What is no array is the only item of one in lax mode. */
 static Part size_of(Run *run, Part value) {
     bool is_list = is_array_in(run->document, value);
     return part_of_count(is_list ? kind_in(run->document, value.payload).count : 1);
 }
 
-static Part name_of_type(Run *run, Part value) {
-    static const char *const names[] = {"null", "string", "number", "boolean", "boolean", "object"};
-    const char *name = names[value.type >> 28];
-    if (is_array_in(run->document, value)) name = "array";
+/* The payload of an extension value begins with its tag. */
+static const char *name_of_extension(Run *run, Part value) {
+    fetch_part(run->document, value);
+    if (value.payload.size == 0) refuse(KOHIBLAD_INVALID_JSONB, ERRCODE_DATA_CORRUPTED);
+    switch (value.payload.at[0]) {
+        case KOHIBLAD_BINARY: return "binary";
+        case KOHIBLAD_DATE: return "date";
+        case KOHIBLAD_TIMESTAMP: return "timestamp";
+        case KOHIBLAD_TIMESTAMP_TZ: return "timestamp_tz";
+        case KOHIBLAD_INTERVAL: return "interval";
+        default: return "opaque";
+    }
+}
+
+static const char *name_of_type(Run *run, Part value) {
+    switch (value.type) {
+        case KOHIBLAD_TYPE_NULL: return "null";
+        case KOHIBLAD_TYPE_FALSE:
+        case KOHIBLAD_TYPE_TRUE: return "boolean";
+        case KOHIBLAD_TYPE_NUMBER: return "number";
+        case KOHIBLAD_TYPE_STRING: return "string";
+        case KOHIBLAD_TYPE_EXTENSION: return name_of_extension(run, value);
+        default: return is_array_in(run->document, value) ? "array" : "object";
+    }
+}
+
+static Part part_of_name(const char *name) {
     return (Part){KOHIBLAD_TYPE_STRING, {(const uint8_t *)name, strlen(name)}};
 }
 
 /* Takes the value that the last step makes. */
 static bool take_made(Run *run, const Step *step, Part value, Taker *taker) {
-    run->is_lost |= value.type == KOHIBLAD_TYPE_EXTENSION;
-    if (run->is_lost) return true;
-    Part made = step->type == jpiSize ? size_of(run, value) : name_of_type(run, value);
+    if (step->type == jpiSize && run->is_strict && !is_array_in(run->document, value))
+        return is_refused(run, KOHIBLAD_ARRAY_NOT_FOUND);
+    Part made = step->type == jpiSize ? size_of(run, value)
+                                      : part_of_name(name_of_type(run, value));
     return taker->take(run, taker, made);
+}
+
+/* Ends the walk by an error, or where the library has to tell. */
+static bool give_up(Run *run, uint32_t error) {
+    if (error == KOHIBLAD_NONE)
+        run->is_lost = true;
+    else
+        run->error = error;
+    return true;
+}
+
+static bool follow_number(Run *run, const Step *step, Part value, bool unwraps, Taker *taker) {
+    Part made;
+    if (unwraps && is_array_part(value)) return follow_all_items(run, step, value, false, taker);
+    if (value.type != KOHIBLAD_TYPE_NUMBER) return give_up(run, KOHIBLAD_NON_NUMERIC_ITEM);
+    uint32_t status = number_of_one(step->type, value, &made);
+    if (status != KOHIBLAD_OK) return give_up(run, status);
+    return follow(run, step->next, made, true, taker);
 }
 
 /* Follows steps from a value; whether the taker ended the walk. The first step is asked of the
  * items of an array if it unwraps. */
 static bool follow(Run *run, const Step *step, Part value, bool unwraps, Taker *taker) {
     check_stack_depth();
-    for (; step && step->type == jpiKey; step = step->next, unwraps = true) {
+    unwraps &= !run->is_strict;
+    for (; step && step->type == jpiKey; step = step->next, unwraps = !run->is_strict) {
         CHECK_FOR_INTERRUPTS();
-        if (!is_container(value)) return false;
+        if (!is_container(value)) return is_refused(run, KOHIBLAD_MEMBER_NOT_FOUND);
         if (find_key_in(run->document, value.payload, step->key, &value)) continue;
-        if (!unwraps || !is_array_in(run->document, value)) return false;
+        if (!unwraps || !is_array_in(run->document, value))
+            return is_refused(run, KOHIBLAD_MEMBER_NOT_FOUND);
         fetch_all(run->document);
         return follow_all_items(run, step, value, false, taker);
     }
@@ -209,26 +267,12 @@ static bool follow(Run *run, const Step *step, Part value, bool unwraps, Taker *
     switch (step->type) {
         case jpiAnyKey: return follow_members(run, step, value, unwraps, taker);
         case jpiAnyArray: return follow_wildcard(run, step, value, taker);
+        case jpiAny: return follow_levels(run, step, value, taker);
+        case jpiAbs:
+        case jpiFloor:
+        case jpiCeiling: return follow_number(run, step, value, unwraps, taker);
         default: return follow_filter(run, step, value, unwraps, taker);
     }
-}
-
-static bool follow_source(Run *run, const Source *source, Taker *taker) {
-    switch (source->type) {
-        case jpiRoot: return follow(run, source->steps, run->root, true, taker);
-        case jpiCurrent: return follow(run, source->steps, run->current, true, taker);
-        default: return taker->take(run, taker, source->literal);
-    }
-}
-
-static bool take_any(Run *run pg_attribute_unused(), Taker *taker pg_attribute_unused(),
-                     Part value pg_attribute_unused()) {
-    return true;
-}
-
-static bool exists(Run *run, const Source *source) {
-    Taker any = {take_any, false, true};
-    return follow_source(run, source, &any);
 }
 
 static void add_value(Parts *parts, Part value) {
@@ -248,11 +292,88 @@ static void add_value(Parts *parts, Part value) {
 static bool take_value(Run *run, Taker *taker, Part value) {
     Gatherer *gatherer = (Gatherer *)taker;
     if (gatherer->unwraps && is_array_part(value)) {
-        Gatherer inner = {{take_value, false, false}, gatherer->parts, false};
+        Gatherer inner = {{take_value, false}, gatherer->parts, false};
         return follow_all_items(run, NULL, value, false, &inner.taker);
     }
     add_value(gatherer->parts, value);
     return false;
+}
+
+/* All values of an operand, with the items of an array in its place in lax mode. */
+static Parts operand_values(Run *run, const Source *operand) {
+    Parts values = {0};
+    Gatherer gatherer = {{take_value, false}, &values, !run->is_strict};
+    follow_source(run, operand, &gatherer.taker);
+    return values;
+}
+
+static bool has_ended(const Run *run) {
+    return run->error != KOHIBLAD_OK || run->is_lost;
+}
+
+static bool follow_sign(Run *run, const Source *source, Taker *taker) {
+    Parts values = operand_values(run, source->left);
+    bool is_done = has_ended(run);
+    for (size_t i = 0; i < values.count && !is_done; i++) {
+        Part made;
+        CHECK_FOR_INTERRUPTS();
+        if (values.at[i].type != KOHIBLAD_TYPE_NUMBER)
+            return give_up(run, KOHIBLAD_NUMBER_NOT_FOUND);
+        uint32_t status = number_of_one(source->type, values.at[i], &made);
+        if (status != KOHIBLAD_OK) return give_up(run, status);
+        is_done = follow(run, source->steps, made, true, taker);
+    }
+    if (values.room) pfree(values.at);
+    return is_done;
+}
+
+static bool is_number(const Parts *values) {
+    return values->count == 1 && values->at[0].type == KOHIBLAD_TYPE_NUMBER;
+}
+
+/* Both operands are followed before either has to be one number. */
+static bool follow_operator(Run *run, const Source *source, Taker *taker) {
+    Part made;
+    Parts left = operand_values(run, source->left);
+    if (has_ended(run)) return true;
+    Parts right = operand_values(run, source->right);
+    if (has_ended(run)) return true;
+    if (!is_number(&left) || !is_number(&right)) return give_up(run, KOHIBLAD_SINGLETON_REQUIRED);
+    uint32_t status = number_of_two(source->type, left.at[0], right.at[0], &made);
+    pfree(left.at);
+    pfree(right.at);
+    if (status != KOHIBLAD_OK) return give_up(run, status);
+    return follow(run, source->steps, made, true, taker);
+}
+
+static bool follow_source(Run *run, const Source *source, Taker *taker) {
+    switch (source->type) {
+        case jpiRoot: return follow(run, source->steps, run->root, true, taker);
+        case jpiCurrent: return follow(run, source->steps, run->current, true, taker);
+        case jpiVariable:
+            return follow(run, source->steps, run->variables[source->variable], true, taker);
+        case jpiPlus:
+        case jpiMinus: return follow_sign(run, source, taker);
+        case jpiAdd:
+        case jpiSub:
+        case jpiMul:
+        case jpiMod: return follow_operator(run, source, taker);
+        default:
+            if (source->steps) return follow(run, source->steps, source->literal, true, taker);
+            return taker->take(run, taker, source->literal);
+    }
+}
+
+/* In strict mode all values are looked for, since an error may come after one. */
+static bool take_note(Run *run, Taker *taker, Part value pg_attribute_unused()) {
+    ((Finder *)taker)->is_found = true;
+    return !run->is_strict;
+}
+
+static bool exists(Run *run, const Source *source) {
+    Finder finder = {{take_note, true}, false};
+    follow_source(run, source, &finder.taker);
+    return finder.is_found;
 }
 
 /* A type that true and false share. */
@@ -287,12 +408,12 @@ static enum truth compare(JsonPathItemType type, Part left, Part right) {
         if (!any_null) return IS_UNKNOWN;
         return type == jpiNotEqual ? IS_TRUE : IS_FALSE;
     }
-    if (is_container(left)) return IS_UNKNOWN;
+    if (is_container(left) || left.type == KOHIBLAD_TYPE_EXTENSION) return IS_UNKNOWN;
     return is_so(type, order_of(left, right)) ? IS_TRUE : IS_FALSE;
 }
 
 static enum truth begins(Part left, Part right) {
-    if (left.type != KOHIBLAD_TYPE_STRING) return IS_UNKNOWN;
+    if (left.type != KOHIBLAD_TYPE_STRING || right.type != KOHIBLAD_TYPE_STRING) return IS_UNKNOWN;
     if (left.payload.size < right.payload.size) return IS_FALSE;
     return memcmp(left.payload.at, right.payload.at, right.payload.size) == 0 ? IS_TRUE : IS_FALSE;
 }
@@ -316,43 +437,70 @@ static enum truth judge_pair(Run *run, const Test *test, Part value, Part other)
     }
 }
 
+/* Whether no other pair matters. An error in lax mode does. */
+static bool is_decided(const Run *run, const Comparer *comparer) {
+    if (run->is_strict) return comparer->is_unknown;
+    return comparer->is_true && !comparer->test->source.makes_numbers;
+}
+
 static bool compare_with_all(Run *run, Comparer *comparer, Part value) {
     for (size_t i = 0; i < comparer->others->count; i++) {
         CHECK_FOR_INTERRUPTS();
         Part other = comparer->others->at[i];
-        run->is_lost |= value.type == KOHIBLAD_TYPE_EXTENSION;
-        run->is_lost |= other.type == KOHIBLAD_TYPE_EXTENSION;
-        if (run->is_lost) return true;
         enum truth truth = judge_pair(run, comparer->test, value, other);
-        if (truth == IS_TRUE || run->is_lost) return true;
+        comparer->is_true |= truth == IS_TRUE;
         comparer->is_unknown |= truth == IS_UNKNOWN;
+        if (is_decided(run, comparer) || run->is_lost) return true;
     }
     return false;
 }
 
 static bool take_compared(Run *run, Taker *taker, Part value) {
     Comparer *comparer = (Comparer *)taker;
-    if (comparer->is_inside || !is_array_part(value)) return compare_with_all(run, comparer, value);
+    if (comparer->is_inside || run->is_strict || !is_array_part(value))
+        return compare_with_all(run, comparer, value);
     comparer->is_inside = true;
-    bool is_true = follow_all_items(run, NULL, value, false, taker);
+    bool is_done = follow_all_items(run, NULL, value, false, taker);
     comparer->is_inside = false;
-    return is_true;
+    return is_done;
 }
 
-/* True if the comparison is of some pair, and else unknown if some pair could not be compared. */
+static bool is_literal(const Source *source) {
+    return jspIsScalar(source->type) && !source->steps;
+}
+
+/* The truth of a test, which is unknown after an error. */
+static enum truth truth_unless_given_up(Run *run, enum truth truth) {
+    if (run->error == KOHIBLAD_OK) return truth;
+    run->error = KOHIBLAD_OK;
+    return IS_UNKNOWN;
+}
+
+/* In lax mode one true pair says true, and in strict mode one that is unknown says so. */
+static enum truth truth_of_pairs(const Run *run, const Comparer *comparer) {
+    if (comparer->is_unknown && (run->is_strict || !comparer->is_true)) return IS_UNKNOWN;
+    return comparer->is_true ? IS_TRUE : IS_FALSE;
+}
+
+/* The text that others start with is one value, and no array of them. */
 static enum truth compare_sources(Run *run, const Test *test) {
     Part literal = test->other.literal;
     Parts others = {&literal, 1, 0};
-    if (test->other.type == jpiRoot || test->other.type == jpiCurrent) {
+    if (!is_literal(&test->other)) {
+        bool unwraps = test->type != jpiStartsWith && !run->is_strict;
         others = (Parts){0};
-        Gatherer gatherer = {{take_value, false, false}, &others, true};
+        Gatherer gatherer = {{take_value, false}, &others, unwraps};
         follow_source(run, &test->other, &gatherer.taker);
     }
-    Comparer comparer = {{take_compared, false, false}, test, &others, false, false};
-    bool is_true = follow_source(run, &test->source, &comparer.taker);
+    Comparer comparer = {{take_compared, false}, test, &others, false, false, false};
+    if (!has_ended(run)) follow_source(run, &test->source, &comparer.taker);
     if (others.room) pfree(others.at);
-    if (is_true) return IS_TRUE;
-    return comparer.is_unknown ? IS_UNKNOWN : IS_FALSE;
+    return truth_unless_given_up(run, truth_of_pairs(run, &comparer));
+}
+
+static enum truth judge_exists(Run *run, const Source *source) {
+    bool is_found = exists(run, source);
+    return truth_unless_given_up(run, is_found ? IS_TRUE : IS_FALSE);
 }
 
 static enum truth judge_both(Run *run, const Test *test, enum truth decided) {
@@ -375,13 +523,31 @@ static enum truth judge(Run *run, const Test *test) {
         case jpiOr: return judge_both(run, test, IS_TRUE);
         case jpiNot: return judge_not(judge(run, test->left));
         case jpiIsUnknown: return judge(run, test->left) == IS_UNKNOWN ? IS_TRUE : IS_FALSE;
-        case jpiExists: return exists(run, &test->source) ? IS_TRUE : IS_FALSE;
+        case jpiExists: return judge_exists(run, &test->source);
         default: return compare_sources(run, test);
     }
 }
 
-static Run run_of(Sliced *document, Part root) {
-    return (Run){document, root, root, false};
+/* Begins a walk: all variables are looked for first. If it goes to values apart from the document,
+ * no part of that can be fetched by itself. */
+static Run run_of(const PathPlan *plan, const Asked *asked) {
+    Run run = {.document = asked->document,
+               .root = asked->root,
+               .current = asked->root,
+               .is_strict = plan->is_strict};
+    if (plan->goes_apart) {
+        fetch_all(asked->document);
+        run.document = NULL;
+    }
+    if (plan->name_count == 0) return run;
+    run.variables = palloc(plan->name_count * sizeof *run.variables);
+    for (int i = 0; i < plan->name_count; i++) {
+        CHECK_FOR_INTERRUPTS();
+        if (asked->variables.size == 0 ||
+            !find_key(asked->variables, plan->names[i], &run.variables[i]))
+            give_up_path(KOHIBLAD_UNDEFINED_VARIABLE);
+    }
+    return run;
 }
 
 static uint32_t type_of_truth(enum truth truth) {
@@ -393,15 +559,23 @@ static uint32_t type_of_truth(enum truth truth) {
     return types[truth];
 }
 
+/* Raises the error that the path was given up for, unless the call is silent. */
+static void end_walk(const Run *run, const Asked *asked) {
+    if (run->error != KOHIBLAD_OK && !asked->is_silent) give_up_path(run->error);
+}
+
 /* What a predicate says is a value, whatever it is. */
-bool find_any(const PathPlan *plan, Sliced *document, Part root, bool *answer) {
-    Run run = run_of(document, root);
+bool find_any(const PathPlan *plan, const Asked *asked, bool *is_null, bool *answer) {
+    Run run = run_of(plan, asked);
     *answer = plan->test || exists(&run, &plan->source);
-    return !run.is_lost;
+    if (run.is_lost) return false;
+    end_walk(&run, asked);
+    *is_null = run.error != KOHIBLAD_OK;
+    return true;
 }
 
 static bool gather(const PathPlan *plan, Run *run, Parts *values) {
-    Gatherer gatherer = {{take_value, true, false}, values, false};
+    Gatherer gatherer = {{take_value, false}, values, false};
     if (plan->test)
         add_value(values, (Part){type_of_truth(judge(run, plan->test))});
     else
@@ -409,30 +583,27 @@ static bool gather(const PathPlan *plan, Run *run, Parts *values) {
     return !run->is_lost;
 }
 
-bool find_truth(const PathPlan *plan, Sliced *document, Part root, uint32_t *type) {
-    Run run = run_of(document, root);
+/* Whether a type is that of a truth. */
+static bool is_truth(uint32_t type) {
+    return type == KOHIBLAD_TYPE_NULL || type == KOHIBLAD_TYPE_FALSE || type == KOHIBLAD_TYPE_TRUE;
+}
+
+bool find_truth(const PathPlan *plan, const Asked *asked, bool *is_null, bool *answer) {
+    Run run = run_of(plan, asked);
     Parts values = {0};
-    if (plan->test) {
-        *type = type_of_truth(judge(&run, plan->test));
-        return !run.is_lost;
-    }
-    if (!gather(plan, &run, &values) || values.count != 1) return false;
-    *type = values.at[0].type;
-    return shared_type(values.at[0]) == KOHIBLAD_TYPE_TRUE || *type == KOHIBLAD_TYPE_NULL;
+    if (!gather(plan, &run, &values)) return false;
+    end_walk(&run, asked);
+    bool is_boolean = values.count == 1 && is_truth(values.at[0].type);
+    if (!is_boolean && !asked->is_silent) give_up_path(KOHIBLAD_BOOLEAN_REQUIRED);
+    *is_null = !is_boolean || values.at[0].type == KOHIBLAD_TYPE_NULL;
+    *answer = is_boolean && values.at[0].type == KOHIBLAD_TYPE_TRUE;
+    return true;
 }
 
-static bool has_extension(Part value) {
-    if (is_container(value)) return holds_extension(value.payload);
-    return value.type == KOHIBLAD_TYPE_EXTENSION;
-}
-
-bool find_values(const PathPlan *plan, Sliced *document, Part root, Parts *values) {
-    Run run = run_of(document, root);
+bool find_values(const PathPlan *plan, const Asked *asked, Parts *values) {
+    Run run = run_of(plan, asked);
     *values = (Parts){0};
     if (!gather(plan, &run, values)) return false;
-    for (size_t i = 0; i < values->count; i++) {
-        CHECK_FOR_INTERRUPTS();
-        if (has_extension(values->at[i])) return false;
-    }
+    end_walk(&run, asked);
     return true;
 }

@@ -24,7 +24,6 @@
 #define OBJECT_TAG 0x40000000u
 #define COUNT_MASK 0x1fffffffu
 #define LENGTH_MASK 0x0fffffffu
-#define HEADER_SIZE 4
 
 /* The room for pieces that is made at first. */
 #define FIRST_ROOM 64

@@ -14,13 +14,6 @@
 #define MARK_FETCHED(at, size)
 #endif
 
-/* A header, whose first byte has the kind in its upper bits: that of an array or an object, or
- * another, docs/FORMAT.md. A call of the library for this takes longer than the look. */
-#define HEADER_SIZE 4
-#define KIND_BITS 0xE0
-#define ARRAY_BITS 0x80
-#define OBJECT_BITS 0x40
-
 /* The first slice. It has all that is needed before the value in an object of a hundred members. */
 #define FIRST_SLICE (2 * TOAST_MAX_CHUNK_SIZE)
 
@@ -79,19 +72,6 @@ static size_t place_in(const Sliced *sliced, Bytes bytes) {
     return bytes.at - sliced->bytes;
 }
 
-static bool has_kind(Bytes document, uint8_t bits) {
-    return document.size >= HEADER_SIZE && (document.at[0] & KIND_BITS) == bits;
-}
-
-static bool is_container_document(Bytes document) {
-    return has_kind(document, OBJECT_BITS) || has_kind(document, ARRAY_BITS);
-}
-
-static Part part_of_whole(Bytes document) {
-    if (is_container_document(document)) return (Part){KOHIBLAD_TYPE_CONTAINER, document};
-    return part_of_document(document);
-}
-
 void fetch_part(Sliced *sliced, Part part) {
     if (!is_stored(sliced)) return;
     size_t from = place_in(sliced, part.payload);
@@ -112,7 +92,7 @@ Part open_sliced(Sliced *sliced, struct varlena *argument) {
     *sliced = (Sliced){.argument = argument};
     if (!is_sliced(sliced, argument)) {
         sliced->whole = pg_detoast_datum_packed(argument);
-        return part_of_whole(bytes_of(sliced->whole));
+        return part_of_document(bytes_of(sliced->whole));
     }
     sliced->stored = argument;
     sliced->bytes = palloc(sliced->size);
@@ -121,7 +101,7 @@ Part open_sliced(Sliced *sliced, struct varlena *argument) {
     fetch(sliced, 0, FIRST_SLICE);
     Bytes whole = {sliced->bytes, sliced->size};
     if (!is_container_document(whole)) fetch(sliced, 0, sliced->size);
-    return part_of_whole(whole);
+    return part_of_document(whole);
 }
 
 Bytes whole_of(Sliced *sliced) {

@@ -17,8 +17,6 @@
 /* No gap makes a longer array, as in jsonb, and all gaps together have fewer items. */
 #define MOST_ITEMS 16777216
 
-#define HEADER_SIZE 4
-
 /* The subscripts of one expression, as texts, and the types that they are written with. */
 typedef struct Subscripts {
     bool begins_with_index;

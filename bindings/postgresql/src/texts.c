@@ -2,7 +2,8 @@
  *
  * The text of a column is JSON, but for documents that hold an extension value: JSON has none, and
  * what is copied, dumped, or sent to another server as text must come back as it was. Those are
- * written in hexadecimal. The other functions show an extension value as a string. */
+ * written in hexadecimal. The other functions show an extension value as a string: as the format
+ * prints it, but a date, a timestamp or an interval by itself in ISO 8601. */
 #include "document.h"
 
 #include "miscadmin.h"
@@ -10,6 +11,13 @@
 
 /* The room for the text of a number that is tried first: most have it. */
 #define SCALAR_TEXT_ROOM 44
+
+/* The longest payload of a date, a timestamp or an interval: a tag, two counts and microseconds. */
+#define MOST_OF_TIME 17
+
+/* More than the characters of a number of 64 bits: its digits, or as many as its scale, a zero, a
+ * point and a sign. */
+#define NUMBER_TEXT_ROOM (KOHIBLAD_MOST_SCALE + 24)
 
 /* The words for a fault, as a sentence in the server's encoding. */
 Fault fault_of_text(Bytes utf8, size_t depth) {
@@ -80,15 +88,60 @@ static struct varlena *text_of_scalar(Part part) {
     }
 }
 
+/* The digits of a number at the end of some room, with zeros before them up to its scale and one
+ * more, and with the point; where they begin. */
+static char *put_decimal(char *end, uint64 digits, uint32_t scale) {
+    char *at = end;
+    for (uint32_t place = 0; digits > 0 || place <= scale; place++) {
+        if (place == scale && scale > 0) *--at = '.';
+        *--at = '0' + digits % 10;
+        digits /= 10;
+    }
+    return at;
+}
+
+/* The text of a number of 64 bits, as kohiblad_print has it, which asks for memory for each; NULL
+ * of a longer one. */
+static text *text_of_number(Part number) {
+    uint8_t document[NUMBER_ROOM];
+    char room[NUMBER_TEXT_ROOM], *end = room + sizeof room;
+    if (room_of_part(number) > sizeof document) return NULL;
+    Bytes whole = write_part(number, document, sizeof document);
+    struct kohiblad_decimal decimal = kohiblad_as_decimal(whole.at, whole.size);
+    if (decimal.status != KOHIBLAD_OK || decimal.high != (int64)decimal.low >> 63) return NULL;
+    uint64 digits = decimal.high < 0 ? -decimal.low : decimal.low;
+    char *at = put_decimal(end, digits, Min(decimal.scale, KOHIBLAD_MOST_SCALE));
+    if (decimal.high < 0) *--at = '-';
+    return cstring_to_text_with_len(at, end - at);
+}
+
+/* The text in ISO 8601 of a date, a timestamp or an interval; NULL if the part is none. */
+static text *text_of_time(Part part) {
+    uint8_t document[SCALAR_FRONT + MOST_OF_TIME], shown[KOHIBLAD_TIME_TEXT_ROOM];
+    size_t length;
+    if (part.payload.size > MOST_OF_TIME) return NULL;
+    Bytes whole = write_part(part, document, sizeof document);
+    uint32_t status = kohiblad_text_of_extension(kohiblad_as_extension(whole.at, whole.size), shown,
+                                                 sizeof shown, &length);
+    return status == KOHIBLAD_OK ? cstring_to_text_with_len((char *)shown, length) : NULL;
+}
+
+static text *text_of_extension(Part part) {
+    text *shown = text_of_time(part);
+    if (shown) return shown;
+    shown = server_text(text_of_scalar(part));
+    text *unquoted = cstring_to_text_with_len(VARDATA(shown) + 1, VARSIZE(shown) - VARHDRSZ - 2);
+    pfree(shown);
+    return unquoted;
+}
+
 text *plain_text(Part part) {
     if (part.type == KOHIBLAD_TYPE_NULL) return NULL;
     if (part.type == KOHIBLAD_TYPE_STRING) return text_of_utf8(part.payload);
     if (part.type == KOHIBLAD_TYPE_CONTAINER) return compact_text(part.payload);
-    text *shown = server_text(text_of_scalar(part));
-    if (part.type != KOHIBLAD_TYPE_EXTENSION) return shown;
-    text *unquoted = cstring_to_text_with_len(VARDATA(shown) + 1, VARSIZE(shown) - VARHDRSZ - 2);
-    pfree(shown);
-    return unquoted;
+    if (part.type == KOHIBLAD_TYPE_EXTENSION) return text_of_extension(part);
+    text *number = part.type == KOHIBLAD_TYPE_NUMBER ? text_of_number(part) : NULL;
+    return number ? number : server_text(text_of_scalar(part));
 }
 
 /* Whether a part is an extension value or holds one. The walk reads each entry once. */

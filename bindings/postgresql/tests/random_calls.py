@@ -247,11 +247,18 @@ def large():
     ])()
 
 
+def time_document():
+    """The document of a random date, timestamp or interval, in hexadecimal."""
+    tag, size = random.choice([("10", 4), ("20", 8), ("30", 12), ("30", 9), ("40", 16)])
+    fields = f"{random.getrandbits(8 * size):0{2 * size}x}"
+    return f"\\x20000000{0x60000001 + size:08x}{tag}{fields}"
+
+
 def document():
     """The text of a random document; some hold dates or binary data, in hexadecimal."""
     chance = random.random()
     if chance < 0.05:
-        return "\\x20000000600000051000000001"
+        return time_document()
     if chance < 0.1:
         return "\\x40000001100000015000000d6180000001600000051000000001"
     return large() if chance < 0.2 else json.dumps(value(5))

@@ -1,6 +1,6 @@
 #!/usr/bin/env bash
 # Times each operator of the extension beside jsonb, on random rows of 150 and of 350 bytes, which
-# have an array of objects, and prints the table of bench/DIARY.md.
+# have an array of objects, and prints rows of bench/DIARY.md's table.
 #
 #     bindings/postgresql/tests/speed.sh [SECONDS [SEED [NAME]]]
 #
@@ -71,9 +71,27 @@ row '`SELECT DISTINCT doc`' 'SELECT count(*) FROM (SELECT DISTINCT doc FROM ROWS
 row "\`doc @> '{\"id\": 7}'\`, by GIN, 500 of these" \
     'SELECT sum(it) FROM (SELECT (SELECT count(*) FROM ROWS WHERE ROWS.doc @> ASKED.doc) AS it
                           FROM ASKED) found'
+# Paths of each kind.
+each "doc @? '\$.customer.town'"
+each "doc @? '\$.customer.*'"
+each "doc @? '\$.lines[last].sku'"
+each "doc @? '\$.lines[1 to 2].sku'"
 each "doc @? '\$.lines[*] ? (@.price > 190)'"
+each "doc @? '\$.lines[*] ? (@.price > 190 && @.count == 3)'"
+each "doc @? '\$.lines[*] ? (exists(@.count ? (@ > 8)))'"
+each "doc @? '\$.lines[*] ? (@.sku starts with \"k77\")'"
+each "doc @? '\$.lines[*] ? (@.sku like_regex \"^k77\")'"
+each "doc @? '\$.lines[*] ? (@.price * @.count > 1700)'"
+each "doc @? 'strict \$.lines[*] ? (@.price > 190)'"
+each "doc @? '\$.** ? (@ == 7)'"
 each "doc @@ '\$.total > 400'"
+each "doc @@ '\$.total + \$.id > 4000'"
+each "doc @@ '\$.lines.size() > 3'"
+each "doc @@ '\$.note.type() == \"string\"'"
+each "TYPE_path_exists(doc, '\$.lines[*] ? (@.price > \$least)', '{\"least\": 190}')"
+each "TYPE_path_query_first(doc, '\$.lines[*].price.floor()')"
 rows_of "TYPE_path_query(doc, '\$.lines[*].price')"
+rows_of "TYPE_path_query(doc, '\$.lines[*].price ? (@ > \$.total)')"
 row "\`sum((doc ->> 'total')::numeric)\`" "SELECT sum((doc ->> 'total')::numeric) FROM ROWS"
 row "\`sum((doc -> 'total')::numeric)\`" "SELECT sum((doc -> 'total')::numeric) FROM ROWS"
 row 'inserted from text' 'INSERT INTO loaded_TYPE SELECT line::TYPE FROM TEXTS'
