@@ -105,6 +105,9 @@
 /* The room that is enough for the words of a fault. */
 #define KOHIBLAD_WORDS_ROOM 512
 
+/* The room that is enough for the text of a date, a timestamp or an interval. */
+#define KOHIBLAD_TIME_TEXT_ROOM 64
+
 /* How the functions of this header are named to the assembler: an inline function must not have its
  * export's name, and an export is declared here by another. */
 #define KOHIBLAD_INLINE(name) __asm__(name "_inline")
@@ -900,7 +903,7 @@ static inline kohiblad_double kohiblad_decimal_double(struct kohiblad_decimal de
 }
 
 /* DATES AS TEXTS: JSON has no dates, so rows that were read from JSON have texts in their place.
- * This makes values of them, with no call of the library. */
+ * This makes values of them, and texts for people of values, with no call of the library. */
 
 /* The whole number that so many digits are; -1 if one of them is none. */
 static inline int32_t kohiblad_digits(const uint8_t *text, size_t count) {
@@ -968,6 +971,16 @@ static inline struct kohiblad_extension_value kohiblad_extension_of_text(const u
     out.value = out.value * 1000000 + micros;
     return out;
 }
+
+/* Writes the text in ISO 8601 of a date, a timestamp or an interval, as kohiblad_as_extension
+ * returned it, to `out`: a date as 2026-11-29; a timestamp as 2026-11-29T12:30:05.250000, without
+ * the point and its six digits if they are zero; one with a zone as a clock there shows it, with
+ * the offset after it, as +02:00 and +00:53:28. A year outside 0 to 9999 has a sign, and more
+ * digits where it needs them. An interval is a duration each part of which has its own sign, as
+ * P1Y2M-3DT1H30.5S, or PT0S. OTHER_KIND for other extension values; the status of a value that is
+ * not OK. KOHIBLAD_TIME_TEXT_ROOM are enough. */
+static inline uint32_t kohiblad_text_of_extension(struct kohiblad_extension_value value,
+    uint8_t *out, size_t room, size_t *length);
 
 /* DOCUMENTS OF SCALARS. */
 
@@ -3513,6 +3526,147 @@ static inline uint32_t kohiblad_take_members(const uint8_t *bytes, size_t size,
         }
         first += batch;
     } while (first < rows);
+    return KOHIBLAD_OK;
+}
+
+/* A text in ISO 8601, which is written from its front. */
+typedef struct {
+    size_t size;
+    uint8_t at[KOHIBLAD_TIME_TEXT_ROOM];
+} kohiblad_time_text;
+
+static inline void kohiblad_time_put_letter(kohiblad_time_text *text, char letter) {
+    text->at[text->size++] = (uint8_t)letter;
+}
+
+/* Puts a number, with zeros before it if it has fewer digits. */
+static inline void kohiblad_time_put_digits(kohiblad_time_text *text, uint64_t number,
+    size_t digits) {
+    char last_first[20];
+    size_t count = 0;
+    for (; number != 0 || count < digits; number /= 10)
+        last_first[count++] = (char)('0' + number % 10);
+    while (count > 0) kohiblad_time_put_letter(text, last_first[--count]);
+}
+
+static inline uint64_t kohiblad_magnitude(int64_t number) {
+    return number < 0 ? 0 - (uint64_t)number : (uint64_t)number;
+}
+
+/* How often a size is in a number, which is rounded down, and what is left of it. */
+static inline int64_t kohiblad_split_off(int64_t *number, int64_t size) {
+    int64_t whole = *number / size;
+    *number %= size;
+    if (*number >= 0) return whole;
+    *number += size;
+    return whole - 1;
+}
+
+/* Puts the date so many days from 1970-01-01; a year that needs it has a sign and more digits. */
+static inline void kohiblad_time_put_date(kohiblad_time_text *text, int64_t days) {
+    /* After 400 years, of 146,097 days, the calendar is the same. Years that begin in March end
+     * with the leap day; the year 0 begins so 719,468 days before 1970-01-01. */
+    int64_t periods = kohiblad_split_off(&days, 146097);
+    days += 719468;
+    periods += kohiblad_split_off(&days, 146097);
+    int64_t years = (days - days / 1460 + days / 36524 - days / 146096) / 365;
+    int64_t day = days - 365 * years - years / 4 + years / 100;
+    int64_t month = (5 * day + 2) / 153;
+    int64_t year = 400 * periods + years + (month > 9);
+    if (year < 0 || year > 9999) kohiblad_time_put_letter(text, year < 0 ? '-' : '+');
+    kohiblad_time_put_digits(text, kohiblad_magnitude(year), 4);
+    kohiblad_time_put_letter(text, '-');
+    kohiblad_time_put_digits(text, (uint64_t)(month > 9 ? month - 9 : month + 3), 2);
+    kohiblad_time_put_letter(text, '-');
+    kohiblad_time_put_digits(text, (uint64_t)(day - (153 * month + 2) / 5 + 1), 2);
+}
+
+/* Puts hours and minutes, and the seconds if they are asked for. */
+static inline void kohiblad_time_put_clock(kohiblad_time_text *text, uint64_t seconds,
+    bool has_seconds) {
+    kohiblad_time_put_digits(text, seconds / 3600, 2);
+    kohiblad_time_put_letter(text, ':');
+    kohiblad_time_put_digits(text, seconds / 60 % 60, 2);
+    if (!has_seconds) return;
+    kohiblad_time_put_letter(text, ':');
+    kohiblad_time_put_digits(text, seconds % 60, 2);
+}
+
+/* Puts the date and the time that a clock shows so many seconds from UTC. */
+static inline void kohiblad_time_put_timestamp(kohiblad_time_text *text, int64_t micros,
+    int64_t offset) {
+    int64_t seconds = kohiblad_split_off(&micros, 1000000) + offset;
+    kohiblad_time_put_date(text, kohiblad_split_off(&seconds, 86400));
+    kohiblad_time_put_letter(text, 'T');
+    kohiblad_time_put_clock(text, (uint64_t)seconds, true);
+    if (micros == 0) return;
+    kohiblad_time_put_letter(text, '.');
+    kohiblad_time_put_digits(text, (uint64_t)micros, 6);
+}
+
+/* Puts a part of a duration, unless it is zero. */
+static inline void kohiblad_time_put_part(kohiblad_time_text *text, bool is_negative,
+    uint64_t number, char unit) {
+    if (number == 0) return;
+    if (is_negative) kohiblad_time_put_letter(text, '-');
+    kohiblad_time_put_digits(text, number, 1);
+    kohiblad_time_put_letter(text, unit);
+}
+
+/* Puts seconds with as many digits after the point as they need, unless they are zero. */
+static inline void kohiblad_time_put_seconds(kohiblad_time_text *text, bool is_negative,
+    uint64_t micros) {
+    size_t digits = 6;
+    uint64_t below = micros % 1000000;
+    if (micros == 0) return;
+    if (is_negative) kohiblad_time_put_letter(text, '-');
+    kohiblad_time_put_digits(text, micros / 1000000, 1);
+    if (below != 0) {
+        for (; below % 10 == 0; digits--) below /= 10;
+        kohiblad_time_put_letter(text, '.');
+        kohiblad_time_put_digits(text, below, digits);
+    }
+    kohiblad_time_put_letter(text, 'S');
+}
+
+static inline void kohiblad_time_put_interval(kohiblad_time_text *text, int32_t months,
+    int32_t days, int64_t value) {
+    uint64_t all_months = kohiblad_magnitude(months), micros = kohiblad_magnitude(value);
+    kohiblad_time_put_letter(text, 'P');
+    kohiblad_time_put_part(text, months < 0, all_months / 12, 'Y');
+    kohiblad_time_put_part(text, months < 0, all_months % 12, 'M');
+    kohiblad_time_put_part(text, days < 0, kohiblad_magnitude(days), 'D');
+    if (micros != 0 || text->size == 1) kohiblad_time_put_letter(text, 'T');
+    kohiblad_time_put_part(text, value < 0, micros / 3600000000u, 'H');
+    kohiblad_time_put_part(text, value < 0, micros / 60000000 % 60, 'M');
+    kohiblad_time_put_seconds(text, value < 0, micros % 60000000);
+    if (text->size > 2) return;
+    kohiblad_time_put_letter(text, '0');
+    kohiblad_time_put_letter(text, 'S');
+}
+
+static inline uint32_t kohiblad_text_of_extension(struct kohiblad_extension_value value,
+    uint8_t *out, size_t room, size_t *length) {
+    kohiblad_time_text text = { 0, { 0 } };
+    if (!kohiblad_is_room(out, room, length)) return KOHIBLAD_OVERLAP;
+    *length = 0;
+    if (value.status != KOHIBLAD_OK) return value.status;
+    switch (value.tag) {
+    case KOHIBLAD_DATE: kohiblad_time_put_date(&text, value.value); break;
+    case KOHIBLAD_TIMESTAMP: kohiblad_time_put_timestamp(&text, value.value, 0); break;
+    case KOHIBLAD_TIMESTAMP_TZ:
+        kohiblad_time_put_timestamp(&text, value.value, value.seconds);
+        kohiblad_time_put_letter(&text, value.seconds < 0 ? '-' : '+');
+        kohiblad_time_put_clock(&text, kohiblad_magnitude(value.seconds), value.seconds % 60 != 0);
+        break;
+    case KOHIBLAD_INTERVAL:
+        kohiblad_time_put_interval(&text, value.months, value.days, value.value);
+        break;
+    default: return KOHIBLAD_OTHER_KIND;
+    }
+    *length = text.size;
+    if (text.size > room) return KOHIBLAD_NO_ROOM;
+    for (size_t i = 0; i < text.size; i++) out[i] = text.at[i];
     return KOHIBLAD_OK;
 }
 

@@ -49,11 +49,11 @@ cp -r "$top/bindings/examples" "$scratch/examples"
 cp -r "$top/tests/lines/jsonb_probe" "$scratch/lines"
 mkdir "$scratch/docs" "$scratch/tests"
 cp "$top/docs/PATHS.md" "$scratch/docs"
-cp -r "$top/tests/paths" "$scratch/tests"
+cp -r "$top/tests/paths" "$top/tests/times.tsv" "$scratch/tests"
 cd "$scratch/python"
 packages=${PYTHONPATH:-}
 export HOME=$scratch KOHIBLAD_LIBRARY=$library KOHIBLAD_LINES=$scratch/lines
-export KOHIBLAD_PATHS=$scratch/tests/paths
+export KOHIBLAD_PATHS=$scratch/tests/paths KOHIBLAD_TIMES=$scratch/tests/times.tsv
 export PYTHONPATH=$scratch/python/src PYTHONWARNINGS=error::SyntaxWarning
 
 run "$python" --version

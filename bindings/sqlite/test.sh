@@ -62,6 +62,14 @@ run_script json1 UTF-8
 run_script many UTF-8
 run_script steps UTF-8
 
+echo 'the texts of dates, timestamps and intervals, which are those of Python'
+times=../../tests/times.tsv
+sed "s/^\([0-9a-f]*\).*/SELECT jb_value(x'\1', '\$');/" "$times" > "$scratch/times.sql"
+sqlite3 -batch -cmd ".load $scratch/out/kohiblad" :memory: < "$scratch/times.sql" \
+    > "$scratch/printed" || fail 'the statements of tests/times.tsv'
+cut -f 2 "$times" | diff - "$scratch/printed" || fail 'the texts of tests/times.tsv'
+tests=$((tests + $(grep -c '' "$scratch/printed")))
+
 # A database that an earlier version wrote, by store.sh: the integrity of an index by a function is
 # checked by calling it for each row.
 for stored in ../../tests/stored/*/; do

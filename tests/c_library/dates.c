@@ -1,6 +1,6 @@
-/* Dates and timestamps of texts: each day of the years 0 to 9999, by a calendar that counts; texts
- * that are none; and times at random. Each text is a block of its own, so that a sanitizer sees
- * what is read past it. */
+/* Dates and timestamps of texts, and texts of these and of intervals: each day of the years 0 to
+ * 9999, by a calendar that counts; texts that are none; and times at random. Each text is a block
+ * of its own, so that a sanitizer sees what is read or written past it. */
 #include "kohiblad.h"
 
 #include <assert.h>
@@ -28,6 +28,21 @@ static struct kohiblad_extension_value value_of(const char *text) {
     return it;
 }
 
+/* The text is written where there is room for it, to the byte, and else its length is told. */
+static void has_text(struct kohiblad_extension_value it, const char *text) {
+    const size_t size = strlen(text);
+    uint8_t *block = malloc(size);
+    size_t length = 0;
+    assert(block != NULL && size <= KOHIBLAD_TIME_TEXT_ROOM);
+    memset(block, '?', size);
+    assert(kohiblad_text_of_extension(it, block, size - 1, &length) == KOHIBLAD_NO_ROOM);
+    assert(length == size && block[0] == '?');
+    assert(kohiblad_text_of_extension(it, NULL, 0, &length) == KOHIBLAD_NO_ROOM && length == size);
+    assert(kohiblad_text_of_extension(it, block, size, &length) == KOHIBLAD_OK);
+    assert(length == size && memcmp(block, text, size) == 0);
+    free(block);
+}
+
 static void has_value(const char *text, uint32_t tag, int64_t value, int32_t seconds) {
     struct kohiblad_extension_value it = value_of(text);
     assert(it.status == KOHIBLAD_OK && it.tag == tag && it.value == value && it.seconds == seconds);
@@ -52,10 +67,12 @@ static void test_days(void) {
             int most = month > 0 && month < 13 ? days_in(year, month) : 0;
             for (int day = most ? 0 : 1; day <= most + 1; day++) {
                 snprintf(text, sizeof text, "%04d-%02d-%02d", year, month, day);
-                if (day > 0 && day <= most)
+                if (day > 0 && day <= most) {
+                    has_text(value_of(text), text);
                     has_value(text, KOHIBLAD_DATE, days++, 0);
-                else
+                } else {
                     has_none(text);
+                }
             }
         }
     }
@@ -107,6 +124,7 @@ static void test_times(void) {
         int64_t value = value_of(date).value * 86400 + hour * 3600 + minute * 60 + second - seconds;
         has_value(text, has_zone ? KOHIBLAD_TIMESTAMP_TZ : KOHIBLAD_TIMESTAMP,
                   value * 1000000 + micros, seconds);
+        if (micros > 0 && (offset > 0 || !is_west)) has_text(value_of(text), text);
         struct kohiblad_extension_value it = value_of(text), back;
         uint8_t document[32];
         size_t size;
@@ -118,10 +136,53 @@ static void test_times(void) {
     }
 }
 
+static void test_texts_of_values(void) {
+    const struct { uint32_t tag; int64_t value; int32_t months, days, seconds; const char *text; }
+    values[] = {
+        { KOHIBLAD_DATE, 20090, 0, 0, 0, "2025-01-02" },
+        { KOHIBLAD_DATE, 2932897, 0, 0, 0, "+10000-01-01" },
+        { KOHIBLAD_DATE, -EPOCH - 1, 0, 0, 0, "-0001-12-31" },
+        { KOHIBLAD_DATE, INT32_MAX, 0, 0, 0, "+5881580-07-11" },
+        { KOHIBLAD_DATE, INT32_MIN, 0, 0, 0, "-5877641-06-23" },
+        { KOHIBLAD_TIMESTAMP, 0, 0, 0, 0, "1970-01-01T00:00:00" },
+        { KOHIBLAD_TIMESTAMP, -1, 0, 0, 0, "1969-12-31T23:59:59.999999" },
+        { KOHIBLAD_TIMESTAMP, 1735787045678901, 0, 0, 0, "2025-01-02T03:04:05.678901" },
+        { KOHIBLAD_TIMESTAMP, INT64_MAX, 0, 0, 0, "+294247-01-10T04:00:54.775807" },
+        { KOHIBLAD_TIMESTAMP, INT64_MIN, 0, 0, 0, "-290308-12-21T19:59:05.224192" },
+        { KOHIBLAD_TIMESTAMP_TZ, 0, 0, 0, 0, "1970-01-01T00:00:00+00:00" },
+        { KOHIBLAD_TIMESTAMP_TZ, 0, 0, 0, 3208, "1970-01-01T00:53:28+00:53:28" },
+        { KOHIBLAD_TIMESTAMP_TZ, 0, 0, 0, -1, "1969-12-31T23:59:59-00:00:01" },
+        { KOHIBLAD_TIMESTAMP_TZ, 0, 0, 0, 86400, "1970-01-02T00:00:00+24:00" },
+        { KOHIBLAD_TIMESTAMP_TZ, INT64_MIN, 0, 0, INT32_MIN,
+          "-290376-12-03T16:44:57.224192-596523:14:08" },
+        { KOHIBLAD_INTERVAL, 0, 0, 0, 0, "PT0S" },
+        { KOHIBLAD_INTERVAL, 5400000000, 14, -3, 0, "P1Y2M-3DT1H30M" },
+        { KOHIBLAD_INTERVAL, -1500, 0, 0, 0, "PT-0.0015S" },
+        { KOHIBLAD_INTERVAL, 3, 1, 2, 0, "P1M2DT0.000003S" },
+        { KOHIBLAD_INTERVAL, -3600000000, -12, 0, 0, "P-1YT-1H" },
+        { KOHIBLAD_INTERVAL, INT64_MIN, INT32_MIN, INT32_MIN, 0,
+          "P-178956970Y-8M-2147483648DT-2562047788H-54.775808S" } };
+    for (size_t i = 0; i < sizeof values / sizeof *values; i++) {
+        struct kohiblad_extension_value it = { KOHIBLAD_OK, values[i].tag, values[i].value,
+            values[i].months, values[i].days, values[i].seconds, 0, 0 };
+        has_text(it, values[i].text);
+    }
+    struct kohiblad_extension_value none = { KOHIBLAD_OK, KOHIBLAD_BINARY, 0, 0, 0, 0, 9, 2 };
+    uint8_t out[KOHIBLAD_TIME_TEXT_ROOM];
+    size_t length = 9;
+    assert(kohiblad_text_of_extension(none, out, sizeof out, &length) == KOHIBLAD_OTHER_KIND);
+    assert(length == 0);
+    assert(kohiblad_text_of_extension(none, (uint8_t *)&length, sizeof length, &length)
+           == KOHIBLAD_OVERLAP);
+    none.status = KOHIBLAD_INVALID_JSONB;
+    assert(kohiblad_text_of_extension(none, out, sizeof out, &length) == KOHIBLAD_INVALID_JSONB);
+}
+
 int main(void) {
     test_days();
     test_texts();
+    test_texts_of_values();
     test_times();
-    puts("dates of texts");
+    puts("dates of texts, and texts of times");
     return 0;
 }

@@ -38,6 +38,12 @@ static uint32_t fault_words(const struct region *r) {
     return kohiblad_fault_words(BYTES(0), 1, 0, BYTES(1)).status;
 }
 
+static uint32_t text_of_extension(const struct region *r) {
+    static const uint8_t day[] = "2026-11-29";
+    struct kohiblad_extension_value date = kohiblad_extension_of_text(day, sizeof day - 1);
+    return kohiblad_text_of_extension(date, BYTES(0), r[1].at);
+}
+
 /* The functions that call no export of their name. */
 static const struct call others[] = {
     { "take_members", NULL, take_members, 9,
@@ -46,6 +52,7 @@ static const struct call others[] = {
       { true, true, true, false, false, false, false, false, false } },
     { "fault_words", NULL, fault_words, 2, { MANY, MANY },
       { true, false, false, false, false, false, false, false, false } },
+    { "text_of_extension", NULL, text_of_extension, 2, { MANY, sizeof(size_t) }, { false } },
 };
 
 enum { EXPORTS = sizeof exports / sizeof *exports, OTHERS = sizeof others / sizeof *others };

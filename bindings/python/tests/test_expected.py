@@ -79,14 +79,12 @@ class ExpectedTest(unittest.TestCase):
     def test_paths_are_quoted(self):
         row = Document.of([1])
         for path in ("$.a[", b"$.a["):
-            with self.assertRaises(PathError) as refused:
-                row.path_of(path)
-            self.assertEqual(refused.exception.message, "the text is not a path: '$.a['")
-            with self.assertRaises(PathError) as refused:
-                row.select(path)
-            self.assertEqual(refused.exception.message, "the text is not a path")
-            self.assertEqual(refused.exception.report,
-                             "$.a[\n    ^ expected a value at byte 4, found the end")
+            for call in row.path_of, row.select:
+                with self.assertRaises(PathError) as refused:
+                    call(path)
+                self.assertEqual(refused.exception.message, "the text is not a path")
+                self.assertEqual(refused.exception.report,
+                                 "$.a[\n    ^ expected a value at byte 4, found the end")
         with self.assertRaisesRegex(PathError, "x{60}[.][.]'"):
             row.path_of("x" * 100)
         # So much of a long text is shown, with escapes for what a terminal might obey.

@@ -225,16 +225,22 @@ class PathTest(FunctionTest):
         for text, path in (("", []), ("/", [""]), ("/a~1b/0", ["a/b", 0]), ("{}", []),
                            ("/a~1b/-1/m~0n", ["a/b", -1, "m~n"]), ('{0,"x y"}', ["0", "x y"]),
                            ('{"",0}', ["", "0"]), ("/a~1b/01/0", ["a/b", "01", "0"]),
-                           ('$."a/b"[#-1]', ["a/b", -1]), (b"/a~1b/-", ["a/b", 2**64 - 1])):
+                           ('$."a/b"[#-1]', ["a/b", -1]), (b"/a~1b/-", ["a/b", 2**64 - 1]),
+                           ('$."a/b"[last - 1] ."x\\"y\\u00e9"', ["a/b", -2, 'x"y\u00e9']),
+                           ("strict $.a[0] [ last+1 ]", ["a", 0, 2**64 - 1]), ("$", [])):
             self.assertEqual(row.path_of(text), path, text)
         self.assertEqual(row.get_path(*row.path_of("/a~1b/1/m~0n")), 2)
         self.assertEqual(row.set(row.path_of("/a~1b/-"), 9).get_path("a/b", 2), 9)
         self.assertEqual(Document.of([5]).path_of("/" + "9" * 30), [2**64 - 1])
         self.assertEqual(Document.of(5).path_of("/0"), ["0"])
-        for text in ("a", "/~", "/~2", "{a", "{a,}", "{NULL}", "{a b}", "$[*]", "$.a[0 to 1]"):
+        for text in ("a", "/~", "/~2", "{a", "{a,}", "{NULL}", "{a b}", "$.total = 5", "$.a b"):
             with self.assertRaises(PathError) as refused:
                 row.path_of(text)
             self.assertIn("not a path", str(refused.exception))
+        for text in ("$[*]", "$.a[0 to 1]", "$.a > 1", "$.a + 1", "$.**", "$.a.size()", "$x",
+                     "$.a ? (@ > 1)", "$[0, 1]", "$[last + 2]", "$[$.a]"):
+            with self.assertRaisesRegex(PathError, "keys and indexes alone"):
+                row.path_of(text)
         self.assertRaises(InvalidTextError, row.path_of, b"/\xff")
         self.assertRaises(TypeError, row.path_of, 5)
 

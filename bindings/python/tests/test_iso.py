@@ -2,6 +2,7 @@
 import csv
 import doctest
 import io
+import os
 import random
 import subprocess
 import sys
@@ -179,6 +180,14 @@ class TextTest(unittest.TestCase):
             self.assertEqual(str(Date(it.toordinal() - EPOCH.toordinal())), it.date().isoformat())
             self.assertEqual(str(TimestampTz(micros - offset * 10**6, offset)),
                              it.replace(tzinfo=timezone(timedelta(seconds=offset))).isoformat())
+
+    def test_texts_that_other_bindings_show(self):
+        with open(os.environ["KOHIBLAD_TIMES"], encoding="ascii") as file:
+            rows = [line.split() for line in file]
+        self.assertGreater(len(rows), 300)
+        for document, text in rows:
+            value = Document(bytes.fromhex(document)).value()
+            self.assertEqual(value.isoformat(), text, document)
 
     def test_years_of_more_digits(self):
         for it, text in ((Date(2932897), "+10000-01-01"), (Date(-719529), "-0001-12-31"),

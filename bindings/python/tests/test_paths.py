@@ -114,7 +114,7 @@ class TestPaths(unittest.TestCase):
                     call(path)
                 self.assertEqual(refused.exception.offset, offset, path)
                 lines = str(refused.exception).split("\n")
-                self.assertEqual(lines[:2], ["OtherKind: the text is not a path:", path])
+                self.assertEqual(lines[:2], ["the text is not a path:", path])
                 self.assertTrue(lines[2].startswith(" " * offset + "^ expected "), lines)
                 self.assertIn(f"at byte {offset}", refused.exception.report)
                 self.assertEqual(str(pickle.loads(pickle.dumps(refused.exception))),

@@ -499,6 +499,9 @@ class TypedTest(unittest.TestCase):
             self.assertEqual([it() is None for it in buffers], [True] * 3, name)
 
     def test_an_interrupt_ends_a_long_call(self):
+        # A test that runs in the background of a shell has SIGINT ignored.
+        before = signal.signal(signal.SIGINT, signal.default_int_handler)
+        self.addCleanup(signal.signal, signal.SIGINT, before)
         rows = Column.of([row_of("5")] * 100)._rows
         batch = next(rows.batches())
         # The same rows, without an end.

@@ -11,6 +11,7 @@ from decimal import Decimal
 
 from kohiblad import (Date, Document, Interval, InvalidDocumentError, OutOfMemoryError, Timestamp,
                       TimestampTz, TooDeepError, typed_file)
+from kohiblad.arrow import Column
 from kohiblad.typed_file import StoredColumn, TypedFile
 
 TYPES = {"at": "int64", "city": "text", "on": "boolean", "price": "decimal 2", "seen": "uint64"}
@@ -71,6 +72,16 @@ class TypedFileTest(unittest.TestCase):
         file = TypedFile(TypedFile.build([{"a": 1}, {"a": "x"}], {"a": "int64"}))
         self.assertEqual(list(file.column("a")), [1, None])
         self.assertEqual(file[1], Document.of({"a": "x"}))
+
+    def test_a_column_has_rows(self):
+        column = Column.of(documents())
+        for it in (column, column[:], Column.from_arrow(column)):
+            self.assertEqual(TypedFile.build(it, TYPES), built())
+        self.assertEqual(TypedFile.build(column[1:4], TYPES),
+                         TypedFile.build(documents()[1:4], TYPES))
+        self.assertEqual(list(TypedFile(TypedFile.build(Column.of([None, Document.of(5)]), {}))),
+                         [Document.of(None), Document.of(5)])
+        self.assertEqual(len(TypedFile(TypedFile.build(column[:0], {}))), 0)
 
     def test_extension_values_are_columns(self):
         noon = datetime(2026, 11, 29, 12, 0, 0, 5, timezone(timedelta(seconds=-19800)))

@@ -53,10 +53,11 @@ class PathTextTest(WarningsTest):
     def test_a_path_as_a_text(self):
         for path, text in (((), "$"), (("a", 0, -1), "$.a[0][#-1]"),
                            (("any name", "_b1"), '$."any name"._b1'),
-                           (("1", "é", "", "a\\b", "$.c"), '$."1"."é".""."a\\b"."$.c"')):
+                           (("1", "é", "", "$.c"), '$."1"."é".""."$.c"')):
             self.assertEqual(path_text(path), text)
             self.assertEqual(tuple(Document.of({"a": 5}).path_of(text)), path)
         self.assertEqual(path_text(['q"', 0]), '["q\\"",0]')
+        self.assertEqual(path_text(["a\\b", 0]), '["a\\\\b",0]')
 
     def test_get_path(self):
         row = Document.of(ROWS[0])

@@ -1,7 +1,7 @@
 #!/bin/sh
 # Times the extension beside SQLite's own JSON functions over text, on 100,000 rows in memory, and
-# prints the table of README.md: the median of 9 rounds in which both take turns, in milliseconds of
-# processor time. Finds the library as test.sh does.
+# prints rows of README.md's table: the median of 9 rounds in which both take turns, in milliseconds
+# of processor time. Finds the library as test.sh does.
 #
 #     bindings/sqlite/bench/run.sh [NAME]
 #

@@ -63,6 +63,6 @@ bool get_sql_value(const struct caller *caller, sqlite3_value *value, bool is_js
     case SQLITE_FLOAT: break;
     default: return get_bytes(caller, value, &sql_value->bytes);
     }
-    fail_because(caller, KOHIBLAD_INVALID_JSONB_NUMBER, "a REAL is refused, pass decimals as TEXT");
+    fail_because(caller, KOHIBLAD_BAD_NUMBER, "a REAL is refused, pass decimals as TEXT");
     return false;
 }

@@ -327,7 +327,8 @@ static void jb_version(const struct caller *caller, sqlite3_value **arguments)
     sqlite3_result_text(caller->context, text, -1, SQLITE_TRANSIENT);
 }
 
-/* All but jb_version return the same for the same arguments, also after an upgrade. */
+/* All but jb_version return the same for the same arguments, also after an upgrade, unless
+ * CHANGELOG.md says which indexes to make again. */
 enum {
     SAME = SQLITE_DETERMINISTIC,
     READS_SUBTYPE = SAME | SQLITE_SUBTYPE,

@@ -149,18 +149,29 @@ static void give_string(const struct caller *caller, struct bytes document)
     else fail(caller, text.status);
 }
 
-/* The text of an extension value without its quotes; it has no escapes. */
-static void give_extension(const struct caller *caller, struct bytes document)
+/* The text of an extension value, as it is printed without its quotes; it has no escapes. */
+static void give_printed(const struct caller *caller, struct bytes document)
 {
     struct buffer buffer;
-    uint32_t status = kohiblad_as_extension(document.at, document.size).status;
-    if (status != KOHIBLAD_OK) {
-        fail(caller, status);
-    } else if (fill(caller, &buffer, write_compact, &document, 2 * document.size)) {
+    if (fill(caller, &buffer, write_compact, &document, 2 * document.size)) {
         sqlite3_result_text64(caller->context, (const char *)buffer.at + 1, buffer.size - 2,
                               SQLITE_TRANSIENT, SQLITE_UTF8);
         release(&buffer);
     }
+}
+
+/* A date, a timestamp or an interval is shown in ISO 8601. */
+static void give_extension(const struct caller *caller, struct bytes document)
+{
+    uint8_t text[KOHIBLAD_TIME_TEXT_ROOM];
+    size_t size;
+    uint32_t status = kohiblad_text_of_extension(
+        kohiblad_as_extension(document.at, document.size), text, sizeof text, &size);
+    if (status == KOHIBLAD_OK)
+        sqlite3_result_text64(caller->context, (const char *)text, size, SQLITE_TRANSIENT,
+                              SQLITE_UTF8);
+    else if (status == KOHIBLAD_OTHER_KIND) give_printed(caller, document);
+    else fail(caller, status);
 }
 
 static void give_binary(const struct caller *caller, struct bytes document)

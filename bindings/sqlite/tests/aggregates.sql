@@ -29,9 +29,9 @@ SELECT length(jb_group_array(jb_of(replace(hex(zeroblob(5000)), '0', 'x'))));
 --> 10008
 
 SELECT jb_group_array(1.5);
---! jb_group_array: InvalidJsonbNumber: a REAL is refused, pass decimals as TEXT
+--! jb_group_array: BadNumber: a REAL is refused, pass decimals as TEXT
 SELECT jb_group_object('a', 1.5);
---! jb_group_object: InvalidJsonbNumber: a REAL is refused, pass decimals as TEXT
+--! jb_group_object: BadNumber: a REAL is refused, pass decimals as TEXT
 SELECT jb_group_array(x'00');
 --! jb_group_array: InvalidJsonb
 SELECT jb_group_object('a', x'00');

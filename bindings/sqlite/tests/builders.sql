@@ -26,7 +26,7 @@ SELECT jb_object(NULL, 1);
 SELECT jb_object(5, 1);
 --! jb_object: OtherKind: names and paths are TEXT
 SELECT jb_array(1, 1.5);
---! jb_array: InvalidJsonbNumber: a REAL is refused, pass decimals as TEXT
+--! jb_array: BadNumber: a REAL is refused, pass decimals as TEXT
 SELECT jb_array(x'00');
 --! jb_array: InvalidJsonb
 SELECT jb_object('a', x'00');

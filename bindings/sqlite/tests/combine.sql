@@ -93,7 +93,7 @@ SELECT jb_contains(doc, '{"a"') FROM t;
 SELECT jb_contains(doc, x'00') FROM t;
 --! jb_contains: InvalidJsonb
 SELECT jb_contains(1.5, doc) FROM t;
---! jb_contains: InvalidJsonbNumber: a REAL is refused, pass decimals as TEXT
+--! jb_contains: BadNumber: a REAL is refused, pass decimals as TEXT
 SELECT jb_exists('{}', 'a');
 --! jb_exists: InvalidJsonb: a document is a BLOB
 SELECT jb_exists(doc, 5) FROM t;

@@ -54,13 +54,13 @@ SELECT jb_compare(jb('[]'), '[1');
 SELECT jb_compare('1e99', '[1');
 --! jb_compare: BadNumber: at byte 3 of a number that is unfinished or too long, in '1e99'
 SELECT jb_compare(1.5, 'null');
---! jb_compare: InvalidJsonbNumber: a REAL is refused, pass decimals as TEXT
+--! jb_compare: BadNumber: a REAL is refused, pass decimals as TEXT
 SELECT jb_compare('null', 1.5);
---! jb_compare: InvalidJsonbNumber: a REAL is refused, pass decimals as TEXT
+--! jb_compare: BadNumber: a REAL is refused, pass decimals as TEXT
 SELECT jb(1.5);
---! jb: InvalidJsonbNumber: a REAL is refused, pass decimals as TEXT
+--! jb: BadNumber: a REAL is refused, pass decimals as TEXT
 SELECT jb_of(1.0);
---! jb_of: InvalidJsonbNumber: a REAL is refused, pass decimals as TEXT
+--! jb_of: BadNumber: a REAL is refused, pass decimals as TEXT
 SELECT jb(x'');
 --! jb: InvalidJsonb
 SELECT jb_of(x'00');

@@ -55,7 +55,7 @@ SELECT jb_query(doc, '$', '[1]') FROM t;
 SELECT jb_query(doc, '$', '{"a"') FROM t;
 --! jb_query: InvalidJson: expected ':' at byte 4, found the end
 SELECT jb_query(doc, '$', 1.5) FROM t;
---! jb_query: InvalidJsonbNumber: a REAL is refused, pass decimals as TEXT
+--! jb_query: BadNumber: a REAL is refused, pass decimals as TEXT
 
 -- Errors give a path up, unless it is silent: then what came before is the answer.
 SELECT jb_query(doc, 'strict $.none') FROM t;

@@ -61,7 +61,7 @@ SELECT count(*), sum(jb_length(doc)) FROM (
 
 SELECT jb_text(jb_group_array(v) OVER (ORDER BY v)) FROM (SELECT 1 AS v UNION ALL SELECT 1.5);
 --> [1]
---! jb_group_array: InvalidJsonbNumber: a REAL is refused, pass decimals as TEXT
+--! jb_group_array: BadNumber: a REAL is refused, pass decimals as TEXT
 SELECT jb_text(jb_group_object('a', v) OVER (ORDER BY v ROWS 0 PRECEDING)) FROM
     (SELECT 1 AS v UNION ALL SELECT 2);
 --> {"a":1}

@@ -20,6 +20,8 @@ DocumentPath = Union[Step, Sequence[Step]]
 
 # A name that is not quoted in the text of a path.
 _PLAIN_NAME = re.compile("[A-Za-z_][A-Za-z0-9_]*")
+# What may be an escape in a name that is quoted.
+_ESCAPED = re.compile(r'["\\]')
 # No array has so many items, so what is further away is as far.
 _FAR = 1 << 32
 # The documents of paths that were used lately: most programs use the same few for many documents.
@@ -46,12 +48,13 @@ def steps_of(path: Any) -> Tuple[Step, ...]:
 
 
 def path_text(steps: Sequence[Step]) -> str:
-    """The steps as the text of a path, or as a JSON text where a key has a quote, as no such has.
+    """The steps as the text of a path, or as a JSON text where a key has a quote or a backslash: not
+    all who read such texts take these alike.
 
     >>> path_text(["tags", -1, "any name"])
     '$.tags[#-1]."any name"'
     """
-    if any(isinstance(it, str) and '"' in it for it in steps):
+    if any(isinstance(it, str) and _ESCAPED.search(it) for it in steps):
         return _json_of(steps)
     return "$" + "".join(map(_text_of_step, steps))
 

@@ -17,7 +17,7 @@ from ._errors import KohibladError, PathError, TooDeepError, warn
 from ._expected import fault_of, quoted_path
 from ._exports import Place
 from ._library import IS_NATIVE, exports
-from ._paths import PathText, data_of_path, path_refused
+from ._paths import Path, PathText, data_of_path, path_refused, steps_of
 from ._scalars import Scalar, scalar_of
 from ._stack import DEPTH
 
@@ -342,13 +342,17 @@ class Document:
         'c'
 
         The text is a JSON pointer (RFC 6901), a list as PostgreSQL writes an array of texts, or a
-        path as for ``select`` that leads to one value. Of a pointer and a list this document
-        decides which names are keys and which are indexes: a name is a key, but in an array ``0``,
-        and other digits that do not begin with ``0``, are an index, ``-1`` is the last item, and
-        ``-`` is past it, as a great index. PathError: the text is none of these.
+        path as for ``select`` of keys and indexes alone, where ``[last + 1]`` is past the last
+        item; SQLite's ``[#-1]`` is read too. Of a pointer and a list this document decides which
+        names are keys and which are indexes: a name is a key, but in an array ``0``, and other
+        digits that do not begin with ``0``, are an index, ``-1`` is the last item, and ``-`` is
+        past it, as a great index. PathError: the text is none of these.
         """
+        data = bytes_of_text(text)
+        if data.lstrip().startswith((b"$", b"lax", b"strict")) and b"[#" not in data:
+            return steps_of(Path(data))
         try:
-            path = library.path_of_text(self._data, bytes_of_text(text))
+            path = library.path_of_text(self._data, data)
         except PathError as error:
             raise library.error_of(error.status, quoted_path(text)) from None
         return cast(List[Step], _of_checked(path).value())

@@ -86,7 +86,8 @@ class PathError(KohibladError):
     report = ""
 
     def __str__(self) -> str:
-        return ":\n".join(it for it in (super().__str__(), self.report) if it)
+        told = ": ".join(it for it in (printable(self.place), self.message or self.name) if it)
+        return ":\n".join(it for it in (told, self.report) if it)
 
 
 class QueryError(KohibladError):

@@ -1,7 +1,10 @@
 """Paths of SQL/JSON: texts that ask a document for values."""
-from typing import Any, Union, cast
+import json
+import re
+from typing import Any, List, Match, Union, cast
 
 from . import _library as library
+from ._changes import Step
 from ._encode import bytes_of_text
 from ._errors import KohibladError, PathError, printable
 from ._library import exports
@@ -10,6 +13,12 @@ from ._library import exports
 _MOST_SHOWN = 60
 # What the words about a refused path may take.
 _REPORT_SIZE = 512
+
+# A step to one child, as `str` of a path writes it, and a path of such steps alone.
+_STEP = r'\."(?:[^"\\]|\\.)*"|\[\d+\]|\[last(?: - \d+)?\]|\[last \+ 1\]'
+_STEPS = re.compile(rf"(?:strict )?\$((?:{_STEP})*)")
+# The index that is past the last item of every array.
+_PAST = 2**64 - 1
 
 
 class Path:
@@ -62,6 +71,25 @@ class Path:
 
 # A path: its text, or one that was read before.
 PathText = Union[str, bytes, Path]
+
+
+def steps_of(path: Path) -> List[Step]:
+    """The steps of a path of keys and indexes. PathError: it has others."""
+    found = _STEPS.fullmatch(str(path))
+    if not found:
+        raise library.error_of(library.OTHER_KIND,
+                               f"the path may have keys and indexes alone: {_shown(path._data)!r}")
+    return [_step_of(it) for it in re.finditer(_STEP, found[1])]
+
+
+def _step_of(step: Match[str]) -> Step:
+    written = step[0]
+    if written.startswith("."):
+        return cast(str, json.loads(written[1:]))
+    if written == "[last + 1]":
+        return _PAST
+    less = written[1:-1].replace("last", "").replace(" - ", "")
+    return -1 - int(less or 0) if "last" in written else int(less)
 
 
 def data_of_path(path: PathText) -> bytes:

@@ -95,6 +95,13 @@ class _Rows(NamedTuple):
                 array.array("q", (it - begin for it in offsets)),
                 list(filter(self.is_missing, range(self.length))))
 
+    def known(self) -> Optional[List[bytes]]:
+        """The bytes of all rows, if each is known to be a document."""
+        if not self.are_documents or self.validity is not None:
+            return None
+        data, offsets, _ = self.copied()
+        return list(map(data.__getitem__, map(slice, offsets, offsets[1:])))
+
     def offsets_at(self, row: int) -> int:
         """The address of the offset of a row."""
         return ctypes.addressof(self.offsets) + 8 * (self.first + row)

@@ -27,6 +27,7 @@ from ._scalars import (Date, Interval, Timestamp, TimestampTz, date_of, decimal_
                        document_of_raw_date, document_of_timestamp, document_of_timestamp_tz,
                        timestamp_of, timestamp_tz_of)
 from ._target import File, target_of
+from .arrow import Column
 
 _TYPES = ("boolean", "int64", "uint64", "decimal", "text", "date", "timestamp", "timestamp_tz",
           "interval", "binary")
@@ -105,6 +106,15 @@ def _with_date(row: bytes, name: str, kind: str) -> bytes:
         return row
     numbers = READERS[kind](library.payload_of(row, place))
     return row if numbers is None else edited(row, (name,), library.PUT, _DOCUMENTS[kind](*numbers))
+
+
+def _bytes_of_rows(documents: Iterable[Any]) -> List[bytes]:
+    """The bytes of documents, or of those of Python values. Rows of a column that are known to be
+    documents are not checked again."""
+    known = documents._rows.known() if type(documents) is Column else None
+    if known is not None:
+        return known
+    return [bytes(it if isinstance(it, Document) else Document.of(it)) for it in documents]
 
 
 def _tell_missing(rows: List[bytes], names: List[str]) -> None:
@@ -344,7 +354,7 @@ class TypedFile(library.Fixed, Sequence[Document]):
         names = sorted(types, key=str.encode)
         kinds = b"".join(_bytes_of_type(types[name]) for name in names)
         listed = bytes(Document.of(names))
-        rows = [bytes(it if isinstance(it, Document) else Document.of(it)) for it in documents]
+        rows = _bytes_of_rows(documents)
         if iso_dates:
             rows = _with_dates(rows, types)
         _tell_missing(rows, names)
