@@ -13,7 +13,7 @@ PLACES = {
     "text_lookup": (1.52, 3, "green"),
     "kohiblad_shell": (0.5, 6, "blue"), "jsonb_typed_file": (2.8, 6, "green"),
     "jsonb_typed": (3.6, 5, "green"), "tests_of_calls": (4.1, 7, "plain"),
-    "tests_of_documents": (2.55, 5, "plain"),
+    "tests_of_documents": (2.55, 5, "plain"), "tests_of_paths": (5.5, 6, "plain"),
     "kohiblad": (5.5, 7, "violet"),
 }
 KINDS = [("green", "library"), ("blue", "program"), ("violet", "library for C"),

@@ -4,9 +4,6 @@ ghost use Rattle.std.specs.Prelude.{◌≡◌, chars};
 ghost use Rattle.jsonb_path.specs.Hint.{begins_with, begins_word, expected_hint, found_hint};
 ghost use Rattle.jsonb_path.specs.Hint.{from_byte, hint_of, mark_hint, mark_where, word_hint};
 
-#[cfg(test)]
-mod tests;
-
 use crate::read::{Expected, LeftOut};
 use crate::token::cursor::{Class, begins, byte_len, split_first};
 use crate::token::{Found, PathFault, Reason};

@@ -7,9 +7,6 @@ ghost use Rattle.jsonb_path.specs.Meaning.{exists_in, is_lax, match_in};
 ghost use Rattle.jsonb_path.specs.PathParts.{are_parts};
 ghost use Rattle.jsonb_path.specs.PathTree.{path_means};
 
-#[cfg(test)]
-mod tests;
-
 use crate::compare::Truth;
 use crate::follow::follow_at;
 use crate::given::given_at;

@@ -14,8 +14,6 @@ mod infix;
 mod literal;
 mod operand;
 mod scan;
-#[cfg(test)]
-mod tests;
 
 use crate::path::{Mode, Path};
 use crate::token::{Found, PathFault, PlacedToken, ReadError, Reason, tokens};

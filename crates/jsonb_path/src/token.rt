@@ -12,8 +12,6 @@ ghost use Rattle.jsonb_path.specs.Token.{with_token, word_at};
 pub(crate) mod cursor;
 mod escape;
 mod numeral;
-#[cfg(test)]
-mod tests;
 
 use crate::read::{Expected, LeftOut};
 use cursor::{Class, begins, byte_len, is_mark, is_white, read_run, split_first};

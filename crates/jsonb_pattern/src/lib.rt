@@ -5,8 +5,6 @@ mod flags;
 mod letters;
 mod pattern;
 mod place;
-#[cfg(test)]
-mod tests;
 mod translate;
 
 pub use flags::Flags;

@@ -25,6 +25,8 @@ mod items;
 #[cfg(test)]
 mod lookup;
 #[cfg(test)]
+mod member_texts;
+#[cfg(test)]
 mod names;
 #[cfg(test)]
 mod no_requests;
@@ -36,6 +38,8 @@ mod readers;
 mod sets;
 #[cfg(test)]
 mod texts;
+#[cfg(test)]
+mod typed_chunks;
 #[cfg(test)]
 mod typed_files;
 #[cfg(test)]

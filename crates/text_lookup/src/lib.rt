@@ -3,7 +3,5 @@
 
 mod member;
 mod sink;
-#[cfg(test)]
-mod tests;
 
 pub use member::{MAX_LOOKUP_LEN, TextMember, member_of_text};

@@ -23,8 +23,6 @@ mod parts;
 mod places;
 mod rising;
 mod spans;
-#[cfg(test)]
-mod tests;
 mod text_chunk;
 mod text_chunk_reading;
 mod text_kinds;

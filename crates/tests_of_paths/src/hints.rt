@@ -1,7 +1,7 @@
 //! Refusals in words, and their hints.
 
-use crate::path::Path;
-use crate::token::ReadError;
+use jsonb_path::path::Path;
+use jsonb_path::token::ReadError;
 use std::alloc::Global;
 use std::test::Fail;
 

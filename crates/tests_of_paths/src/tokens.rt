@@ -1,6 +1,6 @@
 //! Tokens of texts, as PostgreSQL reads them.
 
-use super::{PathFault, ReadError, Token, tokens};
+use jsonb_path::token::{PathFault, ReadError, Token, tokens};
 use std::alloc::Global;
 use std::process::Abort;
 use std::test::Fail;

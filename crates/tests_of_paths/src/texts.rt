@@ -1,7 +1,7 @@
 //! Paths of texts, as PostgreSQL reads and prints them.
 
-use crate::path::{Mode, Part, Path, Sign, Source};
-use crate::token::{PathFault, ReadError};
+use jsonb_path::path::{Mode, Part, Path, Sign, Source};
+use jsonb_path::token::{PathFault, ReadError};
 use std::alloc::Global;
 use std::test::Fail;
 

@@ -1,6 +1,6 @@
 //! Patterns over texts.
 
-use crate::{Flags, Pattern, PatternError};
+use jsonb_pattern::{Flags, Pattern, PatternError};
 use std::test::Fail;
 
 #[test]

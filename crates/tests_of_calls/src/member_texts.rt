@@ -1,9 +1,9 @@
 //! What is found in texts, each once.
 
-use crate::{TextMember, member_of_text};
 use jsonb_value::{Error, Exponents, Value};
 use std::alloc::{AllocError, Global};
 use std::test::Fail;
+use text_lookup::{TextMember, member_of_text};
 
 // What a look-up found, in words.
 fn words_of(alloc: Global, found: &TextMember<'_>) -> Result<String, AllocError> {

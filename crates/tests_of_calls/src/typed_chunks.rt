@@ -2,13 +2,13 @@
 
 ghost use Rattle.std.specs.Prelude.{◌≡◌, ◌≤◌, ◌<◌, ◌^◌, length};
 
-use crate::{
+use std::alloc::{AllocError, Global};
+use std::test::Fail;
+use typed_chunk::{
     ChunkFault, ChunkTexts, ReadError, append_boolean_chunk, append_dictionary,
     append_number_chunk, append_text_chunk, append_texts, append_whole_texts, find_dictionary,
     read_boolean_chunk, read_dictionary, read_number_chunk, read_text_chunk, read_texts,
 };
-use std::alloc::{AllocError, Global};
-use std::test::Fail;
 
 // Four rows, of which the second has no text.
 const TEXTS: &[u8] = b"town-atown-bcdtown-";

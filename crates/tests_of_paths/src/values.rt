@@ -1,9 +1,9 @@
 //! Values that paths give, as PostgreSQL answered.
 
-use crate::compare::Truth;
-use crate::path::{Path, PathError};
-use crate::token::ReadError;
 use jsonb::{Document, Exponents, encode_text};
+use jsonb_path::Truth;
+use jsonb_path::path::{Path, PathError};
+use jsonb_path::token::ReadError;
 use std::alloc::Global;
 use std::process::Abort;
 use std::test::Fail;
