@@ -1,0 +1,27 @@
+//! Each call once with ample memory.
+
+use crate::{SeenKeys, TopRows};
+use std::alloc::AllocError;
+
+#[test]
+fn first_of_each_key(rt: HostRuntime) -> Result<(), AllocError> {
+    let mut seen = SeenKeys::new(rt.alloc());
+    assert!(rt; seen.add(b"b".to_vec(rt.alloc())?)?);
+    assert!(rt; seen.add(b"a".to_vec(rt.alloc())?)?);
+    assert!(rt; !seen.add(b"b".to_vec(rt.alloc())?)?);
+    Ok(())
+}
+
+#[test]
+fn first_in_order(rt: HostRuntime) -> Result<(), AllocError> {
+    let mut top = TopRows::new(rt.alloc(), 3);
+    for (key, line) in [(3, b"w"), (1, b"x"), (2, b"y"), (1, b"z")] {
+        top.add(rt.alloc(), &[key], line)?;
+    }
+    let lines = top.into_lines(rt.alloc())?;
+    assert_eq!(rt; lines.len(), 3);
+    assert!(rt; lines[0].as_slice() == b"x".as_slice());
+    assert!(rt; lines[1].as_slice() == b"z".as_slice());
+    assert!(rt; lines[2].as_slice() == b"y".as_slice());
+    Ok(())
+}
