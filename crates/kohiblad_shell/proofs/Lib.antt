@@ -5,6 +5,7 @@ pub mod ValueLaws
 mod ValueSteps
 pub mod EscapeLaws
 pub mod SortLaws
+pub mod KeptLaws
 pub mod KeyLaws
 pub mod KeyOrderLaws
 pub mod RemovalLaws

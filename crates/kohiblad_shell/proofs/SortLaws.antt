@@ -8,7 +8,6 @@ use Rattle.std.proofs.KnownBytes.{Appends-kept}
 use Rattle.answer_lines.specs.Output.{AppendsPrefix}
 use Rattle.answer_lines.proofs.Output.{Known, appends_both, prefix_after_all, prefix_of_more}
 use Rattle.kohiblad_shell.specs.declared.sort.Keyed.{Keyed}
-use Rattle.kohiblad_shell.specs.Sorts.{keyed_line}
 
 pub on_ok : {T E P : Type 0} (r : Result T E) → P → OnOk r P
 on_ok (Ok x) p = p
@@ -19,13 +18,6 @@ pub all_written : (old mid new : Known) (bytes : List ℕ) → Appends old mid b
     → Appends old new bytes
 all_written old mid new bytes appends kept = Appends-kept old mid new bytes appends kept
 
-lines-append : (xs ys : List Keyed)
-    → flat_map keyed_line (xs ++ ys) ≡ flat_map keyed_line xs ++ flat_map keyed_line ys
-lines-append [] ys = refl
-lines-append (x ∷ xs) ys =
-    ap (λ b. keyed_line x ++ b) (lines-append xs ys)
-    ∙ sym (append_assoc (keyed_line x) (flat_map keyed_line xs) (flat_map keyed_line ys))
-
 -- what stands for a row beyond the last one
 abbrev pub no_row : Keyed
 no_row = record {
@@ -33,39 +25,48 @@ no_row = record {
   line = record { ref_ptr = (0, 0); now = [] };
 }
 
-module _ (rows : List Keyed) (i : ℕ) (low : i < length rows) where
-  lines-more : flat_map keyed_line (take (i + 1) rows)
-      ≡ flat_map keyed_line (take i rows) ++ keyed_line (slice_index_or rows i no_row)
-  lines-more =
-      ap (flat_map keyed_line) (take_more rows i no_row low)
-      ∙ lines-append (take i rows) (slice_index_or rows i no_row ∷ [])
-      ∙ ap (λ b. flat_map keyed_line (take i rows) ++ b)
-      (append-nil (keyed_line (slice_index_or rows i no_row)))
+module _ {A : Type 0} (line_of : A → List ℕ) where
+  lines-append : (xs ys : List A)
+      → flat_map line_of (xs ++ ys) ≡ flat_map line_of xs ++ flat_map line_of ys
+  lines-append [] ys = refl
+  lines-append (x ∷ xs) ys =
+      ap (λ b. line_of x ++ b) (lines-append xs ys)
+      ∙ sym (append_assoc (line_of x) (flat_map line_of xs) (flat_map line_of ys))
 
-  lines-parts : flat_map keyed_line rows
-      ≡ (flat_map keyed_line (take i rows) ++ keyed_line (slice_index_or rows i no_row))
-      ++ flat_map keyed_line (drop (i + 1) rows)
+module _ {A : Type 0} (line_of : A → List ℕ) (none : A) (rows : List A) (i : ℕ)
+    (low : i < length rows) where
+  lines-more : flat_map line_of (take (i + 1) rows)
+      ≡ flat_map line_of (take i rows) ++ line_of (slice_index_or rows i none)
+  lines-more =
+      ap (flat_map line_of) (take_more rows i none low)
+      ∙ lines-append line_of (take i rows) (slice_index_or rows i none ∷ [])
+      ∙ ap (λ b. flat_map line_of (take i rows) ++ b)
+      (append-nil (line_of (slice_index_or rows i none)))
+
+  lines-parts : flat_map line_of rows
+      ≡ (flat_map line_of (take i rows) ++ line_of (slice_index_or rows i none))
+      ++ flat_map line_of (drop (i + 1) rows)
   lines-parts =
-      ap (flat_map keyed_line) (sym (take-append-drop (i + 1) rows))
-      ∙ lines-append (take (i + 1) rows) (drop (i + 1) rows)
-      ∙ ap (λ b. b ++ flat_map keyed_line (drop (i + 1) rows)) lines-more
+      ap (flat_map line_of) (sym (take-append-drop (i + 1) rows))
+      ∙ lines-append line_of (take (i + 1) rows) (drop (i + 1) rows)
+      ∙ ap (λ b. b ++ flat_map line_of (drop (i + 1) rows)) lines-more
 
   -- one more row is written
   pub one_more_row : (old mid new : Known)
-      → Appends old mid (flat_map keyed_line (take i rows))
-      → Appends mid new (keyed_line (slice_index_or rows i no_row))
-      → Appends old new (flat_map keyed_line (take (i + 1) rows))
+      → Appends old mid (flat_map line_of (take i rows))
+      → Appends mid new (line_of (slice_index_or rows i none))
+      → Appends old new (flat_map line_of (take (i + 1) rows))
   one_more_row old mid new so_far then =
       rw lines-more
-      (appends_both old mid new (flat_map keyed_line (take i rows))
-      (keyed_line (slice_index_or rows i no_row)) so_far then)
+      (appends_both old mid new (flat_map line_of (take i rows))
+      (line_of (slice_index_or rows i none)) so_far then)
 
   -- only a prefix of it is written
   pub row_breaks : (old mid new : Known)
-      → Appends old mid (flat_map keyed_line (take i rows))
-      → AppendsPrefix mid new (keyed_line (slice_index_or rows i no_row))
-      → AppendsPrefix old new (flat_map keyed_line rows)
+      → Appends old mid (flat_map line_of (take i rows))
+      → AppendsPrefix mid new (line_of (slice_index_or rows i none))
+      → AppendsPrefix old new (flat_map line_of rows)
   row_breaks old mid new so_far then =
       rw lines-parts
-      (prefix_of_more (flat_map keyed_line (drop (i + 1) rows))
-      (prefix_after_all (flat_map keyed_line (take i rows)) so_far then))
+      (prefix_of_more (flat_map line_of (drop (i + 1) rows))
+      (prefix_after_all (flat_map line_of (take i rows)) so_far then))

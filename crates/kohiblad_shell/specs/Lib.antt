@@ -14,6 +14,7 @@ pub mod KeyOrder
 pub mod SortPaths
 pub mod KeyProofs
 pub mod Sorts
+pub mod KeptWrites
 pub mod Merges
 pub mod SortedRuns
 pub mod Rows

@@ -43,6 +43,12 @@ pub fn value_in<'a>(arguments: &ArgMatches<'a>) -> &'a str
     }
 }
 
+/// How many rows are wanted, by the operand. `None` if that is no whole number, or one of more than
+/// 64 bits.
+pub fn limit_in(arguments: &ArgMatches<'_>) -> Option<usize> {
+    operand_in(arguments).parse::<usize>().ok()
+}
+
 /// Whether the counts of a survey are to be written as JSON.
 pub fn writes_json_in(arguments: &ArgMatches<'_>) -> bool
     ensures { IsFlag arguments.now (codes "json") result }

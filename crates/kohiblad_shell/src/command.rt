@@ -1,7 +1,8 @@
 //! The commands, and which operation each of them is.
 
 ghost use Rattle.std.specs.Prelude.{◌≡◌};
-ghost use Rattle.kohiblad_shell.specs.Commands.{operation_of};
+ghost use Rattle.kohiblad_shell.specs.Commands.{key_operation, lone_operation, operation_of};
+ghost use Rattle.kohiblad_shell.specs.Commands.{path_operation, value_operation};
 
 use crate::operation::{Change, Operation, Style, TextLayout};
 use crate::part_lines::Look;
@@ -37,6 +38,8 @@ pub enum Command {
     Range,
     Grep,
     Sort,
+    Distinct,
+    Top,
     MergeSorted,
     Keys,
     ComparableKeys,
@@ -88,43 +91,72 @@ pub enum Operands<'a> {
     Look(Look),
 }
 
-/// The operation of a command. `fault` writes what `check` reports, `count` counts the rows that
-/// `filter` writes, and both commands that sort keep each row with its key. `None` if the command is
-/// not given such operands.
+/// The operation of a command. Most operands are those of one operation; several commands are given
+/// nothing, a path, a value or paths of keys, and decide which it is. `None` if the command is not
+/// given such operands.
 pub fn operation_of<'a>(command: Command, operands: Operands<'a>) -> Option<Operation<'a>>
     ensures { result ≡ operation_of command operands.entry }
 {
-    match (command, operands) {
-        (Command::Check | Command::Fault, Operands::Nothing) => Some(Operation::Check),
-        (Command::Canonical, Operands::Nothing) => Some(Operation::Canonical),
-        (Command::StripNulls, Operands::Nothing) => Some(Operation::Change(Change::StripNulls)),
-        (Command::Encode, Operands::Nothing) => Some(Operation::Encode),
-        (Command::Decode, Operands::Layout(layout)) => Some(Operation::Decode(layout)),
-        (Command::Show, Operands::Look(look)) => Some(Operation::Show(look)),
-        (Command::Get, Operands::Path(path, style)) => Some(Operation::Get(path, style)),
-        (Command::Select, Operands::Path(path, style)) => Some(Operation::Select(path, style)),
-        (Command::Filter | Command::Count, Operands::Path(path, _)) => {
-            Some(Operation::Filter(path))
-        }
-        (Command::Contains, Operands::Value(value)) => Some(Operation::Contains(value)),
-        (Command::Merge, Operands::Value(value)) => Some(Operation::Change(Change::Merge(value))),
-        (Command::Pick, Operands::Names(names)) => Some(Operation::Change(Change::Pick(names))),
-        (Command::Set, Operands::Steps(path, value)) => {
-            Some(Operation::Change(Change::Set(path, value)))
-        }
-        (Command::Remove, Operands::Removed(paths)) => Some(Operation::Remove(paths)),
-        (Command::Extract, Operands::Table(table)) => Some(Operation::Extract(table)),
-        (Command::Build | Command::Keys, Operands::Template(template)) => {
-            Some(Operation::Build(template))
-        }
-        (Command::Range, Operands::Range(range)) => Some(Operation::Range(range)),
-        (Command::Grep, Operands::Search(search)) => Some(Operation::Grep(search)),
-        (Command::Keys | Command::ComparableKeys, Operands::Keys(paths)) => {
-            Some(Operation::Key(paths))
-        }
-        (Command::Sort | Command::MergeSorted, Operands::Keys(paths)) => {
-            Some(Operation::Sort(paths))
-        }
+    match operands {
+        Operands::Nothing => lone_operation(command),
+        Operands::Path(path, style) => path_operation(command, path, style),
+        Operands::Value(value) => value_operation(command, value),
+        Operands::Keys(paths) => Some(key_operation(command, paths)),
+        Operands::Layout(layout) => Some(Operation::Decode(layout)),
+        Operands::Look(look) => Some(Operation::Show(look)),
+        Operands::Names(names) => Some(Operation::Change(Change::Pick(names))),
+        Operands::Steps(path, value) => Some(Operation::Change(Change::Set(path, value))),
+        Operands::Removed(paths) => Some(Operation::Remove(paths)),
+        Operands::Table(table) => Some(Operation::Extract(table)),
+        Operands::Template(template) => Some(Operation::Build(template)),
+        Operands::Range(range) => Some(Operation::Range(range)),
+        Operands::Search(search) => Some(Operation::Grep(search)),
+    }
+}
+
+// The operation of a command that is given nothing. `fault` writes what `check` reports.
+fn lone_operation<'a>(command: Command) -> Option<Operation<'a>>
+    ensures { result ≡ lone_operation command }
+{
+    match command {
+        Command::Check | Command::Fault => Some(Operation::Check),
+        Command::Canonical => Some(Operation::Canonical),
+        Command::StripNulls => Some(Operation::Change(Change::StripNulls)),
+        Command::Encode => Some(Operation::Encode),
         _ => None,
+    }
+}
+
+// The operation of a command that is given a path. `count` counts the rows that `filter` writes.
+fn path_operation<'a>(command: Command, path: &'a Path, style: Style) -> Option<Operation<'a>>
+    ensures { result ≡ path_operation command path.entry style }
+{
+    match command {
+        Command::Get => Some(Operation::Get(path, style)),
+        Command::Select => Some(Operation::Select(path, style)),
+        Command::Filter | Command::Count => Some(Operation::Filter(path)),
+        _ => None,
+    }
+}
+
+// The operation of a command that is given a value.
+fn value_operation<'a>(command: Command, value: Document<'a>) -> Option<Operation<'a>>
+    ensures { result ≡ value_operation command value.entry }
+{
+    match command {
+        Command::Contains => Some(Operation::Contains(value)),
+        Command::Merge => Some(Operation::Change(Change::Merge(value))),
+        _ => None,
+    }
+}
+
+// The operation of a command that is given paths of keys: but for those that write keys all keep
+// each row with its key.
+fn key_operation<'a>(command: Command, paths: &'a [SortPath]) -> Operation<'a>
+    ensures { result ≡ key_operation command paths.entry }
+{
+    match command {
+        Command::Keys | Command::ComparableKeys => Operation::Key(paths),
+        _ => Operation::Sort(paths),
     }
 }

@@ -14,6 +14,10 @@ const BY_HELP: &str = "A path to the value that decides, as '$.size', or '$.size
 const GROUP_HELP: &str = "A path to the value that rows of one group have in common, as \
     '$.town'; several may be given, and with none all rows are one group";
 
+// What is said of the paths to values that rows may have in common.
+const DISTINCT_HELP: &str = "A path to the value that tells rows apart, as '$.who'; with several, \
+    rows are told apart by all of them, and with none by the whole row";
+
 const AFTER_HELP: &str = "The status is 0 if some row gave a result, 1 if none did or a row is \
     wrong, 2 for wrong use, and 3 if a device or memory failed.";
 
@@ -95,6 +99,9 @@ fn option_of<'a>(alloc: Global, option: CommandOption) -> Arg<'a> {
         CommandOption::ByOne => deciding_path(alloc).help("A path to the value that decides"),
         CommandOption::GroupBy => deciding_path(alloc)
             .help(GROUP_HELP)
+            .action(ArgAction::Append),
+        CommandOption::DistinctBy => deciding_path(alloc)
+            .help(DISTINCT_HELP)
             .action(ArgAction::Append),
         CommandOption::Texts => deciding_path(alloc).help(
             "A path to the texts; all texts of the row if none",

@@ -36,6 +36,7 @@ pub enum CommandOption {
     By,
     ByOne,
     GroupBy,
+    DistinctBy,
     Texts,
     IgnoreCase,
     FixedStrings,
@@ -69,6 +70,10 @@ pub enum End {
     Groups,
     /// Rows are written in the order of their keys.
     Sorted,
+    /// The first row of each key is written.
+    First,
+    /// The first so many rows are written in the order of their keys.
+    Top,
     /// The rows of sorted files are written in the order of their keys.
     Merged,
 }
@@ -90,13 +95,13 @@ impl End {
     pub fn is_last(self) -> bool {
         matches!(
             self,
-            End::Faults | End::Count | End::Survey | End::Groups | End::Sorted
+            End::Faults | End::Count | End::Survey | End::Groups | End::Sorted | End::Top
         )
     }
 }
 
 /// The commands, in the order of the help.
-pub static COMMANDS: [CommandRow; 26] = [
+pub static COMMANDS: [CommandRow; 28] = [
     CommandRow {
         command: Command::Check,
         name: "check",
@@ -334,6 +339,32 @@ pub static COMMANDS: [CommandRow; 26] = [
             CommandOption::OnError,
         ],
         end: End::Sorted,
+    },
+    CommandRow {
+        command: Command::Distinct,
+        name: "distinct",
+        about: "Write the first of the rows that are equal, or whose values are, in their order",
+        operands: OperandKind::Values,
+        options: &[
+            CommandOption::Documents,
+            CommandOption::DistinctBy,
+            CommandOption::Quiet,
+            CommandOption::OnError,
+        ],
+        end: End::First,
+    },
+    CommandRow {
+        command: Command::Top,
+        name: "top",
+        about: "Write the first rows in the order of their values, as many as are asked for",
+        operands: OperandKind::NumberAndKeys,
+        options: &[
+            CommandOption::Documents,
+            CommandOption::By,
+            CommandOption::Quiet,
+            CommandOption::OnError,
+        ],
+        end: End::Top,
     },
     CommandRow {
         command: Command::MergeSorted,

@@ -9,12 +9,12 @@ use crate::group_words::{aggregate_words, member_name};
 use crate::groups::Groups;
 use crate::halt::Halt;
 use crate::messages::{ended, failure, misuse, reports, tell};
-use crate::operands::path_in;
+use crate::operands::{path_in, rising_paths_in};
 use crate::outcome::Unanswered;
 use crate::output::Output;
 use crate::progress::Progress;
 use crate::run::Summary;
-use crate::sort_path::{Direction, SortPath};
+use crate::sort_path::SortPath;
 use crate::status::Aim;
 use crate::write::write_bytes;
 use clap::ArgMatches;
@@ -44,7 +44,7 @@ fn write_said(rt: &HostRuntime, words: &[&str], arguments: &ArgMatches<'_>) -> u
         Err(status) => return status,
     };
     let by = arguments.get_strs("by").unwrap_or(&[]);
-    let paths = match paths_in(rt, by) {
+    let paths = match rising_paths_in(rt, by) {
         Ok(paths) => paths,
         Err(status) => return status,
     };
@@ -126,22 +126,6 @@ fn sum_of(rt: &HostRuntime, text: &str) -> Result<NamedAggregate, u8> {
         }),
         Err(_) => Err(failure(rt, Halt::Memory)),
     }
-}
-
-// The paths of these texts, or the status after the fault of one is reported.
-fn paths_in(rt: &HostRuntime, texts: &[&str]) -> Result<Vec<SortPath>, u8> {
-    let mut paths = Vec::new(rt.alloc());
-    for text in texts {
-        let path = path_in(rt, *text)?;
-        let rising = SortPath {
-            path,
-            direction: Direction::Rising,
-        };
-        if paths.push(rising).is_err() {
-            return Err(failure(rt, Halt::Memory));
-        }
-    }
-    Ok(paths)
 }
 
 // Paths with the names of their members.

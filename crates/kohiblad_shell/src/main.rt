@@ -7,6 +7,8 @@ mod command;
 mod command_line;
 mod commands;
 mod dated;
+mod distinct;
+mod distinct_command;
 mod escape;
 mod expected;
 mod extract;
@@ -60,6 +62,8 @@ mod template_text;
 mod temporary;
 mod text_search;
 mod titles;
+mod top;
+mod top_command;
 mod total;
 mod value;
 mod watch;
@@ -74,6 +78,7 @@ use columns::{column_words, columns_in, split_name};
 use command::{Command, Operands, operation_of};
 use command_line::program;
 use commands::{CommandRow, End, row_named};
+use distinct_command::write_first;
 use files::{expect_input_once, files_of, goes_to_terminal, progress_of};
 use group_command::write_groups;
 use halt::{Halt, halt_of_write};
@@ -84,7 +89,7 @@ use messages::{failure, misuse, notice_missed, refused_line};
 use operand_kind::OperandKind;
 use operands::{
     deciding_path_in, document_of, path_in, pattern_in, push_path, push_sort_path, push_steps,
-    steps_in, template_in,
+    rising_paths_in, steps_in, template_in,
 };
 use operation::Job;
 use range::ValueRange;
@@ -99,6 +104,7 @@ use std::process::ExitCode;
 use survey_command::write_survey;
 use table::Table;
 use text_search::TextSearch;
+use top_command::write_top;
 use watch::Watch;
 
 // All values of a row.
@@ -156,7 +162,8 @@ fn run_command(rt: &HostRuntime, row: &CommandRow, arguments: &ArgMatches<'_>) -
         OperandKind::Aggregates => write_groups(rt, arguments),
         OperandKind::Bounds => with_bounds(rt, row, arguments),
         OperandKind::Pattern => with_pattern(rt, row, arguments),
-        OperandKind::Keys => with_paths(rt, row, arguments),
+        OperandKind::Keys | OperandKind::NumberAndKeys => with_paths(rt, row, arguments),
+        OperandKind::Values => with_values(rt, row, arguments),
         OperandKind::Layout => {
             run_operands(rt, row, Operands::Layout(layout_in(arguments)), arguments)
         }
@@ -224,6 +231,8 @@ fn run_job(rt: &HostRuntime, end: End, job: Job<'_, '_>, arguments: &ArgMatches<
         End::Reports => write_faults(rt, job, arguments),
         End::Count => count(rt, job, arguments),
         End::Sorted => write_in_order(rt, job, arguments),
+        End::First => write_first(rt, job, arguments),
+        End::Top => write_top(rt, job, arguments),
         End::Merged => write_merged(rt, job, arguments),
         End::Rows | End::Survey | End::Groups => write_rows(rt, job, arguments),
     }
@@ -261,10 +270,10 @@ fn watched_texts<'a>(
                 texts.push(split_name(*word).1)?;
             }
         }
-        Command::Range | Command::Grep => {
+        Command::Range | Command::Grep | Command::Distinct => {
             texts.extend_from_slice(arguments.get_strs("by").unwrap_or(&[]))?;
         }
-        Command::Sort => {
+        Command::Sort | Command::Top => {
             for text in arguments.get_strs("by").unwrap_or(&[]) {
                 texts.push(split_direction(*text).0)?;
             }
@@ -321,6 +330,14 @@ fn with_paths(rt: &HostRuntime, row: &CommandRow, arguments: &ArgMatches<'_>) ->
         }
     }
     run_operands(rt, row, Operands::Keys(&paths), arguments)
+}
+
+// Runs a command of the values at several paths, which have no directions.
+fn with_values(rt: &HostRuntime, row: &CommandRow, arguments: &ArgMatches<'_>) -> u8 {
+    match rising_paths_in(rt, arguments.get_strs("by").unwrap_or(&[])) {
+        Ok(paths) => run_operands(rt, row, Operands::Keys(&paths), arguments),
+        Err(status) => status,
+    }
 }
 
 // Runs a command whose operand is a path.

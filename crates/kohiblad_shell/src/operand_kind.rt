@@ -32,6 +32,10 @@ pub enum OperandKind {
     Pattern,
     /// Paths to the values that decide.
     Keys,
+    /// Paths to values that rows may have in common.
+    Values,
+    /// How many rows are wanted, and paths to the values that decide.
+    NumberAndKeys,
     /// How texts are laid out.
     Layout,
     /// How parts are shown.
@@ -53,9 +57,11 @@ impl OperandKind {
             OperandKind::Aggregates => &[AGGREGATE],
             OperandKind::Bounds => &[FROM, TO],
             OperandKind::Pattern => &[PATTERN],
+            OperandKind::NumberAndKeys => &[NUMBER],
             OperandKind::Nothing
             | OperandKind::MemberNames
             | OperandKind::Keys
+            | OperandKind::Values
             | OperandKind::Layout
             | OperandKind::Look => &[],
         }
@@ -140,6 +146,13 @@ const PATTERN: Operand = Operand {
     id: "operand",
     name: "PATTERN",
     help: "A regular expression: characters, ., [a-z], [^a-z], (..|..), *, +, ?, {2,3}, ^ and $",
+    is_value: true,
+};
+
+const NUMBER: Operand = Operand {
+    id: "operand",
+    name: "NUMBER",
+    help: "How many rows are written, such as 10",
     is_value: true,
 };
 

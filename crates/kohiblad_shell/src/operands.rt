@@ -11,7 +11,7 @@ use crate::messages::{failure, misuse, refused_path, refused_template};
 use crate::operand_kind::ValueKind;
 use crate::outcome::{LineFault, Unanswered, reason_text};
 use crate::row::parse_line;
-use crate::sort_path::{SortPath, split_direction};
+use crate::sort_path::{Direction, SortPath, split_direction};
 use crate::template::Template;
 use crate::template_text::template_of_text;
 use clap::ArgMatches;
@@ -160,6 +160,22 @@ pub fn push_sort_path(rt: &HostRuntime, paths: &mut Vec<SortPath>, text: &str) -
         Ok(()) => Ok(()),
         Err(_) => Err(failure(rt, Halt::Memory)),
     }
+}
+
+/// The paths of these texts, all rising, or the status after the fault of one is reported.
+pub fn rising_paths_in(rt: &HostRuntime, texts: &[&str]) -> Result<Vec<SortPath>, u8> {
+    let mut paths = Vec::new(rt.alloc());
+    for text in texts {
+        let path = path_in(rt, *text)?;
+        let rising = SortPath {
+            path,
+            direction: Direction::Rising,
+        };
+        if paths.push(rising).is_err() {
+            return Err(failure(rt, Halt::Memory));
+        }
+    }
+    Ok(paths)
 }
 
 /// Adds the steps of a path, or returns the status after its fault is reported.

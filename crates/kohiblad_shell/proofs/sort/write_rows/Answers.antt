@@ -2,7 +2,9 @@ use Rattle.std.proofs.Common.{◌≡◌, ◌<◌, length, take, arith}
 use Rattle.std.proofs.lemmas.Grind.{common_steps}
 use Rattle.answer_lines.proofs.Output.{appends_nothing, prefix_of_all}
 use Rattle.answer_lines.proofs.Running.{on_err}
-use Rattle.kohiblad_shell.proofs.SortLaws.{all_written, on_ok, one_more_row, row_breaks}
+use Rattle.kohiblad_shell.proofs.SortLaws.{all_written, no_row, on_ok, one_more_row}
+use Rattle.kohiblad_shell.proofs.SortLaws.{row_breaks}
+use Rattle.kohiblad_shell.specs.Sorts.{keyed_line}
 use Rattle.kohiblad_shell.proofs.sort.write_rows.Goals as goal
 
 pub loop-row-init : goal.loop-row-init
@@ -12,14 +14,16 @@ pub returns-in_err-write_bytes-clause-err : goal.returns-in_err-write_bytes-clau
 returns-in_err-write_bytes-clause-err g c =
     let low : c.loop-row.row-index < length c.args.rows.now = omega arith in
     on_err _ _
-    (row_breaks c.args.rows.now c.loop-row.row-index low (g.W.Write.contents c.args.writer.now)
+    (row_breaks keyed_line no_row c.args.rows.now c.loop-row.row-index low
+    (g.W.Write.contents c.args.writer.now)
     (g.W.Write.contents c.loop-row.writer) (g.W.Write.contents c.write_bytes.new.writer)
     c.loop-row.invariant c.in_err-write_bytes.ensures.err)
 
 pub loop-row-preserved : goal.loop-row-preserved
 loop-row-preserved g c =
     let low : c.loop-row.row-index < length c.args.rows.now = omega arith in
-    one_more_row c.args.rows.now c.loop-row.row-index low (g.W.Write.contents c.args.writer.now)
+    one_more_row keyed_line no_row c.args.rows.now c.loop-row.row-index low
+    (g.W.Write.contents c.args.writer.now)
     (g.W.Write.contents c.loop-row.writer) (g.W.Write.contents c.write_bytes.new.writer)
     c.loop-row.invariant c.in_ok-write_bytes.ensures.ok
 
