@@ -30,9 +30,13 @@ use Rattle.jsonb_functions.specs.MadeWithMemory.{MadeWithMemory}
 use Rattle.jsonb_functions.proofs.EditLaws as edits
 use Rattle.jsonb_functions.proofs.JoinLaws.{ascends_from}
 use Rattle.jsonb_functions.proofs.KeyOrder.{ascend_later}
+use Rattle.jsonb_rows.specs.declared.reach.Reach.{Reach}
+use Rattle.jsonb_rows.specs.Each as each
+use Rattle.jsonb_rows.specs.Each.{edited_each}
 use Rattle.kohiblad_shell.specs.declared.input.Form.{Form}
 use Rattle.kohiblad_shell.specs.Operations.{IsResultOf}
-use Rattle.kohiblad_shell.specs.Removals.{IsRemoved, without}
+use Rattle.kohiblad_shell.specs.declared.target.Target.{Target}
+use Rattle.kohiblad_shell.specs.Removals.{IsRemoved, without, without_each, without_one}
 
 -- Nothing is inserted, and what replaces a tree is a tree.
 abbrev Keeps : Here → Type 0
@@ -138,11 +142,11 @@ left_tree (s ∷ path) t is = edited_tree (s ∷ path) t is
 
 -- the canonical document of what is left is one
 pub left_document : (path : List Step) (bytes left : List ℕ) → AreBytes bytes → IsDocument bytes
-    → Fits (without path bytes) → left ≡ canon (without path bytes) → IsDocument left
+    → Fits (without_one path bytes) → left ≡ canon (without_one path bytes) → IsDocument left
 left_document path bytes left are (t, means) fits is =
     let tree_is : IsTree (tree_in bytes) =
     subst IsTree (sym (tree_in-is bytes t means)) (IsTree-Doc bytes t are means) in
-    let u = without path bytes in
+    let u = without_one path bytes in
     subst IsDocument (sym is)
     (norm u, Doc-canon u (left_tree path (tree_in bytes) tree_is) fits)
 
@@ -151,31 +155,31 @@ module _ (path : List Step) (seen bytes : List ℕ) (r : Result OwnedJsonb Error
     (same : seen ≡ bytes) where
   pub left_bytes :
       IfOk r (λ left. owned_bytes left ≡ canon (edited_whole path remove (tree_in seen)))
-      → IfOk r (λ left. owned_bytes left ≡ canon (without path bytes))
+      → IfOk r (λ left. owned_bytes left ≡ canon (without_one path bytes))
   left_bytes is =
       subst
       (λ b. IfOk r (λ left. owned_bytes left ≡ canon (edited_whole path remove (tree_in b))))
       same is
 
   pub left_limits : MadeIfFit (Fits (edited_whole path remove (tree_in seen))) r
-      → MadeWithMemory (Fits (without path bytes)) r
+      → MadeWithMemory (Fits (without_one path bytes)) r
   left_limits made =
-      let here : MadeIfFit (Fits (without path bytes)) r =
+      let here : MadeIfFit (Fits (without_one path bytes)) r =
       subst (λ b. MadeIfFit (Fits (edited_whole path remove (tree_in b))) r) same made in
       record { fits = here.fits; past = λ is. here.past.0 is; only = here.only }
 
 pub left_is_document : (path : List Step) (bytes : List ℕ) (r : Result OwnedJsonb Error)
     → AreBytes bytes → IsDocument bytes
-    → IfOk r (λ left. owned_bytes left ≡ canon (without path bytes))
-    → MadeWithMemory (Fits (without path bytes)) r → IfOk r (λ left. IsDocument (owned_bytes left))
+    → IfOk r (λ left. owned_bytes left ≡ canon (without_one path bytes))
+    → MadeWithMemory (Fits (without_one path bytes)) r → IfOk r (λ left. IsDocument (owned_bytes left))
 left_is_document path bytes (Ok left) are means is made =
     left_document path bytes (owned_bytes left) are means made.fits is
 left_is_document path bytes (Err e) are means is made = tt
 
 -- one more path before the others
-pub removed_more : (form : Form) (path : Vec Step Global) (paths : List (Vec Step Global))
-    (bytes left : List ℕ) (r : Result (Vec ℕ Global) Error) → Fits (without path.items bytes)
-    → left ≡ canon (without path.items bytes) → IsResultOf (IsRemoved form paths left) r
+pub removed_more : (form : Form) (path : Target) (paths : List Target)
+    (bytes left : List ℕ) (r : Result (Vec ℕ Global) Error) → Fits (without path bytes)
+    → left ≡ canon (without path bytes) → IsResultOf (IsRemoved form paths left) r
     → IsResultOf (IsRemoved form (path ∷ paths) bytes) r
 removed_more form path paths bytes left (Ok lines) fits is done =
     inl (fits, subst (λ b. IsRemoved form paths b (Ok lines.items)) is done)
@@ -183,3 +187,19 @@ removed_more form path paths bytes left (Err InvalidJsonb) fits is done =
     inl (fits, subst (λ b. IsResultOf (IsRemoved form paths b) (Err InvalidJsonb)) is done)
 removed_more form path paths bytes left (Err OutOfMemory) fits is done = tt
 removed_more form path paths bytes left (Err e) fits is done = done
+
+-- what a change at each place of a document that has these bytes gives
+module _ (path : List Reach) (seen bytes : List ℕ) (r : Result OwnedJsonb Error)
+    (same : seen ≡ bytes) where
+  pub each_bytes :
+      IfOk r (λ left. owned_bytes left ≡ canon (edited_each path each.remove (tree_in seen)))
+      → IfOk r (λ left. owned_bytes left ≡ canon (without_each path bytes))
+  each_bytes is =
+      subst
+      (λ b. IfOk r (λ left. owned_bytes left ≡ canon (edited_each path each.remove (tree_in b))))
+      same is
+
+  pub each_limits : MadeWithMemory (Fits (edited_each path each.remove (tree_in seen))) r
+      → MadeWithMemory (Fits (without_each path bytes)) r
+  each_limits made =
+      subst (λ b. MadeWithMemory (Fits (edited_each path each.remove (tree_in b))) r) same made

@@ -14,6 +14,7 @@ use Rattle.jsonb_functions.specs.Contains.{contains_whole}
 use Rattle.jsonb_functions.specs.Edited.{edited_whole, create}
 use Rattle.jsonb_functions.specs.Patched.{patched}
 use Rattle.jsonb_functions.specs.Picked.{picked}
+use Rattle.jsonb_rows.specs.Each.{edited_each, operation_of}
 use Rattle.jsonb_path.specs.declared.path.PathError.{PathError}
 use Rattle.jsonb_path.specs.Meaning as meaning
 use Rattle.kohiblad_shell.specs.Asked.{asked, first_of, passes_path}
@@ -32,7 +33,7 @@ use Rattle.kohiblad_shell.specs.declared.operation.Operation.TheVariants.{Grep}
 use Rattle.kohiblad_shell.specs.declared.operation.Operation.TheVariants.{Build, Extract, Show}
 use Rattle.kohiblad_shell.specs.declared.operation.Operation.TheVariants as operations
 use Rattle.kohiblad_shell.specs.declared.operation.Change.{Change}
-use Rattle.kohiblad_shell.specs.declared.operation.Change.TheVariants.{Set, Merge, Pick}
+use Rattle.kohiblad_shell.specs.declared.operation.Change.TheVariants.{Set, Each, Merge, Pick}
 use Rattle.kohiblad_shell.specs.declared.operation.Change.TheVariants.{StripNulls}
 use Rattle.kohiblad_shell.specs.declared.operation.TextLayout.{TextLayout}
 use Rattle.kohiblad_shell.specs.declared.operation.TextLayout.TheVariants.{Compact, Pretty}
@@ -112,6 +113,7 @@ row_lines (Build template) form row bytes = []
 -- The changed value.
 abbrev pub changed : Change → Tree → Tree
 changed (Set path value) t = edited_whole path.now (create (document_tree value)) t
+changed (Each path edit) t = edited_each path.now (operation_of edit) t
 changed (Merge patch) t = patched t (document_tree patch)
 changed (Pick names) t = picked names.now Named t
 changed StripNulls t = stripped t

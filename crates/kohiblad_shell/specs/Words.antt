@@ -72,6 +72,7 @@ pub use Rattle.kohiblad_shell.specs.IsoTexts.{iso_zoned, offset_of_parts, wall_m
 pub use Rattle.kohiblad_shell.specs.IsoTexts.{wall_of_parts, wall_said}
 pub use Rattle.kohiblad_shell.specs.Ranges.{is_in_range, is_tree_in}
 pub use Rattle.kohiblad_shell.specs.Removals.{IsRemoved, begins_path, path_count, without}
+pub use Rattle.kohiblad_shell.specs.Removals.{without_each, without_one}
 pub use Rattle.kohiblad_shell.specs.Sizes.{EndsInLetter, HasUnit, IsCount, IsDecimal}
 pub use Rattle.kohiblad_shell.specs.Sizes.{IsLetter, IsMemory, IsScaled, IsSize, digits_value}
 pub use Rattle.kohiblad_shell.specs.Runs.{BeginsRun, IsRun}

@@ -9,11 +9,13 @@ use crate::part_lines::Look;
 use crate::range::ValueRange;
 use crate::sort_path::SortPath;
 use crate::table::Table;
+use crate::target::Target;
 use crate::template::Template;
 use crate::text_search::TextSearch;
 use jsonb::Document;
 use jsonb_functions::Step;
 use jsonb_path::Path;
+use jsonb_rows::{EachEdit, Reach};
 
 /// A command.
 #[derive(Clone, Copy)]
@@ -31,6 +33,7 @@ pub enum Command {
     Contains,
     Set,
     Remove,
+    Rename,
     Merge,
     Pick,
     Build,
@@ -77,8 +80,10 @@ pub enum Operands<'a> {
     Keys(&'a [SortPath]),
     /// A path of keys and indexes alone, and a value for its end.
     Steps(&'a [Step<'a>], Document<'a>),
-    /// Paths of keys and indexes alone.
-    Removed(&'a [Vec<Step<'a>>]),
+    /// Paths of keys, indexes and wildcards alone.
+    Removed(&'a [Target<'a>]),
+    /// A path of keys, indexes and wildcards alone, and what is done at each place.
+    Each(&'a [Reach<'a>], EachEdit<'a>),
     /// A range of values.
     Range(ValueRange<'a>),
     /// A pattern that is looked for.
@@ -107,6 +112,7 @@ pub fn operation_of<'a>(command: Command, operands: Operands<'a>) -> Option<Oper
         Operands::Names(names) => Some(Operation::Change(Change::Pick(names))),
         Operands::Steps(path, value) => Some(Operation::Change(Change::Set(path, value))),
         Operands::Removed(paths) => Some(Operation::Remove(paths)),
+        Operands::Each(path, edit) => Some(Operation::Change(Change::Each(path, edit))),
         Operands::Table(table) => Some(Operation::Extract(table)),
         Operands::Template(template) => Some(Operation::Build(template)),
         Operands::Range(range) => Some(Operation::Range(range)),

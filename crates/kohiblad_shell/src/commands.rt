@@ -101,7 +101,7 @@ impl End {
 }
 
 /// The commands, in the order of the help.
-pub static COMMANDS: [CommandRow; 28] = [
+pub static COMMANDS: [CommandRow; 29] = [
     CommandRow {
         command: Command::Check,
         name: "check",
@@ -231,7 +231,7 @@ pub static COMMANDS: [CommandRow; 28] = [
     CommandRow {
         command: Command::Set,
         name: "set",
-        about: "Put a value at the end of a path, of each row",
+        about: "Put a value at each place of a path, of each row",
         operands: OperandKind::Steps,
         options: &[
             CommandOption::Documents,
@@ -246,6 +246,18 @@ pub static COMMANDS: [CommandRow; 28] = [
         name: "remove",
         about: "Remove what is at the ends of paths, of each row",
         operands: OperandKind::Removed,
+        options: &[
+            CommandOption::Documents,
+            CommandOption::Quiet,
+            CommandOption::OnError,
+        ],
+        end: End::Rows,
+    },
+    CommandRow {
+        command: Command::Rename,
+        name: "rename",
+        about: "Give the members at each place of a path another name, of each row",
+        operands: OperandKind::Renamed,
         options: &[
             CommandOption::Documents,
             CommandOption::Quiet,

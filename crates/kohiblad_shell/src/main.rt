@@ -57,6 +57,7 @@ mod survey_command;
 mod survey_json;
 mod table;
 mod table_text;
+mod target;
 mod template;
 mod template_text;
 mod temporary;
@@ -84,12 +85,13 @@ use group_command::write_groups;
 use halt::{Halt, halt_of_write};
 use input::Form;
 use jsonb::Document;
+use jsonb_rows::EachEdit;
 use merge_command::write_merged;
 use messages::{failure, misuse, notice_missed, refused_line};
 use operand_kind::OperandKind;
 use operands::{
-    deciding_path_in, document_of, path_in, pattern_in, push_path, push_sort_path, push_steps,
-    rising_paths_in, steps_in, template_in,
+    deciding_path_in, document_of, path_in, pattern_in, push_path, push_sort_path, push_target,
+    renamed_in, rising_paths_in, target_in, template_in,
 };
 use operation::Job;
 use range::ValueRange;
@@ -103,6 +105,7 @@ use std::env;
 use std::process::ExitCode;
 use survey_command::write_survey;
 use table::Table;
+use target::Target;
 use text_search::TextSearch;
 use top_command::write_top;
 use watch::Watch;
@@ -158,6 +161,7 @@ fn run_command(rt: &HostRuntime, row: &CommandRow, arguments: &ArgMatches<'_>) -
         OperandKind::MemberNames => with_member_names(rt, row, arguments),
         OperandKind::Steps => with_steps(rt, row, arguments),
         OperandKind::Removed => with_removals(rt, row, arguments),
+        OperandKind::Renamed => with_new_name(rt, row, arguments),
         OperandKind::Columns => with_columns(rt, row, arguments),
         OperandKind::Aggregates => write_groups(rt, arguments),
         OperandKind::Bounds => with_bounds(rt, row, arguments),
@@ -250,9 +254,12 @@ fn watched_texts<'a>(
         return Ok(texts);
     }
     match command {
-        Command::Get | Command::Select | Command::Filter | Command::Count | Command::Set => {
-            texts.push(operand_in(arguments))?;
-        }
+        Command::Get
+        | Command::Select
+        | Command::Filter
+        | Command::Count
+        | Command::Set
+        | Command::Rename => texts.push(operand_in(arguments))?,
         Command::Remove => {
             texts.push(operand_in(arguments))?;
             let words = words_in(arguments).unwrap_or(&[]);
@@ -352,20 +359,39 @@ fn with_path(rt: &HostRuntime, row: &CommandRow, arguments: &ArgMatches<'_>) -> 
     }
 }
 
-// Runs the command whose operands are a path of keys and indexes alone, and a value.
+// Runs the command whose operands are a path without filters, and a value.
 fn with_steps(rt: &HostRuntime, row: &CommandRow, arguments: &ArgMatches<'_>) -> u8 {
     let path = match path_in(rt, operand_in(arguments)) {
         Ok(path) => path,
         Err(status) => return status,
     };
-    let steps = match steps_in(rt, &path) {
-        Ok(steps) => steps,
+    let target = match target_in(rt, &path) {
+        Ok(target) => target,
         Err(status) => return status,
     };
     match document_of(rt, value_in(arguments), value_kind_in(arguments)) {
         Ok(owned) => {
             let value = Document::new_unchecked(owned.as_bytes());
-            run_operands(rt, row, Operands::Steps(&steps, value), arguments)
+            let operands = match &target {
+                Target::One(steps) => Operands::Steps(steps, value),
+                Target::Each(steps) => Operands::Each(steps, EachEdit::Set(value)),
+            };
+            run_operands(rt, row, operands, arguments)
+        }
+        Err(status) => status,
+    }
+}
+
+// Runs the command whose operands are a path that ends in a key, and a name.
+fn with_new_name(rt: &HostRuntime, row: &CommandRow, arguments: &ArgMatches<'_>) -> u8 {
+    let path = match path_in(rt, operand_in(arguments)) {
+        Ok(path) => path,
+        Err(status) => return status,
+    };
+    match renamed_in(rt, &path) {
+        Ok((steps, from)) => {
+            let edit = EachEdit::Rename(from, value_in(arguments));
+            run_operands(rt, row, Operands::Each(&steps, edit), arguments)
         }
         Err(status) => status,
     }
@@ -385,7 +411,7 @@ fn with_removals(rt: &HostRuntime, row: &CommandRow, arguments: &ArgMatches<'_>)
     }
     let mut removed = Vec::new(rt.alloc());
     for path in &paths {
-        if let Err(status) = push_steps(rt, &mut removed, path) {
+        if let Err(status) = push_target(rt, &mut removed, path) {
             return status;
         }
     }

@@ -17,10 +17,12 @@ pub enum OperandKind {
     Template,
     /// Nothing, or the paths of comparable keys as an older version took them.
     MemberNames,
-    /// A path without wildcards, and a value.
+    /// A path without filters, and a value.
     Steps,
-    /// Paths without wildcards.
+    /// Paths without filters.
     Removed,
+    /// A path without filters that ends in a key, and a name.
+    Renamed,
     /// Paths, each with a type, and with a name or none.
     Columns,
     /// What is reckoned of each group of rows, and the paths to values that rows of one have in
@@ -53,6 +55,7 @@ impl OperandKind {
             OperandKind::Template => &[TEMPLATE],
             OperandKind::Steps => &[STEPS, NEW_VALUE],
             OperandKind::Removed => &[REMOVED],
+            OperandKind::Renamed => &[RENAMED, NEW_NAME],
             OperandKind::Columns => &[COLUMN, TYPE],
             OperandKind::Aggregates => &[AGGREGATE],
             OperandKind::Bounds => &[FROM, TO],
@@ -159,14 +162,29 @@ const NUMBER: Operand = Operand {
 const STEPS: Operand = Operand {
     id: "operand",
     name: "PATH",
-    help: "A path without wildcards, such as '$.lines[0].price'",
+    help: "A path of keys, indexes and wildcards, such as '$.lines[*].price'",
     is_value: false,
 };
 
 const REMOVED: Operand = Operand {
     id: "operand",
     name: "PATH",
-    help: "A path without wildcards; words after it that begin with '$' are paths too",
+    help: "A path of keys, indexes and wildcards; words after it that begin with '$' are paths \
+        too",
+    is_value: false,
+};
+
+const RENAMED: Operand = Operand {
+    id: "operand",
+    name: "PATH",
+    help: "A path of keys, indexes and wildcards that ends in a key, such as '$.lines[*].price'",
+    is_value: false,
+};
+
+const NEW_NAME: Operand = Operand {
+    id: "value",
+    name: "NAME",
+    help: "The new name, in place of a member that has it already",
     is_value: false,
 };
 

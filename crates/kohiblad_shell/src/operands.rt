@@ -12,14 +12,15 @@ use crate::operand_kind::ValueKind;
 use crate::outcome::{LineFault, Unanswered, reason_text};
 use crate::row::parse_line;
 use crate::sort_path::{Direction, SortPath, split_direction};
+use crate::target::{Target, reaches_of, target_of};
 use crate::template::Template;
 use crate::template_text::template_of_text;
 use clap::ArgMatches;
 use jsonb::{Exponents, Node, OwnedJsonb};
-use jsonb_functions::Step;
+use jsonb_path::Path;
 use jsonb_path::token::{PathFault, ReadError};
-use jsonb_path::{Path, steps_of};
 use jsonb_pattern::{Flags, Pattern, PatternError, PatternFault};
+use jsonb_rows::Reach;
 use jsonb_typed::{LeastType, parse_type};
 
 // How operands are read.
@@ -133,12 +134,30 @@ fn refused_pattern(rt: &HostRuntime, text: &str, fault: PatternFault) -> u8 {
     }
 }
 
-/// The steps of a path of keys and indexes alone, or the status after its fault is reported.
-pub fn steps_in<'a>(rt: &HostRuntime, path: &'a Path) -> Result<Vec<Step<'a>>, u8> {
-    match steps_of(rt.alloc(), path) {
-        Ok(Some(steps)) => Ok(steps),
-        Ok(None) => Err(misuse(rt, "the path may have keys and indexes alone")),
+/// The target of a path of keys, indexes and wildcards alone, or the status after its fault is
+/// reported.
+pub fn target_in<'a>(rt: &HostRuntime, path: &'a Path) -> Result<Target<'a>, u8> {
+    match target_of(rt.alloc(), path) {
+        Ok(Some(target)) => Ok(target),
+        Ok(None) => Err(misuse(rt, NOT_PLAIN)),
         Err(_) => Err(failure(rt, Halt::Memory)),
+    }
+}
+
+// What is said of a path that has more than keys, indexes and wildcards.
+const NOT_PLAIN: &str = "the path may have keys, indexes and wildcards alone";
+
+/// The steps to the objects of a path that ends in a key, and the key, or the status after its
+/// fault is reported.
+pub fn renamed_in<'a>(rt: &HostRuntime, path: &'a Path) -> Result<(Vec<Reach<'a>>, &'a str), u8> {
+    let mut steps = match reaches_of(rt.alloc(), path) {
+        Ok(Some(steps)) => steps,
+        Ok(None) => return Err(misuse(rt, NOT_PLAIN)),
+        Err(_) => return Err(failure(rt, Halt::Memory)),
+    };
+    match steps.pop() {
+        Some(Reach::Key(key)) => Ok((steps, key)),
+        _ => Err(misuse(rt, "the path does not end in a key")),
     }
 }
 
@@ -178,14 +197,14 @@ pub fn rising_paths_in(rt: &HostRuntime, texts: &[&str]) -> Result<Vec<SortPath>
     Ok(paths)
 }
 
-/// Adds the steps of a path, or returns the status after its fault is reported.
-pub fn push_steps<'a>(
+/// Adds the target of a path, or returns the status after its fault is reported.
+pub fn push_target<'a>(
     rt: &HostRuntime,
-    paths: &mut Vec<Vec<Step<'a>>>,
+    targets: &mut Vec<Target<'a>>,
     path: &'a Path,
 ) -> Result<(), u8> {
-    let steps = steps_in(rt, path)?;
-    match paths.push(steps) {
+    let target = target_in(rt, path)?;
+    match targets.push(target) {
         Ok(()) => Ok(()),
         Err(_) => Err(failure(rt, Halt::Memory)),
     }

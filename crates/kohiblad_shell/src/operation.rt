@@ -25,12 +25,14 @@ use crate::row::{check_document, parse_line};
 use crate::show::shown_lines;
 use crate::sort_path::SortPath;
 use crate::table::Table;
+use crate::target::Target;
 use crate::template::{Template, built_row};
 use crate::text_search::{TextSearch, is_searched};
 use crate::watch::Watch;
 use jsonb::{Document, Error, Node, OwnedJsonb, RawJsonb, append_row};
 use jsonb_functions::{Edit, Kept, Step, contains, edit_document, merge_patch, pick, strip_nulls};
 use jsonb_path::{Outcome, Path};
+use jsonb_rows::{EachEdit, Reach, edit_each};
 use std::alloc::Global;
 
 /// How a value is written.
@@ -78,8 +80,9 @@ pub enum Operation<'a> {
     /// Writes the changed value as a compact text, or as its canonical document.
     Change(Change<'a>),
     /// Writes what is left of the value, as a compact text or as its canonical document, after what
-    /// is at the end of each path is removed, one after the other.
-    Remove(&'a [Vec<Step<'a>>]),
+    /// is at the end of each path, or at each place of one with wildcards, is removed, one after the
+    /// other.
+    Remove(&'a [Target<'a>]),
     /// Writes the row if its value lies in a range.
     Range(ValueRange<'a>),
     /// Writes the row if a pattern is found in its texts.
@@ -107,6 +110,8 @@ pub enum Operation<'a> {
 pub enum Change<'a> {
     /// A value is put at the end of a path, and what the path lacks is made.
     Set(&'a [Step<'a>], Document<'a>),
+    /// Each place to which a path with wildcards leads is changed.
+    Each(&'a [Reach<'a>], EachEdit<'a>),
     /// A JSON Merge Patch is applied.
     Merge(Document<'a>),
     /// The members of these names are kept, and no others.
@@ -266,6 +271,7 @@ fn changed(alloc: Global, change: Change<'_>, document: Document<'_>) -> Result<
 {
     match change {
         Change::Set(path, value) => edit_document(alloc, document, path, Edit::Create(value)),
+        Change::Each(path, edit) => edit_each(alloc, document, path, edit),
         Change::Merge(patch) => merge_patch(alloc, document, patch),
         Change::Pick(names) => pick(alloc, document, names, Kept::Named),
         Change::StripNulls => strip_nulls(alloc, document),

@@ -3,13 +3,16 @@
 ghost use Rattle.std.specs.Prelude.{◌≡◌, ◌≤◌, IfOk, length};
 ghost use Rattle.kohiblad_shell.specs.Words.{Fits, IsDocument, IsRemoved, IsResultOf};
 ghost use Rattle.kohiblad_shell.specs.Words.{MadeWithMemory, begins_path, canon, owned_bytes};
-ghost use Rattle.kohiblad_shell.specs.Words.{path_count, without};
+ghost use Rattle.kohiblad_shell.specs.Words.{path_count, without, without_each};
+ghost use Rattle.kohiblad_shell.specs.Words.{without_one};
 
 use crate::input::Form;
 use crate::operation::made_row;
+use crate::target::Target;
 use crate::watch::Watch;
 use jsonb::{Document, Error, OwnedJsonb};
 use jsonb_functions::{Edit, Step, edit_document};
+use jsonb_rows::{EachEdit, Reach, edit_each};
 use std::alloc::Global;
 
 /// The row of what is left of a document after what is at the end of each path is removed, one
@@ -21,7 +24,7 @@ pub fn removed_row(
     alloc: Global,
     form: Form,
     bytes: &[u8],
-    paths: &[Vec<Step<'_>>],
+    paths: &[Target<'_>],
     watch: &Watch<'_>,
 ) -> Result<Vec<u8>, Error>
     requires { IsDocument bytes.now }
@@ -37,14 +40,43 @@ pub fn removed_row(
     }
 }
 
-// The canonical document of what is left after what is at the end of a path is removed.
-fn without(alloc: Global, bytes: &[u8], path: &[Step<'_>]) -> Result<OwnedJsonb, Error>
+// The canonical document of what is left after what is at the end of a path, or at each place of
+// one with wildcards, is removed.
+fn without(alloc: Global, bytes: &[u8], target: &Target<'_>) -> Result<OwnedJsonb, Error>
     requires { IsDocument bytes.now }
-    ensures ok { IfOk result (λ left. owned_bytes left ≡ canon (without path.now bytes.now)) }
+    ensures ok { IfOk result (λ left. owned_bytes left ≡ canon (without target.now bytes.now)) }
     ensures document { IfOk result (λ left. IsDocument (owned_bytes left)) }
-    ensures limits { MadeWithMemory (Fits (without path.now bytes.now)) result }
+    ensures limits { MadeWithMemory (Fits (without target.now bytes.now)) result }
+{
+    match target {
+        Target::One(path) => without_one(alloc, bytes, path),
+        Target::Each(path) => without_each(alloc, bytes, path),
+    }
+}
+
+// The same of a path without wildcards.
+fn without_one(alloc: Global, bytes: &[u8], path: &[Step<'_>]) -> Result<OwnedJsonb, Error>
+    requires { IsDocument bytes.now }
+    ensures ok { IfOk result (λ left. owned_bytes left ≡ canon (without_one path.now bytes.now)) }
+    ensures document { IfOk result (λ left. IsDocument (owned_bytes left)) }
+    ensures limits { MadeWithMemory (Fits (without_one path.now bytes.now)) result }
 {
     edit_document(alloc, Document::new_unchecked(bytes), path, Edit::Remove)
+}
+
+// The same of a path with wildcards.
+fn without_each(alloc: Global, bytes: &[u8], path: &[Reach<'_>]) -> Result<OwnedJsonb, Error>
+    requires { IsDocument bytes.now }
+    ensures ok { IfOk result (λ left. owned_bytes left ≡ canon (without_each path.now bytes.now)) }
+    ensures document { IfOk result (λ left. IsDocument (owned_bytes left)) }
+    ensures limits { MadeWithMemory (Fits (without_each path.now bytes.now)) result }
+{
+    edit_each(
+        alloc,
+        Document::new_unchecked(bytes),
+        path,
+        EachEdit::Remove,
+    )
 }
 
 /// How many of these words, from the first on, begin as a path does: by `$`.

@@ -5,9 +5,11 @@ ghost use Rattle.kohiblad_shell.specs.Words.{IsDocument};
 use crate::first::{first_value, passes_path};
 use crate::operation::{Change, Operation};
 use crate::progress::Progress;
+use crate::target::Target;
 use jsonb::Document;
 use jsonb_functions::{Step, get_path};
 use jsonb_path::Path;
+use jsonb_rows::{EachEdit, Reach, leads_somewhere};
 use std::alloc::{AllocError, Global};
 use std::cell::Cell;
 
@@ -57,37 +59,47 @@ impl<'a> Watch<'a> {
 
     /// Notes whether a removal finds something in these bytes of a document, by its path; so many
     /// removals come after it.
-    pub fn see_removal(&self, bytes: &[u8], path: &[Step<'_>], later: usize)
+    pub fn see_removal(&self, bytes: &[u8], target: &Target<'_>, later: usize)
         requires { IsDocument bytes.now }
     {
         let Some(has_led) = self.have_led.iter().rev().nth(later) else {
             return;
         };
-        if !has_led.get() && has_end(bytes, path) {
+        if !has_led.get() && has_end(bytes, target) {
             has_led.set(true);
         }
     }
 
     /// Notes whether a change finds something in a document, or makes these bytes another one.
     pub fn see_change(&self, change: Change<'_>, document: Document<'_>, made: &[u8]) {
-        let Change::Set(path, _) = change else {
-            return;
-        };
         for has_led in &self.have_led {
-            if !has_led.get()
-                && (document.as_bytes() != made || get_path(document, path).is_some())
-            {
+            if !has_led.get() && makes_change(change, document, made) {
                 has_led.set(true);
             }
         }
     }
 }
 
+// Whether a change at the ends of a path finds something in a document, or makes these bytes
+// another one.
+fn makes_change(change: Change<'_>, document: Document<'_>, made: &[u8]) -> bool {
+    match change {
+        Change::Set(path, _) => document.as_bytes() != made || get_path(document, path).is_some(),
+        Change::Each(_, EachEdit::Rename(from, to)) if from != to => document.as_bytes() != made,
+        Change::Each(path, _) => document.as_bytes() != made || leads_somewhere(document, path),
+        _ => false,
+    }
+}
+
 // Whether a path leads to a value in these bytes of a document.
-fn has_end(bytes: &[u8], path: &[Step<'_>]) -> bool
+fn has_end(bytes: &[u8], target: &Target<'_>) -> bool
     requires { IsDocument bytes.now }
 {
-    get_path(Document::new_unchecked(bytes), path).is_some()
+    let document = Document::new_unchecked(bytes);
+    match target {
+        Target::One(path) => get_path(document, path).is_some(),
+        Target::Each(path) => leads_somewhere(document, path),
+    }
 }
 
 // Whether the path of an operation after so many others, or the name, leads to a value.

@@ -1,6 +1,6 @@
 use Rattle.std.proofs.Common.{arith}
 use Rattle.kohiblad_shell.proofs.RemovalLaws.{left_bytes, left_is_document, left_limits}
-use Rattle.kohiblad_shell.proofs.removal.without.Goals as goal
+use Rattle.kohiblad_shell.proofs.removal.without_one.Goals as goal
 
 pub returns-clause-ok : goal.returns-clause-ok
 returns-clause-ok c = left_bytes _ _ _ _ c.new_unchecked.ensures c.edit_document.ensures.ok
