@@ -57,11 +57,11 @@ operation_of command (given.Look look) = Some (operations.Show look)
 operation_of command (given.Names names) = Some (operations.Change (changes.Pick names))
 operation_of command (given.Steps path value) = Some (operations.Change (changes.Set path value))
 operation_of command (given.Removed paths) = Some (operations.Remove paths)
+operation_of command (given.Each path edit) = Some (operations.Change (changes.Each path edit))
 operation_of command (given.Table table) = Some (operations.Extract table)
 operation_of command (given.Template template) = Some (operations.Build template)
 operation_of command (given.Range range) = Some (operations.Range range)
 operation_of command (given.Search search) = Some (operations.Grep search)
-operation_of command (given.Each path edit) = Some (operations.Change (changes.Each path edit))
 
 -- Whether a command that ends so passes over empty lines.
 abbrev pub passes_empty_lines : End → Bool

@@ -85,9 +85,16 @@ impl<'a> Watch<'a> {
 fn makes_change(change: Change<'_>, document: Document<'_>, made: &[u8]) -> bool {
     match change {
         Change::Set(path, _) => document.as_bytes() != made || get_path(document, path).is_some(),
-        Change::Each(_, EachEdit::Rename(from, to)) if from != to => document.as_bytes() != made,
-        Change::Each(path, _) => document.as_bytes() != made || leads_somewhere(document, path),
+        Change::Each(path, edit) => document.as_bytes() != made || stays(document, path, edit),
         _ => false,
+    }
+}
+
+// Whether a path leads to a place where a change may leave what is there.
+fn stays(document: Document<'_>, path: &[Reach<'_>], edit: EachEdit<'_>) -> bool {
+    match edit {
+        EachEdit::Set(_) | EachEdit::Remove => leads_somewhere(document, path),
+        EachEdit::Rename(from, to) => from == to && leads_somewhere(document, path),
     }
 }
 
