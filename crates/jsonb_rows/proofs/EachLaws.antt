@@ -1,14 +1,14 @@
 -- Trees that are changed child by child.
-use Rattle.std.proofs.Common.{◌≡◌, ◌+◌, ◌++◌, ◌∙◌, ℕ, List, [], ◌∷◌, Bool, true, false, refl, sym, ap}
+use Rattle.std.proofs.Common.{◌≡◌, ◌+◌, ◌++◌, ◌∙◌, ℕ, List, [], ◌∷◌, Bool, false, refl, sym, ap}
 use Rattle.std.proofs.Common.{◌-◌, ◌≤◌, Option, None, Some, IfSome, arith, drop, get_or, length}
 use Rattle.std.proofs.Common.{map, subst, take}
 use Rattle.std.proofs.Math.Seq.{take-length}
-use Rattle.std.specs.Prelude.{◌&&◌, ◌||◌, if◌then◌else◌, String, nat_eq, option_map, string_bytes, string_cmp}
+use Rattle.std.specs.Prelude.{◌&&◌, ◌||◌, String, option_map, string_bytes, string_cmp}
 use Rattle.std.specs.declared.alloc.Global.{Global}
 use Rattle.std.specs.declared.cmp.Ordering.{Ordering}
 use Rattle.std.specs.declared.cmp.Ordering.TheVariants.{Less, Equal, Greater}
 use Rattle.std.specs.Ordering.{match_ordering, nat_cmp, ordering_reverse}
-use Rattle.std.specs.Cmp.Lexicographic.{pointwise, slice_cmp}
+use Rattle.std.specs.Cmp.Lexicographic.{slice_cmp}
 use Rattle.std.proofs.lemmas.Cmp.{nat_list_cmp_total}
 use Rattle.std.specs.BTreeMap.{BTreeMap, IsFromIterResult, insert_entry}
 use Rattle.jsonb_value.specs.Tree.{Tree, null, boolean, number, text, extension, array, object}
@@ -24,9 +24,9 @@ use Rattle.jsonb_functions.specs.Joined.{put_beside, with_key}
 use Rattle.jsonb_functions.proofs.KeyOrder.{flipped, key_equal}
 use Rattle.jsonb_rows.specs.declared.reach.Reach.{Reach}
 use Rattle.jsonb_rows.specs.Each.{Operation, added, changed_within, child_edited, child_if}
-use Rattle.jsonb_rows.specs.Each.{leads, some_child, some_item}
+use Rattle.jsonb_rows.specs.Each.{leads, some_item}
 use Rattle.jsonb_rows.specs.Reach.{leads_to_item, leads_to_member}
-use Rattle.jsonb_rows.specs.Each.{some_member, value_of_name, with_first, with_items, with_member, with_members}
+use Rattle.jsonb_rows.specs.Each.{some_member, with_first, with_items, with_member, with_members}
 use Rattle.jsonb_rows.specs.Pushed.{IsMemberPushed, IsPushed, Members}
 
 -- ---- items
@@ -144,41 +144,7 @@ scalar_within s f add (number x) h = refl
 scalar_within s f add (text x) h = refl
 scalar_within s f add (extension x) h = refl
 
-pub scalar_leads : (s : Reach) (test : Tree → Bool) (t : Tree)
-    → (type_of t ≡ CONTAINER_TAG → ⊥) → some_child s test t ≡ false
-scalar_leads s test (array ts) h = absurd (h refl)
-scalar_leads s test (object ps) h = absurd (h refl)
-scalar_leads s test null h = refl
-scalar_leads s test (boolean b) h = refl
-scalar_leads s test (number x) h = refl
-scalar_leads s test (text x) h = refl
-scalar_leads s test (extension x) h = refl
-
--- ---- a member of a name
-
-pub named_here : (name key : List ℕ) (us others : Pairs) (value : Tree)
-    → us ≡ pair key value others → pointwise nat_eq name key ≡ true
-    → value_of_name name us ≡ Some value
-named_here name key us others value are is =
-    ap (value_of_name name) are
-    ∙ ap (λ b. if b then Some value else value_of_name name others) is
-
-pub named_on : (name key : List ℕ) (us others : Pairs) (value : Tree)
-    → us ≡ pair key value others → pointwise nat_eq name key ≡ false
-    → value_of_name name us ≡ value_of_name name others
-named_on name key us others value are is =
-    ap (value_of_name name) are
-    ∙ ap (λ b. if b then Some value else value_of_name name others) is
-
-pub named_none : (name : List ℕ) (us : Pairs) → us ≡ no_pairs → value_of_name name us ≡ None
-named_none name us none = ap (value_of_name name) none
-
 -- ---- where a path leads
-
-pub item_here : (led : ℕ → Bool) (test : Tree → Bool) (i : ℕ) (us others : Trees) (first : Tree)
-    → us ≡ tree first others → (led i && test first) ≡ true → some_item led test i us ≡ true
-item_here led test i us others first are is =
-    ap (some_item led test i) are ∙ ap (λ b. b || some_item led test (i + 1) others) is
 
 pub item_on : (led : ℕ → Bool) (test : Tree → Bool) (i : ℕ) (us others : Trees) (first : Tree)
     → us ≡ tree first others → (led i && test first) ≡ false
@@ -186,25 +152,11 @@ pub item_on : (led : ℕ → Bool) (test : Tree → Bool) (i : ℕ) (us others :
 item_on led test i us others first are is =
     ap (some_item led test i) are ∙ ap (λ b. b || some_item led test (i + 1) others) is
 
-pub item_none : (led : ℕ → Bool) (test : Tree → Bool) (i : ℕ) (us : Trees) → us ≡ no_trees
-    → some_item led test i us ≡ false
-item_none led test i us none = ap (some_item led test i) none
-
-pub member_here : (led : List ℕ → Bool) (test : Tree → Bool) (us others : Pairs) (key : List ℕ)
-    (value : Tree) → us ≡ pair key value others → (led key && test value) ≡ true
-    → some_member led test us ≡ true
-member_here led test us others key value are is =
-    ap (some_member led test) are ∙ ap (λ b. b || some_member led test others) is
-
 pub member_on : (led : List ℕ → Bool) (test : Tree → Bool) (us others : Pairs) (key : List ℕ)
     (value : Tree) → us ≡ pair key value others → (led key && test value) ≡ false
     → some_member led test us ≡ some_member led test others
 member_on led test us others key value are is =
     ap (some_member led test) are ∙ ap (λ b. b || some_member led test others) is
-
-pub member_none : (led : List ℕ → Bool) (test : Tree → Bool) (us : Pairs) → us ≡ no_pairs
-    → some_member led test us ≡ false
-member_none led test us none = ap (some_member led test) none
 
 -- ---- what is appended
 
