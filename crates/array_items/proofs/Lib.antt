@@ -1,0 +1,3 @@
+pub mod ArraySteps
+pub mod BlankSteps
+pub mod ValueSteps

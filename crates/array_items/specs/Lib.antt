@@ -1,0 +1,6 @@
+pub mod Blanks
+pub mod Faults
+pub mod Values
+pub mod Arrays
+pub mod Lines
+pub mod Words
