@@ -2,7 +2,6 @@ pub mod InputLaws
 pub mod RunLaws
 pub mod PassedLaws
 pub mod ValueLaws
-mod ValueSteps
 pub mod EscapeLaws
 pub mod SortLaws
 pub mod KeptLaws

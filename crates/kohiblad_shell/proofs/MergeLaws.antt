@@ -32,7 +32,7 @@ use Rattle.kohiblad_shell.specs.Merges.{passed, stays_sorted, unsorted, wrong}
 use Rattle.kohiblad_shell.specs.Outcomes.{Answers, AnswersNext, LineRule, Outcome, gives_nothing}
 use Rattle.kohiblad_shell.specs.Outcomes.{has_none, none}
 use Rattle.kohiblad_shell.specs.Sorts.{key_and_line}
-use Rattle.kohiblad_shell.proofs.RunLaws.{Answers-append}
+use Rattle.kohiblad_shell.proofs.RunLaws.{Answers-append, Answers-end}
 
 -- ---- the order of rows
 
@@ -426,7 +426,7 @@ module _ (rule : LineRule) (form : Form) where
   finds (Some bytes) (Some mid) (Some rest) before count number End so_far next is =
       record {
         count = count;
-        answered = subst (λ r. Answers rule form bytes (passed count) r) next so_far;
+        answered = Answers-end so_far next;
       }
 
   -- ---- the next row

@@ -14,10 +14,12 @@ use Rattle.kohiblad_shell.specs.declared.outcome.LineFault.{LineFault}
 use Rattle.kohiblad_shell.specs.declared.run.Answer.TheVariants.{Rows, Wrong, End}
 use Rattle.kohiblad_shell.specs.declared.run.Plan.{Plan}
 use Rattle.kohiblad_shell.specs.declared.input.Found.TheVariants as found
-use Rattle.kohiblad_shell.specs.Faults.{cut_after, fault_line}
+use Rattle.array_items.specs.declared.array.ArrayFault.{ArrayFault}
+use Rattle.kohiblad_shell.specs.Faults.{cut_after, fault_line, no_array_after}
 use Rattle.kohiblad_shell.specs.Inputs.{ReadsRow}
-use Rattle.kohiblad_shell.specs.Outcomes.{Outcome, LineRule, Answers, none, more, cut, output_of}
-use Rattle.kohiblad_shell.specs.Outcomes.{AnswersNext, reports_of, row_count, fault_count}
+use Rattle.kohiblad_shell.specs.Outcomes.{Outcome, LineRule, Answers, none, more, cut, no_array}
+use Rattle.kohiblad_shell.specs.Outcomes.{AnswersNext, output_of, reports_of, row_count}
+use Rattle.kohiblad_shell.specs.Outcomes.{fault_count, no_row}
 use Rattle.kohiblad_shell.specs.Outcomes.{KeepsRule, after_all, after_answer, stops_at, stops_in}
 use Rattle.kohiblad_shell.specs.Runs.{BeginsRun, GoesOnToLast, IsRun}
 
@@ -58,6 +60,16 @@ module _ {rule : LineRule} {form : Form} where
   Answers-append none later = later
   Answers-append (more next answer others) later = more next answer (Answers-append others later)
   Answers-append (cut part is others) later = cut part is (Answers-append others later)
+  Answers-append (no_array part fault is others) later =
+      no_array part fault is (Answers-append others later)
+  Answers-append (no_row row rest is others) later =
+      no_row row rest is (Answers-append others later)
+
+  -- no row is left
+  pub Answers-end : {bytes mid : List ℕ} {os : List Outcome} → Answers rule form bytes os mid
+      → Answers rule form mid [] [] → Answers rule form bytes os []
+  Answers-end {bytes = bytes} {os = os} before later =
+      subst (λ os. Answers rule form bytes os []) (append-nil os) (Answers-append before later)
 
 after-append : {W : Type 0} (after : W → List ℕ → W) (w : W) (os ps : List Outcome)
     → after_all after w (os ++ ps) ≡ after_all after (after_all after w os) ps
@@ -71,6 +83,8 @@ Answers-of : {rule other : LineRule} {form : Form} {bytes end : List ℕ} {os : 
 Answers-of is none = none
 Answers-of is (more next answer others) = more next (is _ _ answer) (Answers-of is others)
 Answers-of is (cut part ends others) = cut part ends (Answers-of is others)
+Answers-of is (no_array part fault ends others) = no_array part fault ends (Answers-of is others)
+Answers-of is (no_row row rest ends others) = no_row row rest ends (Answers-of is others)
 
 -- ---- where a run ends
 
@@ -230,16 +244,17 @@ module _ {W : Type 0} (rule : W → LineRule) (after : W → List ℕ → W) (ke
   run_ends None left new u so_far read same = tt
   run_ends (Some input) None new u so_far read same = absurd so_far
   run_ends (Some input) (Some left) None u so_far read same = absurd read
-  run_ends (Some input) (Some left) (Some rest) u t empty same = record {
+  run_ends (Some input) (Some left) (Some rest) u t ended same = record {
     outcomes = t.outcomes;
-    rest = left;
-    answered = t.answered;
+    rest = [];
+    answered = subst (λ os. Answers (rule w) plan.form input os []) (append-nil t.outcomes)
+        (next_answered t.outcomes [] t.worker t.answered ended);
     worker = same ∙ t.worker;
     output = t.output;
     errors = t.errors;
     stops = all_go_on plan t.outcomes t.goes_on;
     stopped = sym t.goes_on;
-    whole = λ on. empty;
+    whole = λ on. refl;
     rows = t.rows_are;
     faults = t.faults_are;
     lacks = refl;
@@ -413,3 +428,18 @@ pub next_cut : (rule : LineRule) (form : Form) (old new : Known) (part : List �
 next_cut rule form None new part read = tt
 next_cut rule form (Some bytes) None part read = absurd read
 next_cut rule form (Some bytes) (Some rest) part (is, ended) = rw ended (cut part is none)
+
+-- at a row the input is no array
+pub next_no_array : (rule : LineRule) (form : Form) (old new : Known) (part : List ℕ)
+    (fault : ArrayFault) → ReadsRow form old new part (found.NoArray fault)
+    → AnswersNext rule form old new (Wrong (no_array_after part fault))
+next_no_array rule form None new part fault read = tt
+next_no_array rule form (Some bytes) None part fault read = absurd read
+next_no_array rule form (Some bytes) (Some rest) part fault read = no_array part fault read none
+
+-- there is no row
+pub next_none : (rule : LineRule) (form : Form) (old new : Known) (row : List ℕ)
+    → ReadsRow form old new row found.End → AnswersNext rule form old new End
+next_none rule form None new row read = tt
+next_none rule form (Some bytes) None row read = absurd read
+next_none rule form (Some bytes) (Some rest) row read = no_row row rest read none

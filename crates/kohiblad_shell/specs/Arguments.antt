@@ -9,6 +9,8 @@ use Rattle.jsonb_value.specs.declared.parser.number.Exponents.TheVariants.{Forbi
 use Rattle.kohiblad_shell.specs.declared.input.Form.{Form}
 use Rattle.kohiblad_shell.specs.declared.input.Form.TheVariants.{Lines, Documents}
 use Rattle.kohiblad_shell.specs.declared.input.Reading.{Reading}
+use Rattle.kohiblad_shell.specs.declared.input.TextForm.{TextForm}
+use Rattle.kohiblad_shell.specs.declared.input.TextForm.TheVariants as texts
 use Rattle.kohiblad_shell.specs.declared.operation.TextLayout.{TextLayout}
 use Rattle.kohiblad_shell.specs.declared.operation.TextLayout.TheVariants.{Compact, Pretty}
 use Rattle.kohiblad_shell.specs.declared.operation.Style.{Style}
@@ -71,10 +73,30 @@ abbrev pub are_documents : Form → Bool
 are_documents Documents = true
 are_documents (Lines reading) = false
 
--- Whether rows are values one after another.
+-- Whether texts are values one after another.
+abbrev pub is_values : TextForm → Bool
+is_values texts.Values = true
+is_values texts = false
+
+-- Whether texts are the items of an array.
+abbrev pub is_items : TextForm → Bool
+is_items texts.Items = true
+is_items texts = false
+
+-- The same of rows.
 abbrev pub are_values : Form → Bool
 are_values Documents = false
-are_values (Lines reading) = reading.are_values
+are_values (Lines reading) = is_values reading.texts
+
+abbrev pub are_items : Form → Bool
+are_items Documents = false
+are_items (Lines reading) = is_items reading.texts
+
+-- How texts stand that are the items of an array, or else values, or else lines.
+abbrev pub texts_of : Bool → Bool → TextForm
+texts_of true are_values = texts.Items
+texts_of false true = texts.Values
+texts_of false false = texts.Lines
 
 -- Whether each item and member has a line of its own.
 abbrev pub is_pretty : TextLayout → Bool

@@ -8,7 +8,9 @@ use Rattle.kohiblad_shell.specs.declared.outcome.Reason.{Reason}
 use Rattle.kohiblad_shell.specs.declared.outcome.Reason.TheVariants.{InvalidUtf8, InvalidJson}
 use Rattle.kohiblad_shell.specs.declared.outcome.Reason.TheVariants.{BadNumber, TooDeep, TooLarge}
 use Rattle.kohiblad_shell.specs.declared.outcome.Reason.TheVariants.{BadDocument, Cut, NotSorted}
-use Rattle.kohiblad_shell.specs.declared.outcome.Reason.TheVariants.{GivenUp, NotOfType}
+use Rattle.kohiblad_shell.specs.declared.outcome.Reason.TheVariants.{GivenUp, NoArray, NotOfType}
+use Rattle.array_items.specs.declared.array.ArrayFault.{ArrayFault}
+use Rattle.array_items.specs.declared.array.ArrayFault.TheVariants as arrays
 use Rattle.jsonb_path.specs.declared.path.PathError.{PathError}
 use Rattle.jsonb_path.specs.declared.path.PathError.TheVariants as errors
 
@@ -26,6 +28,14 @@ path_error_name errors.OutOfRange = codes "OutOfRange"
 path_error_name errors.UndefinedVariable = codes "UndefinedVariable"
 path_error_name errors.BooleanRequired = codes "BooleanRequired"
 
+-- The word for why an input is no array.
+abbrev pub array_fault_name : ArrayFault → List ℕ
+array_fault_name arrays.NoArray = codes "NoArray"
+array_fault_name arrays.NoItem = codes "NoItem"
+array_fault_name arrays.NoComma = codes "NoComma"
+array_fault_name arrays.NoEnd = codes "NoEnd"
+array_fault_name arrays.AfterEnd = codes "AfterEnd"
+
 -- The word for a reason.
 abbrev pub reason_name : Reason → List ℕ
 reason_name InvalidUtf8 = codes "InvalidUtf8"
@@ -38,10 +48,12 @@ reason_name Cut = codes "InvalidEOF"
 reason_name NotSorted = codes "NotSorted"
 reason_name NotOfType = codes "NotOfType"
 reason_name (GivenUp error) = path_error_name error
+reason_name (NoArray fault) = array_fault_name fault
 
--- Whether the row is cut off.
+-- Whether the row is cut off, or the input is no array from it on.
 abbrev pub is_cut : Reason → Bool
 is_cut Cut = true
+is_cut (NoArray fault) = true
 is_cut reason = false
 
 -- The fault after so many bytes of a row of which nothing is said that could have come there.
@@ -56,6 +68,10 @@ bad_document = plain_fault 0 BadDocument
 -- The fault of a row that is cut off after these bytes.
 abbrev pub cut_after : List ℕ → LineFault
 cut_after part = plain_fault (length part) Cut
+
+-- The fault of a row at which the input is no array, after these bytes of it.
+abbrev pub no_array_after : List ℕ → ArrayFault → LineFault
+no_array_after part fault = plain_fault (length part) (NoArray fault)
 
 -- The reason of a fault, and what could have come there and what came, if that is said.
 unfoldable pub reason_text : LineFault → List ℕ

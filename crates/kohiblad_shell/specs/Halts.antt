@@ -1,8 +1,10 @@
 -- Why a run ended early, and the status of the program.
-use Rattle.std.specs.Prelude.{◌≡◌, ◌⊎◌, ◌==◌, ◌||◌, ℕ, false, List, codes, Result, Ok}
+use Rattle.std.specs.Prelude.{◌≡◌, ◌⊎◌, ◌==◌, ◌||◌, ℕ, false, true, List, codes, Result, Ok}
 use Rattle.std.specs.Prelude.{◌+◌, ◌-◌, ◌^◌, Err, if◌then◌else◌, min}
 use Rattle.std.specs.declared.io.ErrorKind.{ErrorKind}
 use Rattle.std.specs.declared.io.ErrorKind.TheVariants.{BrokenPipe, OutOfMemory}
+use Rattle.array_items.specs.declared.held.ReadFault.{ReadFault}
+use Rattle.array_items.specs.declared.held.ReadFault.TheVariants as faults
 use Rattle.kohiblad_shell.specs.declared.halt.Halt.{Halt}
 use Rattle.kohiblad_shell.specs.declared.halt.Halt.TheVariants.{Read, Write, Closed, Memory}
 use Rattle.kohiblad_shell.specs.declared.run.Summary.{Summary}
@@ -20,6 +22,11 @@ halt_reason Memory = codes "out of memory"
 abbrev pub halt_of_read : ErrorKind → Halt
 halt_of_read OutOfMemory = Memory
 halt_of_read kind = Read
+
+-- The halt where bytes could not be read.
+abbrev pub halt_of_fault : ReadFault → Halt
+halt_of_fault faults.Reader = Read
+halt_of_fault faults.Memory = Memory
 
 -- The halt after an error of a writer of this kind.
 abbrev pub halt_of_write : ErrorKind → Halt
@@ -45,6 +52,10 @@ both first second = record {
   is_stopped = first.is_stopped || second.is_stopped;
   lacks_input = first.lacks_input || second.lacks_input;
 }
+
+-- The counts of a run that ended at its first row, which was wrong.
+abbrev pub stopped_at_start : Summary
+stopped_at_start = record { rows = 0; faults = 1; is_stopped = true; lacks_input = false }
 
 -- The counts of a run whose rows are the reports of faults: the faults do not count against it.
 abbrev pub of_reports : Summary → Summary

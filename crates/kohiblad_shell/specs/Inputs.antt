@@ -10,8 +10,15 @@ use Rattle.jsonb.specs.StoredRow.{row_bytes}
 use Rattle.kohiblad_shell.specs.declared.input.Form.{Form}
 use Rattle.kohiblad_shell.specs.declared.input.Form.TheVariants.{Lines, Documents}
 use Rattle.kohiblad_shell.specs.declared.input.Found.{Found}
-use Rattle.kohiblad_shell.specs.declared.input.Found.TheVariants.{Row, Cut, End}
-use Rattle.kohiblad_shell.specs.Values.{IsNextValue}
+use Rattle.kohiblad_shell.specs.declared.input.Found.TheVariants.{Row, Cut, NoArray, End}
+use Rattle.kohiblad_shell.specs.declared.input.TextForm.{TextForm}
+use Rattle.kohiblad_shell.specs.declared.input.TextForm.TheVariants as texts
+use Rattle.array_items.specs.Arrays.{item_in}
+use Rattle.array_items.specs.Blanks.{trimmed}
+use Rattle.array_items.specs.Values.{IsNextValue}
+use Rattle.array_items.specs.declared.array.ArrayFault.{ArrayFault}
+use Rattle.array_items.specs.declared.array.FoundItem.{FoundItem}
+use Rattle.array_items.specs.declared.array.FoundItem.TheVariants as items
 
 -- A row as it stands among others: with its line feed, or after its length.
 abbrev pub framed : Form → List ℕ → List ℕ
@@ -29,18 +36,28 @@ abbrev pub IsNextLine : List ℕ → List ℕ → List ℕ → Type 0
 IsNextLine bytes line rest = IsLine line
     × ((bytes ≡ line ++ 10 ∷ rest) ⊎ ((bytes ≡ line) × ((0 < length line) × (rest ≡ []))))
 
--- The first text of the bytes, and what follows it: a value, or a line.
-abbrev pub IsNextText : Bool → List ℕ → List ℕ → List ℕ → Type 0
-IsNextText true bytes row rest = IsNextValue bytes row rest
-IsNextText false bytes row rest = IsNextLine bytes row rest
+-- The first text of the bytes, and what follows it: a line, a value, or an item with the `[` or the
+-- comma before it.
+abbrev pub IsNextText : TextForm → List ℕ → List ℕ → List ℕ → Type 0
+IsNextText texts.Lines bytes row rest = IsNextLine bytes row rest
+IsNextText texts.Values bytes row rest = IsNextValue bytes row rest
+IsNextText texts.Items bytes row rest =
+    item_in bytes ≡ record { found = items.Item; item = row; left = rest }
+
+-- There is no text in the bytes: there are none, white space alone, or the `]` of an array.
+abbrev pub HasNoText : TextForm → List ℕ → List ℕ → List ℕ → Type 0
+HasNoText texts.Lines bytes row rest = bytes ≡ []
+HasNoText texts.Values bytes row rest = trimmed bytes ≡ []
+HasNoText texts.Items bytes row rest =
+    item_in bytes ≡ record { found = items.End; item = row; left = rest }
 
 -- The first row of the bytes, and what follows it. The length of a document has eight bytes.
 abbrev pub IsNextRow : Form → List ℕ → List ℕ → List ℕ → Type 0
-IsNextRow (Lines reading) bytes row rest = IsNextText reading.are_values bytes row rest
+IsNextRow (Lines reading) bytes row rest = IsNextText reading.texts bytes row rest
 IsNextRow Documents bytes row rest = (length row < 2 ^ 64) × (bytes ≡ row_bytes row ++ rest)
 
 -- Whether a row is passed over: a line that is empty, or has white space alone, where lines are
--- read so. Of a value this is what white space alone leaves.
+-- read so.
 abbrev pub is_passed_over : Form → List ℕ → Bool
 is_passed_over (Lines reading) row = reading.passes_over_empty && list_all is_blank row
 is_passed_over Documents row = false
@@ -50,6 +67,34 @@ abbrev pub IsCut : Form → List ℕ → List ℕ → Type 0
 IsCut (Lines reading) bytes part = ⊥
 IsCut Documents bytes part = (bytes ≢ []) × ((part ≡ drop 8 bytes)
     × ((row rest : List ℕ) → IsNextRow Documents bytes row rest → ⊥))
+
+-- There is no row in the bytes.
+abbrev pub HasNoRow : Form → List ℕ → List ℕ → List ℕ → Type 0
+HasNoRow (Lines reading) bytes row rest = HasNoText reading.texts bytes row rest
+HasNoRow Documents bytes row rest = bytes ≡ []
+
+-- The bytes are no array from a text on, of which this part is there.
+abbrev pub IsNoArrayText : TextForm → List ℕ → List ℕ → List ℕ → ArrayFault → Type 0
+IsNoArrayText texts.Items bytes part rest fault =
+    item_in bytes ≡ record { found = items.Fault fault; item = part; left = rest }
+IsNoArrayText texts bytes part rest fault = ⊥
+
+-- The bytes are no array from a row on, of which this part is there.
+abbrev pub IsNoArray : Form → List ℕ → List ℕ → List ℕ → ArrayFault → Type 0
+IsNoArray (Lines reading) bytes part rest fault =
+    IsNoArrayText reading.texts bytes part rest fault
+IsNoArray Documents bytes part rest fault = ⊥
+
+-- What was found where there is a row, or none is left.
+abbrev pub found_if : Bool → Found
+found_if true = Row
+found_if false = End
+
+-- What was found in an array.
+abbrev pub found_item : FoundItem → Found
+found_item items.Item = Row
+found_item items.End = End
+found_item (items.Fault fault) = NoArray fault
 
 -- The next line was taken, where there is one.
 abbrev pub TakesLine : List ℕ → List ℕ → List ℕ → Bool → Type 0
@@ -62,23 +107,12 @@ ReadsLine None new line is_line = ⊤
 ReadsLine (Some bytes) None line is_line = ⊥
 ReadsLine (Some bytes) (Some rest) line is_line = TakesLine bytes rest line is_line
 
--- The next text was taken, where there is one.
-abbrev pub TakesText : Bool → List ℕ → List ℕ → List ℕ → Bool → Type 0
-TakesText are_values bytes rest row true = IsNextText are_values bytes row rest
-TakesText are_values bytes rest row false = bytes ≡ []
-
--- The same where the bytes are known.
-abbrev pub ReadsText : Bool → Option (List ℕ) → Option (List ℕ) → List ℕ → Bool → Type 0
-ReadsText are_values None new row is_row = ⊤
-ReadsText are_values (Some bytes) None row is_row = ⊥
-ReadsText are_values (Some bytes) (Some rest) row is_row =
-    TakesText are_values bytes rest row is_row
-
 -- The next row was taken, or the part of it that is there, or there is none.
 abbrev pub TakesRow : Form → List ℕ → List ℕ → List ℕ → Found → Type 0
 TakesRow form bytes rest row Row = IsNextRow form bytes row rest
 TakesRow form bytes rest row Cut = IsCut form bytes row × (rest ≡ [])
-TakesRow form bytes rest row End = bytes ≡ []
+TakesRow form bytes rest row (NoArray fault) = IsNoArray form bytes row rest fault
+TakesRow form bytes rest row End = HasNoRow form bytes row rest
 
 -- The same where the bytes are known.
 abbrev pub ReadsRow : Form → Option (List ℕ) → Option (List ℕ) → List ℕ → Found → Type 0

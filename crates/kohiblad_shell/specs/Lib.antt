@@ -40,5 +40,4 @@ pub mod GroupRows
 pub mod Arguments
 pub mod Asked
 pub mod Commands
-pub mod Values
 pub mod Words

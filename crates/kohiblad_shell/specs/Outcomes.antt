@@ -10,8 +10,9 @@ use Rattle.kohiblad_shell.specs.declared.input.Form.{Form}
 use Rattle.kohiblad_shell.specs.declared.run.Answer.{Answer}
 use Rattle.kohiblad_shell.specs.declared.run.Answer.TheVariants as answer
 use Rattle.kohiblad_shell.specs.declared.run.Plan.{Plan}
-use Rattle.kohiblad_shell.specs.Faults.{cut_after, fault_line, is_cut}
-use Rattle.kohiblad_shell.specs.Inputs.{IsCut, IsNextRow}
+use Rattle.array_items.specs.declared.array.ArrayFault.{ArrayFault}
+use Rattle.kohiblad_shell.specs.Faults.{cut_after, fault_line, is_cut, no_array_after}
+use Rattle.kohiblad_shell.specs.Inputs.{HasNoRow, IsCut, IsNextRow, IsNoArray}
 
 -- What a row of an input gives: rows, each with its line feed, or a fault.
 abbrev pub Outcome : Type 0
@@ -37,7 +38,8 @@ abbrev pub IsAnswer : LineRule → List ℕ → Result (Vec ℕ Global) Unanswer
 IsAnswer rule line result = IsOutcome (rule line) result
 
 -- What the rows at the beginning of the bytes give, in order, up to the rest: by the rule, or the
--- fault of a row that is cut off, after which nothing is left.
+-- fault of a row that is cut off, after which nothing is left, or of one at which the bytes are no
+-- array. Where there is no row nothing is left.
 pub data Answers (rule : LineRule) (form : Form) : List ℕ → List Outcome → List ℕ → Type 0 where
   none : {bytes : List ℕ} → Answers rule form bytes [] bytes
   more : {bytes row rest end : List ℕ} {outcome : Outcome} {outcomes : List Outcome}
@@ -46,6 +48,13 @@ pub data Answers (rule : LineRule) (form : Form) : List ℕ → List Outcome →
   cut : {bytes end : List ℕ} {outcomes : List Outcome} (part : List ℕ) → IsCut form bytes part
       → Answers rule form [] outcomes end
       → Answers rule form bytes (Err (cut_after part) ∷ outcomes) end
+  no_array : {bytes rest end : List ℕ} {outcomes : List Outcome} (part : List ℕ)
+      (fault : ArrayFault) → IsNoArray form bytes part rest fault
+      → Answers rule form rest outcomes end
+      → Answers rule form bytes (Err (no_array_after part fault) ∷ outcomes) end
+  no_row : {bytes end : List ℕ} {outcomes : List Outcome} (row rest : List ℕ)
+      → HasNoRow form bytes row rest → Answers rule form [] outcomes end
+      → Answers rule form bytes outcomes end
 
 -- What the first row of the bytes gives, if there is one, and what follows it.
 abbrev pub AnswersFirst : LineRule → Form → List ℕ → List ℕ → Answer → Type 0
@@ -53,7 +62,7 @@ AnswersFirst rule form bytes rest (answer.Rows rows) =
     Answers rule form bytes (Ok rows.items ∷ []) rest
 AnswersFirst rule form bytes rest (answer.Wrong fault) =
     Answers rule form bytes (Err fault ∷ []) rest
-AnswersFirst rule form bytes rest answer.End = bytes ≡ []
+AnswersFirst rule form bytes rest answer.End = Answers rule form bytes [] []
 
 -- The same where the bytes are known.
 abbrev pub AnswersNext : LineRule → Form → Option (List ℕ) → Option (List ℕ) → Answer → Type 0
@@ -114,7 +123,7 @@ fault_count [] = 0
 fault_count (Ok text ∷ outcomes) = fault_count outcomes
 fault_count (Err fault ∷ outcomes) = suc (fault_count outcomes)
 
--- Whether a run ends at an outcome: at a fault, if the plan stops there or the row is cut off.
+-- Whether a run ends at an outcome: at a fault, if the plan stops there or rows after it may be lost.
 abbrev pub stops_at : Plan → Outcome → Bool
 stops_at plan (Ok text) = false
 stops_at plan (Err fault) = plan.stops_at_faults || is_cut fault.reason

@@ -16,8 +16,8 @@ pub use Rattle.kohiblad_shell.specs.KeyProofs.{key_laws}
 pub use Rattle.kohiblad_shell.specs.Sorts.{AreSorted, arranged, distinct, has_key, key_and_line}
 pub use Rattle.kohiblad_shell.specs.Sorts.{keyed_bytes, keyed_key, keyed_line, turned}
 pub use Rattle.kohiblad_shell.specs.Halts.{IsWriteHalt, halt_of_read, halt_of_write}
-pub use Rattle.kohiblad_shell.specs.Halts.{halt_reason, halt_status}
-pub use Rattle.kohiblad_shell.specs.Halts.{both, of_reports, run_status, summary_status}
+pub use Rattle.kohiblad_shell.specs.Halts.{halt_of_fault, halt_reason, halt_status}
+pub use Rattle.kohiblad_shell.specs.Halts.{both, of_reports, run_status, stopped_at_start, summary_status}
 pub use Rattle.kohiblad_shell.specs.declared.halt.Halt.TheVariants.{Memory}
 pub use Rattle.jsonb_codec.specs.Canon.{canon, Fits}
 pub use Rattle.jsonb_codec.specs.Depth.{IsDocumentWithin}
@@ -28,7 +28,7 @@ pub use Rattle.jsonb.specs.Parsing.{ParsesUnderWithin}
 pub use Rattle.jsonb_functions.specs.MadeWithMemory.{MadeWithMemory}
 pub use Rattle.clap.specs.Matches.{first_value, found_of}
 pub use Rattle.kohiblad_shell.specs.Arguments.{IsFlag, are_documents, are_texts, is_pretty}
-pub use Rattle.kohiblad_shell.specs.Arguments.{are_values, is_raw, is_tsv}
+pub use Rattle.kohiblad_shell.specs.Arguments.{are_items, are_values, is_raw, is_tsv}
 pub use Rattle.kohiblad_shell.specs.Arguments.{colors_of, exponents_of, form_of, shows_of}
 pub use Rattle.kohiblad_shell.specs.Arguments.{stops_of, text_or}
 pub use Rattle.kohiblad_shell.specs.Arguments.{value_of, values_of}
@@ -38,9 +38,9 @@ pub use Rattle.kohiblad_shell.specs.Escapes.{shown_char}
 pub use Rattle.kohiblad_shell.specs.Expected.{expected_text, explained_text, found_text}
 pub use Rattle.kohiblad_shell.specs.Expected.{listed_classes, mark_before}
 pub use Rattle.kohiblad_shell.specs.Faults.{bad_document, fault_line, is_cut, plain_fault}
-pub use Rattle.kohiblad_shell.specs.Faults.{reason_name, reason_text}
+pub use Rattle.kohiblad_shell.specs.Faults.{array_fault_name, reason_name, reason_text}
 pub use Rattle.kohiblad_shell.specs.Inputs.{AppendsHeld, AppendsHeldLine, ReadsLine, ReadsPart}
-pub use Rattle.kohiblad_shell.specs.Inputs.{ReadsRow, ReadsText, framed, is_passed_over}
+pub use Rattle.kohiblad_shell.specs.Inputs.{ReadsRow, framed, is_passed_over}
 pub use Rattle.kohiblad_shell.specs.Inputs.{made_row}
 pub use Rattle.kohiblad_shell.specs.Kinds.{compressed_kind, foreign_kind, input_kind}
 pub use Rattle.kohiblad_shell.specs.Kinds.{is_document_start, is_text_start, kind_words}
@@ -87,9 +87,6 @@ pub use Rattle.kohiblad_shell.specs.SurveyJson.{count_members}
 pub use Rattle.kohiblad_shell.specs.SurveyJson.{extension_count_members, length_members}
 pub use Rattle.kohiblad_shell.specs.SurveyJson.{number_count_members, row_count_members}
 pub use Rattle.kohiblad_shell.specs.SurveyJson.{scales_json, survey_json, time_count_members}
-pub use Rattle.kohiblad_shell.specs.Values.{ReadsValue, TakesHeld, begins_value, closes, ended}
-pub use Rattle.kohiblad_shell.specs.Values.{container_step, first_step, has_ended, left_from}
-pub use Rattle.kohiblad_shell.specs.Values.{opens, place_after, step_at, text_step, value_from}
 pub use Rattle.kohiblad_shell.specs.declared.input.Form.TheVariants.{Documents}
 pub use Rattle.kohiblad_shell.specs.declared.outcome.Unanswered.TheVariants.{OutOfMemory, Wrong}
 pub use Rattle.hex.specs.Hex.{encode_lower}

@@ -1,15 +1,16 @@
 //! What the arguments of a command say.
 
-ghost use Rattle.std.specs.Prelude.{◌≡◌, ◌||◌, IfSome, codes, false, map, option_map};
+ghost use Rattle.std.specs.Prelude.{◌≡◌, IfSome, codes, false, map, option_map};
 ghost use Rattle.kohiblad_shell.specs.Words.{IsFlag, IsMemory, are_documents, are_texts};
-ghost use Rattle.kohiblad_shell.specs.Words.{are_values, colors_of, exponents_of};
+ghost use Rattle.kohiblad_shell.specs.Arguments.{is_items, is_values, texts_of};
+ghost use Rattle.kohiblad_shell.specs.Words.{are_items, are_values, colors_of, exponents_of};
 ghost use Rattle.kohiblad_shell.specs.Words.{first_value, form_of};
 ghost use Rattle.kohiblad_shell.specs.Words.{found_of, is_pretty, is_raw, is_tsv};
 ghost use Rattle.kohiblad_shell.specs.Words.{passes_empty_lines, shows_of, stops_of, text_or};
 ghost use Rattle.kohiblad_shell.specs.Words.{value_of, values_of};
 
 use crate::commands::End;
-use crate::input::{Form, Reading};
+use crate::input::{Form, Reading, TextForm};
 use crate::operand_kind::ValueKind;
 use crate::operation::{Style, TextLayout};
 use crate::part_lines::Look;
@@ -130,28 +131,43 @@ pub fn layout_in(arguments: &ArgMatches<'_>) -> TextLayout
 }
 
 /// In which form rows are read and written by a command that ends so: as documents if the flag says
-/// so, or else as values if another flag does, or else as lines. Numbers of texts may have
-/// exponents unless these are refused. Some commands pass over lines of white space alone, and all
-/// commands white space after the last value.
+/// so, or else as the items of an array or as values if another flag does, or else as lines. Numbers
+/// of texts may have exponents unless these are refused. Some commands pass over lines of white
+/// space alone.
 pub fn form_in(arguments: &ArgMatches<'_>, end: End) -> Form
     ensures documents { IsFlag arguments.now (codes "documents") (are_documents result) }
-    ensures values { are_documents result ≡ false
+    ensures items { are_documents result ≡ false
+        → IsFlag arguments.now (codes "array") (are_items result) }
+    ensures values { are_documents result ≡ false → are_items result ≡ false
         → IsFlag arguments.now (codes "values") (are_values result) }
     ensures form { result ≡ form_of (are_documents result) (record {
       exponents = exponents_of (first_value (found_of arguments.now) (codes "exponents"));
-      passes_over_empty = are_values result || passes_empty_lines end;
-      are_values = are_values result;
+      passes_over_empty = passes_empty_lines end;
+      texts = texts_of (are_items result) (are_values result);
     }) }
 {
     if has_flag(arguments, "documents") {
-        Form::Documents
+        return Form::Documents;
+    }
+    Form::Lines(Reading {
+        exponents: exponents_in(arguments),
+        passes_over_empty: end.passes_empty_lines(),
+        texts: texts_in(arguments),
+    })
+}
+
+// How texts stand one after another.
+fn texts_in(arguments: &ArgMatches<'_>) -> TextForm
+    ensures items { IsFlag arguments.now (codes "array") (is_items result) }
+    ensures values { is_items result ≡ false
+        → IsFlag arguments.now (codes "values") (is_values result) }
+{
+    if has_flag(arguments, "array") {
+        TextForm::Items
+    } else if has_flag(arguments, "values") {
+        TextForm::Values
     } else {
-        let are_values = has_flag(arguments, "values");
-        Form::Lines(Reading {
-            exponents: exponents_in(arguments),
-            passes_over_empty: are_values || end.passes_empty_lines(),
-            are_values,
-        })
+        TextForm::Lines
     }
 }
 

@@ -51,7 +51,10 @@ fn command_of<'a>(alloc: Global, row: &CommandRow) -> Result<Command<'a>, AllocE
         command = command.arg(option_of(alloc, *option))?;
     }
     if row.reads_lines() {
-        command = command.arg(values(alloc)?)?.arg(exponents(alloc))?;
+        command = command
+            .arg(array(alloc)?)?
+            .arg(values(alloc)?)?
+            .arg(exponents(alloc))?;
     }
     if row.end.writes() {
         command = command.arg(output(alloc))?;
@@ -186,6 +189,14 @@ fn output<'a>(alloc: Global) -> Arg<'a> {
         .short('o')
         .value_name("FILE")
         .help("The output, which takes the place of FILE at the end; standard output if none or -")
+}
+
+// Whether rows are the items of arrays.
+fn array<'a>(alloc: Global) -> Result<Arg<'a>, AllocError> {
+    let help = "Read the items of the one array that each file is, over any number of lines";
+    flag(alloc, "array", help)
+        .conflicts_with("documents")?
+        .conflicts_with("values")
 }
 
 // Whether rows are values one after another.

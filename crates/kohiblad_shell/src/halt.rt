@@ -2,8 +2,9 @@
 
 ghost use Rattle.std.specs.Prelude.{◌≡◌};
 ghost use Rattle.kohiblad_shell.specs.Words.{Memory, error_kind, halt_of_read, halt_of_write};
-ghost use Rattle.kohiblad_shell.specs.Words.{halt_reason};
+ghost use Rattle.kohiblad_shell.specs.Words.{halt_of_fault, halt_reason};
 
+use array_items::ReadFault;
 use std::alloc::AllocError;
 use std::io;
 
@@ -39,6 +40,17 @@ impl From<AllocError> for Halt {
 
     fn from(_error: AllocError) -> Halt {
         Halt::Memory
+    }
+}
+
+impl From<ReadFault> for Halt {
+    ghost from_gives = { λ fault halt. halt ≡ halt_of_fault fault };
+
+    fn from(fault: ReadFault) -> Halt {
+        match fault {
+            ReadFault::Reader => Halt::Read,
+            ReadFault::Memory => Halt::Memory,
+        }
     }
 }
 

@@ -4,11 +4,12 @@ ghost use Rattle.std.specs.Prelude.{◌≡◌, IfOk, length, min};
 ghost use Rattle.std.specs.Int.{to_be_bytes, w64};
 ghost use Rattle.std.specs.List.{list_all};
 ghost use Rattle.kohiblad_shell.specs.Words.{AppendsHeld, AppendsHeldLine, Documents, ReadsLine};
-ghost use Rattle.kohiblad_shell.specs.Words.{ReadsPart, ReadsRow, ReadsText, is_blank};
+ghost use Rattle.kohiblad_shell.specs.Words.{ReadsPart, ReadsRow, are_values, is_blank};
+ghost use Rattle.kohiblad_shell.specs.Inputs.{found_if, found_item};
 ghost use Rattle.kohiblad_shell.specs.Words.{is_passed_over, strip_last};
 
 use crate::halt::{Halt, halt_of_read};
-use crate::value::read_value;
+use array_items::{ArrayFault, FoundItem, read_item, read_value};
 use byteorder::{BigEndian, ByteOrder};
 use jsonb::Exponents;
 use memchr::memchr;
@@ -17,13 +18,20 @@ use std::io::{self, BufRead};
 /// How rows stand one after another.
 #[derive(Clone, Copy)]
 pub enum Form {
-    /// JSON texts: one on each line, or one after another.
+    /// JSON texts: one on each line, one after another, or as the items of an array.
     Lines(Reading),
     /// Documents as a column stores them, each after its length.
     Documents,
 }
 
 impl Form {
+    /// Whether rows are values one after another.
+    pub fn has_values(self) -> bool
+        ensures { result ≡ are_values self }
+    {
+        matches!(self, Form::Lines(reading) if reading.texts == TextForm::Values)
+    }
+
     /// Whether a row gives nothing and is not wrong: a line that is empty, or has white space
     /// alone, where such lines are passed over.
     pub fn passes_over(self, row: &[u8]) -> bool
@@ -36,8 +44,8 @@ impl Form {
     }
 }
 
-// Whether a line has no byte but white space.
-fn is_empty_line(line: &[u8]) -> bool
+/// Whether a line has no byte but white space.
+pub fn is_empty_line(line: &[u8]) -> bool
     ensures { result ≡ list_all is_blank line.now }
 {
     line.iter().all(|byte| is_blank(*byte))
@@ -57,8 +65,19 @@ pub struct Reading {
     pub exponents: Exponents,
     /// Whether lines that are empty, or have white space alone, are passed over.
     pub passes_over_empty: bool,
-    /// Whether rows are values one after another, and not lines.
-    pub are_values: bool,
+    /// How they stand one after another.
+    pub texts: TextForm,
+}
+
+/// How texts stand one after another.
+#[derive(Clone, Copy, Debug, PartialEq, Eq)]
+pub enum TextForm {
+    /// One on each line.
+    Lines,
+    /// With white space between them, or without.
+    Values,
+    /// As the items of one array.
+    Items,
 }
 
 /// What a read found.
@@ -68,41 +87,47 @@ pub enum Found {
     Row,
     /// A row that is cut off: the input ends within it.
     Cut,
-    /// Nothing: no byte was left.
+    /// The beginning of an item: the input is no array.
+    NoArray(ArrayFault),
+    /// Nothing: no row is left.
     End,
 }
 
 // How many bytes the length before a document has.
 const LENGTH_BYTES: u64 = 8;
 
-/// Reads the next row in place of what `row` held: a line without its line feed, or the bytes of a
-/// document, or those of its bytes that are there. A line ends at a line feed; what follows the
+/// Reads the next row in place of what `row` held: a line without its line feed, a value, or the bytes
+/// of a document, or those of its bytes that are there. A line ends at a line feed; what follows the
 /// last line feed is a line unless it is empty. A length takes no memory before its bytes are read.
 pub fn read_row<R: BufRead>(form: Form, reader: &mut R, row: &mut Vec<u8>) -> Result<Found, Halt>
     ensures ok { IfOk result (λ found. ReadsRow form
         (R.remaining reader.old) (R.remaining reader.new) row.new.items found) }
 {
     match form {
-        Form::Lines(reading) => {
-            if read_text(reading, reader, row)? {
-                Ok(Found::Row)
-            } else {
-                Ok(Found::End)
-            }
-        }
+        Form::Lines(reading) => match reading.texts {
+            TextForm::Lines => Ok(found_if(read_line(reader, row)?)),
+            TextForm::Values => Ok(found_if(read_value(reader, row)?)),
+            TextForm::Items => Ok(found_item(read_item(reader, row)?)),
+        },
         Form::Documents => read_stored(reader, row),
     }
 }
 
-// Reads the next line or value in place of what `row` held. `false` if nothing is left.
-fn read_text<R: BufRead>(reading: Reading, reader: &mut R, row: &mut Vec<u8>) -> Result<bool, Halt>
-    ensures ok { IfOk result (λ is_row. ReadsText reading.are_values
-        (R.remaining reader.old) (R.remaining reader.new) row.new.items is_row) }
+// What was found where there is a row, or none is left.
+fn found_if(is_row: bool) -> Found
+    ensures { result ≡ found_if is_row }
 {
-    if reading.are_values {
-        read_value(reader, row)
-    } else {
-        read_line(reader, row)
+    if is_row { Found::Row } else { Found::End }
+}
+
+// What was found in an array.
+fn found_item(found: FoundItem) -> Found
+    ensures { result ≡ found_item found }
+{
+    match found {
+        FoundItem::Item => Found::Row,
+        FoundItem::End => Found::End,
+        FoundItem::Fault(fault) => Found::NoArray(fault),
     }
 }
 

@@ -66,7 +66,6 @@ mod titles;
 mod top;
 mod top_command;
 mod total;
-mod value;
 mod watch;
 mod write;
 

@@ -1,8 +1,12 @@
 //! The command that merges files whose rows are sorted.
 
 use crate::arguments::words_in;
-use crate::files::{BUFFER_LEN, closed, inputs_of, kind_after_mark, open_inputs, output_of};
+use crate::files::{
+    BUFFER_LEN, Input, closed, fault_at_start, form_after_line, inputs_of, kind_after_mark,
+    open_inputs, output_of,
+};
 use crate::halt::Halt;
+use crate::input::Form;
 use crate::kind::InputKind;
 use crate::merge::{self, InputFault, MergeEnd};
 use crate::messages::{ended, failure, misuse, name_kind};
@@ -12,7 +16,7 @@ use crate::output::Output;
 use crate::run::Summary;
 use crate::status::{Aim, NOT_FOUND};
 use clap::ArgMatches;
-use std::io::{BufRead, BufWriter};
+use std::io::{BufRead, BufWriter, Chain, Cursor, Read};
 
 // How many files are merged at most: each row is compared with the next one of every file.
 const MAX_MERGED: usize = 64;
@@ -28,7 +32,7 @@ pub fn write_merged(rt: &HostRuntime, job: Job<'_, '_>, arguments: &ArgMatches<'
         Err(status) => return status,
     };
     match open_inputs(rt, job.watch.progress, names) {
-        Ok(mut readers) => merge_readers(rt, job, &mut readers, names, output),
+        Ok(inputs) => merge_inputs(rt, job, inputs, names, output),
         Err(halt) => not_written(rt, output, halt),
     }
 }
@@ -38,25 +42,69 @@ fn not_written(rt: &HostRuntime, output: Output<'_>, halt: Halt) -> u8 {
     ended(rt, Aim::Rows, closed(output, Err(halt)))
 }
 
-// Merges the rows of these readers, which have names.
-fn merge_readers<R: BufRead>(
+/// Inputs that are merged: what each is if it has no rows, and the form of all rows.
+#[derive(Drop)]
+struct Begun<'a> {
+    readers: Vec<Chain<Cursor<Vec<u8>>, Input<'a>>>,
+    kinds: Vec<Option<InputKind>>,
+    form: Form,
+}
+
+// Begins to read these inputs, which have names. Values over several lines are read of all, if the
+// first line of one begins such a value.
+fn begin_inputs<'a>(
+    rt: &HostRuntime,
+    form: Form,
+    inputs: Vec<Input<'a>>,
+    names: &[&str],
+) -> Result<Begun<'a>, MergeEnd> {
+    let alloc = rt.alloc();
+    let mut begun = Begun {
+        readers: Vec::new(alloc),
+        kinds: Vec::new(alloc),
+        form,
+    };
+    for (index, input) in inputs.into_iter().enumerate() {
+        let mut input = input;
+        let name = names.get(index).copied().unwrap_or("-");
+        let kind = kind_after_mark(rt, name, form, &mut input);
+        let (own_form, lines) = form_after_line(alloc, form, &mut input)?;
+        if let Some(fault) = fault_at_start(form, &mut input)? {
+            return Err(MergeEnd::Faulty(InputFault {
+                input: index,
+                number: 1,
+                fault,
+            }));
+        }
+        if own_form.has_values() {
+            begun.form = own_form;
+        }
+        let reader = Cursor::new(lines).chain(input);
+        if begun.kinds.push(kind).is_err() || begun.readers.push(reader).is_err() {
+            return Err(MergeEnd::Halted(Halt::Memory));
+        }
+    }
+    Ok(begun)
+}
+
+// Merges the rows of these inputs, which have names.
+fn merge_inputs(
     rt: &HostRuntime,
     job: Job<'_, '_>,
-    readers: &mut [R],
+    inputs: Vec<Input<'_>>,
     names: &[&str],
     output: Output<'_>,
 ) -> u8 {
-    let mut kinds = Vec::new(rt.alloc());
-    for (reader, name) in readers.iter_mut().zip(names) {
-        if kinds
-            .push(kind_after_mark(rt, *name, job.form, reader))
-            .is_err()
-        {
-            return not_written(rt, output, Halt::Memory);
-        }
-    }
     let mut output = output;
-    let outcome = merge_to(rt, job, readers, &mut output);
+    let mut kinds = Vec::new(rt.alloc());
+    let outcome = match begin_inputs(rt, job.form, inputs, names) {
+        Ok(begun) => {
+            let mut readers = begun.readers;
+            kinds = begun.kinds;
+            merge_to(rt, job, begun.form, &mut readers, &mut output)
+        }
+        Err(end) => Err(end),
+    };
     job.watch.progress.clear();
     match outcome {
         Ok(rows) => {
@@ -81,6 +129,7 @@ fn merge_readers<R: BufRead>(
 fn merge_to<R: BufRead>(
     rt: &HostRuntime,
     job: Job<'_, '_>,
+    form: Form,
     readers: &mut [R],
     output: &mut Output<'_>,
 ) -> Result<u64, MergeEnd> {
@@ -88,7 +137,7 @@ fn merge_to<R: BufRead>(
     let Ok(mut writer) = BufWriter::with_capacity(alloc, BUFFER_LEN, output) else {
         return Err(MergeEnd::Halted(Halt::Memory));
     };
-    merge::merge(alloc, &job, job.form, readers, &mut writer)
+    merge::merge(alloc, &job, form, readers, &mut writer)
 }
 
 // Reports the fault at which a merge ended.

@@ -6,7 +6,7 @@ ghost use Rattle.kohiblad_shell.specs.Words.{IsDocument, owned_bytes};
 use crate::columns::split_name;
 use crate::extract::TypedPath;
 use crate::halt::Halt;
-use crate::input::Reading;
+use crate::input::{Reading, TextForm};
 use crate::messages::{failure, misuse, refused_path, refused_template};
 use crate::operand_kind::ValueKind;
 use crate::outcome::{LineFault, Unanswered, reason_text};
@@ -26,7 +26,7 @@ use jsonb_typed::{LeastType, parse_type};
 // How operands are read.
 const OPERAND: Reading = Reading {
     exponents: Exponents::Allowed,
-    are_values: false,
+    texts: TextForm::Lines,
     passes_over_empty: false,
 };
 

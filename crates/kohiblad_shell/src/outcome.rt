@@ -3,12 +3,13 @@
 ghost use Rattle.std.specs.Prelude.{◌≡◌, ℕ, List, IfOk, IfErr, OnErr, string_bytes};
 ghost use Rattle.kohiblad_shell.specs.Words.{IsAnswer, KeepsRule, LineRule, OutOfMemory};
 ghost use Rattle.kohiblad_shell.specs.Faults.{path_error_name};
-ghost use Rattle.kohiblad_shell.specs.Words.{fault_line, is_cut, plain_fault, reason_name};
-ghost use Rattle.kohiblad_shell.specs.Words.{reason_text};
+ghost use Rattle.kohiblad_shell.specs.Words.{array_fault_name, fault_line, is_cut, plain_fault};
+ghost use Rattle.kohiblad_shell.specs.Words.{reason_name, reason_text};
 
 use crate::escape::escaped_text;
 use crate::expected::expected_text;
 use crate::halt::Halt;
+use array_items::ArrayFault;
 use jsonb_path::PathError;
 use std::alloc::{AllocError, Global};
 
@@ -35,6 +36,8 @@ pub enum Reason {
     NotOfType,
     /// A path is given up that is asked of it.
     GivenUp(PathError),
+    /// The input is no array from it on.
+    NoArray(ArrayFault),
 }
 
 impl Reason {
@@ -53,6 +56,7 @@ impl Reason {
             Reason::NotSorted => "NotSorted",
             Reason::NotOfType => "NotOfType",
             Reason::GivenUp(error) => path_error_name(error),
+            Reason::NoArray(fault) => array_fault_name(fault),
         }
     }
 
@@ -60,7 +64,20 @@ impl Reason {
     pub fn is_cut(self) -> bool
         ensures { result ≡ is_cut self }
     {
-        self == Reason::Cut
+        matches!(self, Reason::Cut | Reason::NoArray(_))
+    }
+}
+
+// The word for why an input is no array.
+fn array_fault_name(fault: ArrayFault) -> &'static str
+    ensures { result.now ≡ array_fault_name fault }
+{
+    match fault {
+        ArrayFault::NoArray => "NoArray",
+        ArrayFault::NoItem => "NoItem",
+        ArrayFault::NoComma => "NoComma",
+        ArrayFault::NoEnd => "NoEnd",
+        ArrayFault::AfterEnd => "AfterEnd",
     }
 }
 

@@ -3,7 +3,7 @@
 
 ghost use Rattle.std.specs.Prelude.{◌≡◌, ◌≤◌, ◌∷◌, [], Ok, IfOk, OnOk, OnErr, IfSome};
 ghost use Rattle.kohiblad_shell.specs.Words.{AnswersNext, Appends, AppendsPrefix, BeginsRun};
-ghost use Rattle.kohiblad_shell.specs.Words.{IsRun, Keeps, both, fault_line, of_reports};
+ghost use Rattle.kohiblad_shell.specs.Words.{IsRun, Keeps, both, fault_line, of_reports, stopped_at_start};
 ghost use Rattle.kohiblad_shell.specs.Words.{after_answer, gives_nothing, row_count, stops_at};
 
 use crate::halt::Halt;
@@ -23,8 +23,8 @@ pub struct Plan<'a> {
 }
 
 impl Plan<'_> {
-    /// Whether a run ends at a fault: at the first one, or at a row that is cut off, after which no
-    /// row can be found.
+    /// Whether a run ends at a fault: at the first one, or at a row that is cut off or at which the
+    /// input is no array, after which no row can be found.
     pub fn stops_at(&self, fault: LineFault) -> bool
         ensures { result ≡ stops_at self.now (Err fault) }
     {
@@ -52,6 +52,18 @@ impl Summary {
             faults: self.faults.saturating_add(other.faults),
             is_stopped: self.is_stopped || other.is_stopped,
             lacks_input: self.lacks_input || other.lacks_input,
+        }
+    }
+
+    /// The counts of a run that ended at its first row, which was wrong.
+    pub fn stopped_at_start() -> Summary
+        ensures { result ≡ stopped_at_start }
+    {
+        Summary {
+            rows: 0,
+            faults: 1,
+            is_stopped: true,
+            lacks_input: false,
         }
     }
 
@@ -197,6 +209,10 @@ pub fn answer_next<L: LineWorker, R: BufRead>(
             Err(Unanswered::OutOfMemory) => Err(Halt::Memory),
         },
         Found::Cut => Ok(Answer::Wrong(LineFault::plain(row.len(), Reason::Cut))),
+        Found::NoArray(fault) => {
+            let reason = Reason::NoArray(fault);
+            Ok(Answer::Wrong(LineFault::plain(row.len(), reason)))
+        }
     }
 }
 

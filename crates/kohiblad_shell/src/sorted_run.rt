@@ -160,7 +160,7 @@ fn read_head<R: BufRead>(run: &mut R, head: &mut RunHead) -> Result<(), Halt>
             head.is_there = false;
             return Ok(());
         }
-        Found::Cut => return Err(Halt::Read),
+        Found::Cut | Found::NoArray(_) => return Err(Halt::Read),
         Found::Row => {}
     }
     match read_row(Form::Documents, run, &mut head.line)? {
