@@ -1,3 +1,4 @@
 pub mod ArraySteps
+pub mod ArrayTextLaws
 pub mod BlankSteps
 pub mod ValueSteps

@@ -4,6 +4,7 @@
 
 mod array;
 mod held;
+pub mod laws;
 mod line;
 #[cfg(test)]
 mod tests;
