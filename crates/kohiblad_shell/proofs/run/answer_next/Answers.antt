@@ -23,8 +23,8 @@ returns-in-Cut-clause-answer g c =
 
 pub returns-in-NoArray-clause-answer : goal.returns-in-NoArray-clause-answer
 returns-in-NoArray-clause-answer g c =
-    let same : c.len.result ≡ length c.read_row.new.row.items = grind (arith, common_steps) in
-    rw (c.plain.ensures, same)
+    let same : c.len-in-NoArray.result ≡ length c.read_row.new.row.items = grind (arith, common_steps) in
+    rw (c.plain-in-NoArray.ensures, same)
     (next_no_array _ _ _ _ c.read_row.new.row.items c.in-NoArray.fault
     (rw c.in-NoArray.is at c.in_ok-read_row.ensures.ok))
 
