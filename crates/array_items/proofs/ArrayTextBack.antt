@@ -1,22 +1,23 @@
 -- A text whose reads come to the end of an array is an array.
-use Rattle.std.proofs.Common.{◌≡◌, ◌≢◌, ℕ, ◌==◌, ◌||◌, ◌+◌, ◌-◌, Bool, true, false, not, List, [], ◌∷◌, ◌++◌}
+use Rattle.std.proofs.Common.{◌≡◌, ◌≢◌, ℕ, ◌==◌, ◌||◌, ◌+◌, ◌-◌, Bool, true, false, List, []}
+use Rattle.std.proofs.Common.{◌∷◌, ◌++◌}
 use Rattle.std.proofs.Common.{refl, ap, ap₂, subst, sym, ◌∙◌, append-nil, arith}
 use Rattle.std.proofs.lemmas.Bool.{false≢true}
 use Rattle.std.proofs.lemmas.Bool.Decides.{nat_tests}
-use Rattle.std.specs.Prelude.{◌&&◌, if◌then◌else◌, ⊤, Some}
+use Rattle.std.specs.Prelude.{if◌then◌else◌, ⊤}
 use Rattle.jsonb_value.specs.Json.Characters.{all_blank, is_blank}
 use Rattle.array_items.specs.Arrays.{ItemRead, end_read, ends_item, first_read, found_after}
-use Rattle.array_items.specs.Arrays.{is_array_start, item_at_end, item_at_first, item_at_next}
-use Rattle.array_items.specs.Arrays.{item_before, item_in, mark_read, next_read}
+use Rattle.array_items.specs.Arrays.{is_array_start, item_at_end}
+use Rattle.array_items.specs.Arrays.{item_before, mark_read, next_read}
 use Rattle.array_items.specs.ArrayTexts as texts
-use Rattle.array_items.specs.ArrayTexts.{AreLater, IsArrayText, IsItem, ReadsItems, begins_item}
+use Rattle.array_items.specs.ArrayTexts.{AreLater, IsArrayText, IsItem, ReadsItems}
 use Rattle.array_items.specs.ArrayTexts.{may_end}
 use Rattle.array_items.specs.Blanks.{first_byte, trimmed}
 use Rattle.array_items.specs.Values.{closes, ended, ends_word, first_step, left_by, left_from}
 use Rattle.array_items.specs.Values.{opens, place_after, place_by, step_at, value_by, value_from}
 use Rattle.array_items.specs.declared.array.ArrayFault.{ArrayFault}
-use Rattle.array_items.specs.declared.array.ArrayFault.TheVariants.{NoItem, NoComma, NoEnd, AfterEnd}
-use Rattle.array_items.specs.declared.array.FoundItem.{FoundItem}
+use Rattle.array_items.specs.declared.array.ArrayFault.TheVariants.{NoItem, NoComma}
+use Rattle.array_items.specs.declared.array.ArrayFault.TheVariants.{NoEnd, AfterEnd}
 use Rattle.array_items.specs.declared.array.FoundItem.TheVariants.{Item, End, Fault}
 use Rattle.array_items.specs.declared.value.Place.{Place}
 use Rattle.array_items.specs.declared.value.Place.TheVariants.{Before, Word, After, Container}
@@ -100,7 +101,8 @@ takes_within Leave is = absurd is
 step_within : (place : Place) (b : ℕ) → within place ≡ true → Within (step_at place b)
 step_within Before b is = absurd (false≢true is)
 step_within Word b is = choose Within (ends_word b) Leave (Take Word) tt refl
-step_within (Container depth) b is = takes_within (step_at (Container depth) b) (container_takes depth b)
+step_within (Container depth) b is =
+    takes_within (step_at (Container depth) b) (container_takes depth b)
 step_within (Text depth) b is = takes_within (step_at (Text depth) b) (text_takes depth b)
 step_within (Escape depth) b is = refl
 step_within After b is = tt
@@ -220,7 +222,8 @@ found_by bytes item left b more begun not_blank not_end read =
     let found : found_after (trimmed rest) ≡ Item = ap (λ (r : ItemRead). r.found) read in
     let same : value_from Before (b ∷ more) ≡ item = ap (λ (r : ItemRead). r.item) read in
     let lefts : trimmed rest ≡ left = ap (λ (r : ItemRead). r.left) read in
-    let some : rest ≢ [] = λ none. nothing_found (ap (λ (l : List ℕ). found_after (trimmed l)) (sym none) ∙ found) in
+    let some : rest ≢ [] = λ none. nothing_found
+    (ap (λ (l : List ℕ). found_after (trimmed l)) (sym none) ∙ found) in
     let front = split bytes in
     let back = split rest in record {
       before = front.blank;
@@ -301,7 +304,8 @@ next_found bytes item left (b ∷ more) is read = by (ends_item b) refl
   where
     by : (t : Bool) → ends_item b ≡ t → Found bytes item left
     by true ends =
-        let same : next_read (b ∷ more) ≡ record { found = Fault NoItem; item = []; left = b ∷ more } = rw ends refl in
+        let same : next_read (b ∷ more)
+        ≡ record { found = Fault NoItem; item = []; left = b ∷ more } = rw ends refl in
         absurd (fault_is_item NoItem (ap (λ (r : ItemRead). r.found) (sym same ∙ read)))
     by false ends =
         let same : next_read (b ∷ more)

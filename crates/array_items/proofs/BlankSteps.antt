@@ -6,10 +6,9 @@ use Rattle.std.specs.Prelude.{Option, Some, None, IfSome, ⊤}
 use Rattle.std.specs.Io.{StartsWith}
 use Rattle.std.specs.Io.KnownBytes.{Consumes}
 use Rattle.jsonb_value.specs.Json.Characters.{is_blank}
-use Rattle.array_items.specs.Blanks.{PassesBlanks, PassesHeld, PassesPart, first_byte}
+use Rattle.array_items.specs.Blanks.{PassesHeld, PassesPart, first_byte}
 use Rattle.array_items.specs.Blanks.{left_after, next_of, trimmed}
 use Rattle.array_items.specs.declared.held.Next.{Next}
-use Rattle.array_items.specs.declared.held.Next.TheVariants.{Byte, End, Again}
 
 abbrev pub Known : Type 0
 Known = Option (List ℕ)
@@ -97,26 +96,3 @@ abbrev pub Passed : Known → Known → Type 0
 Passed None new = ⊤
 Passed (Some bytes) None = ⊥
 Passed (Some bytes) (Some rest) = trimmed bytes ≡ trimmed rest
-
-pub passed_part : (is_taken : Bool) (old mid new : Known) → Passed old mid
-    → PassesHeld is_taken mid new Again → Passed old new
-passed_part is_taken None mid new so_far part = tt
-passed_part is_taken (Some bytes) None new so_far part = absurd so_far
-passed_part is_taken (Some bytes) (Some more) None so_far part = absurd part
-passed_part is_taken (Some bytes) (Some more) (Some rest) so_far part = so_far ∙ part
-
-pub passed_to_byte : (is_taken : Bool) (old mid new : Known) (b : ℕ) → Passed old mid
-    → PassesHeld is_taken mid new (Byte b) → PassesBlanks is_taken old new (Some b)
-passed_to_byte is_taken None mid new b so_far part = tt
-passed_to_byte is_taken (Some bytes) None new b so_far part = absurd so_far
-passed_to_byte is_taken (Some bytes) (Some more) None b so_far part = absurd part
-passed_to_byte is_taken (Some bytes) (Some more) (Some rest) b so_far part = rw so_far part
-
-pub passed_to_end : (is_taken : Bool) (old mid new : Known) → Passed old mid
-    → PassesHeld is_taken mid new End → PassesBlanks is_taken old new None
-passed_to_end is_taken None mid new so_far part = tt
-passed_to_end is_taken (Some bytes) None new so_far part = absurd so_far
-passed_to_end is_taken (Some bytes) (Some more) None so_far part = absurd part
-passed_to_end is_taken (Some bytes) (Some more) (Some rest) so_far part =
-    let none : trimmed bytes ≡ [] = so_far ∙ ap trimmed part.0 in
-    (sym (ap first_byte none), part.1 ∙ sym (ap (left_after is_taken) none))

@@ -43,8 +43,8 @@ pub fn begins_array<R: BufRead>(reader: &mut R) -> Result<bool, ReadFault>
 }
 
 /// Reads the next item of an array in place of what `item` held: at the `[` of an array the first
-/// one, and where the read before it ended the one after it. An item is read without the white space
-/// around it, and the next read begins at the comma after it, or at the `]`.
+/// one, and where the read before it ended the one after it. An item is read without the white
+/// space around it, and the next read begins at the comma after it, or at the `]`.
 ///
 /// An item is told by its brackets and quotes alone: whether it is JSON is not.
 pub fn read_item<R: BufRead>(reader: &mut R, item: &mut Vec<u8>) -> Result<FoundItem, ReadFault>

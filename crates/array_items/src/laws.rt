@@ -7,8 +7,8 @@ ghost use Rattle.array_items.specs.Blanks.{first_byte};
 ghost use Rattle.array_items.specs.Words.{trimmed};
 
 /// Reads find the items of the array that a text is, in order, and then its end; and a text that
-/// begins with `[`, of which they find the end, is the array of what they found. A text is one array
-/// at most.
+/// begins with `[`, of which they find the end, is the array of what they found. A text is one
+/// array at most.
 pub fn array_laws()
     ensures reads { (text : List ℕ) (items : List (List ℕ))
         → IsArrayText text items → ReadsItems text items }

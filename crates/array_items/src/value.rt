@@ -145,8 +145,8 @@ fn closes(byte: u8) -> bool
     byte == b']' || byte == b'}'
 }
 
-/// Reads the next value in place of what `value` held, without the white space before it. `false` if
-/// nothing but white space is left, which is taken.
+/// Reads the next value in place of what `value` held, without the white space before it. `false`
+/// if nothing but white space is left, which is taken.
 ///
 /// A value is told by its brackets and quotes alone: whether it is JSON is not.
 pub fn read_value<R: BufRead>(reader: &mut R, value: &mut Vec<u8>) -> Result<bool, ReadFault>
