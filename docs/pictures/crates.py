@@ -12,7 +12,7 @@ PLACES = {
     "typed_chunk": (1.5, 5, "green"),
     "text_lookup": (1.52, 3, "green"), "kept_rows": (0, 2, "green"),
     "exact_mean": (5.5, 3, "green"), "jsonb_rows": (0.45, 5, "green"),
-    "array_items": (1, 3, "green"),
+    "array_items": (0.9, 1, "green"),
     "kohiblad_shell": (0.5, 6, "blue"), "jsonb_typed_file": (2.8, 6, "green"),
     "jsonb_typed": (3.6, 5, "green"), "tests_of_calls": (4.1, 7, "plain"),
     "tests_of_documents": (2.55, 5, "plain"), "tests_of_paths": (5.5, 6, "plain"),

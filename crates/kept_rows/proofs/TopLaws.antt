@@ -6,7 +6,10 @@ use Rattle.std.proofs.lemmas.List.{length-map, map-append}
 use Rattle.std.proofs.lemmas.Simd.{map-map}
 use Rattle.std.proofs.Common.{Ordering, Less, Equal, Greater, ap, arith}
 use Rattle.std.proofs.Common.{Option, Some, None, IfOk, IfSome, IsSome, Result, Ok, Err}
-use Rattle.std.proofs.Common.{if◌then◌else◌}
+use Rattle.std.proofs.Common.{if◌then◌else◌, map-id}
+use Rattle.std.specs.Prelude.{flat_map, vec_items}
+use Rattle.std.specs.List.{AllZip}
+use Rattle.std.proofs.lemmas.Slice.Zip.{AllZip-map}
 use Rattle.std.specs.Cmp.Lexicographic.{slice_cmp}
 use Rattle.std.specs.Ordering.{is_lt, match_ordering, nat_cmp}
 use Rattle.std.specs.Ordering.{ordering_then}
@@ -189,3 +192,26 @@ lines_of stored (Ok lines) is =
     ∙ map-map (λ (line : Vec ℕ Global). line.items) (λ (s : Stored). s.1) stored
     ∙ sym (map-map row_line kept_row stored)
 lines_of stored (Err e) is = tt
+
+-- ---- lines joined
+
+flat_same : (lines : List (Vec ℕ Global)) (rows : List Row)
+    → map (λ line. line.items) lines ≡ map row_line rows
+    → flat_map vec_items lines ≡ flat_map row_line rows
+flat_same [] [] same = refl
+flat_same (l ∷ ls) (r ∷ rs) same =
+    let head : l.items ≡ row_line r = cc in
+    let tail : map (λ line. line.items) ls ≡ map row_line rs = cc in
+    ap (λ bytes. bytes ++ flat_map vec_items ls) head
+    ∙ ap (λ bytes. row_line r ++ bytes) (flat_same ls rs tail)
+flat_same [] (r ∷ rs) same = absurd cc
+flat_same (l ∷ ls) [] same = absurd cc
+
+pub joined : {E : Type 0} (result : Result (Vec ℕ Global) E) (lines : List (Vec ℕ Global))
+    (rows : List Row) → map (λ line. line.items) lines ≡ map row_line rows
+    → IfOk result (λ bytes. AllZip (λ x y. y ≡ x) (flat_map vec_items lines) bytes.items)
+    → IfOk result (λ bytes. bytes.items ≡ flat_map row_line rows)
+joined (Ok bytes) lines rows same clones =
+    AllZip-map (λ x. x) (flat_map vec_items lines) bytes.items clones
+    ∙ map-id (flat_map vec_items lines) ∙ flat_same lines rows same
+joined (Err e) lines rows same clones = tt

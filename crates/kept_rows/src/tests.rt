@@ -18,10 +18,7 @@ fn first_in_order(rt: HostRuntime) -> Result<(), AllocError> {
     for (key, line) in [(3, b"w"), (1, b"x"), (2, b"y"), (1, b"z")] {
         top.add(rt.alloc(), &[key], line)?;
     }
-    let lines = top.into_lines(rt.alloc())?;
-    assert_eq!(rt; lines.len(), 3);
-    assert!(rt; lines[0].as_slice() == b"x".as_slice());
-    assert!(rt; lines[1].as_slice() == b"z".as_slice());
-    assert!(rt; lines[2].as_slice() == b"y".as_slice());
+    let bytes = top.into_bytes(rt.alloc())?;
+    assert!(rt; bytes.as_slice() == b"xzy".as_slice());
     Ok(())
 }

@@ -1,6 +1,7 @@
 //! The first rows in the order of their keys.
 
-ghost use Rattle.std.specs.Prelude.{◌≡◌, ◌≤◌, [], IfOk, OnErr, OnOk, length, map};
+ghost use Rattle.std.specs.Prelude.{◌≡◌, ◌≤◌, [], IfOk, OnErr, OnOk, flat_map, length};
+ghost use Rattle.std.specs.Prelude.{map};
 ghost use Rattle.kept_rows.specs.FirstRows.{row_line};
 ghost use Rattle.kept_rows.specs.TopRows.{AreFirstSorted, AreNumberedBelow, Top, kept_row};
 ghost use Rattle.kept_rows.specs.TopRows.{with_added};
@@ -61,8 +62,15 @@ impl TopRows {
         Ok(())
     }
 
-    /// The rows that are kept, without their keys, in the order of these.
-    pub fn into_lines(self, alloc: Global) -> Result<Vec<Vec<u8>>, AllocError>
+    /// The rows that are kept, without their keys, one after another in the order of these.
+    pub fn into_bytes(self, alloc: Global) -> Result<Vec<u8>, AllocError>
+        ensures { IfOk result (λ bytes. bytes.items ≡ flat_map row_line self.rows) }
+    {
+        self.into_lines(alloc)?.concat(alloc)
+    }
+
+    // The rows that are kept, without their keys, in the order of these.
+    fn into_lines(self, alloc: Global) -> Result<Vec<Vec<u8>>, AllocError>
         ensures { IfOk result (λ lines. map (λ line. line.items) lines.items
             ≡ map row_line self.rows) }
     {

@@ -1,5 +1,5 @@
 -- Rows that are kept by their keys.
-use Rattle.std.proofs.Common.{◌≡◌, ◌∙◌, ℕ, Bool, true, false, List, Vec, Global, Result, Ok, Err}
+use Rattle.std.proofs.Common.{◌≡◌, ◌∙◌, ℕ, Bool, true, false, List, Result, Ok, Err}
 use Rattle.std.proofs.Common.{[], ◌∷◌, ◌++◌, ◌<◌, OnErr, ap, arith, inr, length, not, refl, sym}
 use Rattle.std.proofs.lemmas.List.{append-nil}
 use Rattle.answer_lines.specs.Output.{AppendsPrefix}
@@ -9,10 +9,6 @@ use Rattle.kohiblad_shell.specs.KeptWrites.{AppendsPrefixIfNew}
 use Rattle.kohiblad_shell.specs.Sorts.{keyed_bytes}
 use Rattle.kohiblad_shell.specs.declared.halt.Halt.{Halt}
 use Rattle.kohiblad_shell.specs.declared.sort.Keyed.{Keyed}
-
--- the bytes of a line
-abbrev pub line_bytes : Vec ℕ Global → List ℕ
-line_bytes line = line.items
 
 -- nothing stands after a row
 pub lone_row : (bytes rest : List ℕ) (row : Keyed) → bytes ≡ keyed_bytes row ++ rest

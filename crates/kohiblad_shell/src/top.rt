@@ -1,6 +1,7 @@
 //! The first rows in the order of their keys.
 
 ghost use Rattle.std.specs.Prelude.{◌≡◌, OnErr, OnOk, flat_map};
+ghost use Rattle.kept_rows.specs.FirstRows.{row_line};
 ghost use Rattle.kohiblad_shell.specs.KeptWrites.{KeepsAmongFirst};
 ghost use Rattle.kohiblad_shell.specs.Words.{Appends, AppendsPrefix};
 
@@ -37,8 +38,7 @@ impl TopSink {
 
     /// Writes the rows that are kept.
     pub fn write_top<W: Write>(self, writer: &mut W) -> Result<(), Halt> {
-        let lines = self.top.into_lines(self.alloc)?;
-        write_lines(writer, &lines)
+        write_kept(self.alloc, self.top, writer)
     }
 }
 
@@ -69,15 +69,14 @@ fn keep_top(alloc: Global, top: &mut TopRows, keyed: &[u8]) -> Result<(), Halt>
     Ok(top.add(alloc, row.key, row.line)?)
 }
 
-// Writes the lines, in order. After an error a prefix of them is written.
-fn write_lines<W: Write>(writer: &mut W, lines: &[Vec<u8>]) -> Result<(), Halt>
+// Writes the rows that are kept. After an error a prefix of them is written.
+fn write_kept<W: Write>(alloc: Global, top: TopRows, writer: &mut W) -> Result<(), Halt>
     ensures ok { OnOk result (Appends (W.contents writer.old) (W.contents writer.new)
-        (flat_map (λ line. line.items) lines.now)) }
+        (flat_map row_line top.rows)) }
     ensures err { OnErr result (AppendsPrefix (W.contents writer.old) (W.contents writer.new)
-        (flat_map (λ line. line.items) lines.now)) }
+        (flat_map row_line top.rows)) }
 {
-    for line in lines {
-        write_bytes(writer, line)?;
-    }
+    let bytes = top.into_bytes(alloc)?;
+    write_bytes(writer, &bytes)?;
     flush(writer)
 }
