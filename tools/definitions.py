@@ -20,8 +20,8 @@ from rattle import (PROGRAMS, TOP, cited, exported, facts_of, files_of, function
 
 CRATES = [
     "jsonb_value", "json_fault", "jsonb_codec", "jsonb", "jsonb_comparable", "jsonb_functions",
-    "jsonb_rows", "jsonb_pattern", "jsonb_path", "text_lookup", "array_items", "kept_rows", "exact_mean",
-    "uses", "typed_vector", "jsonb_typed", "answer_lines", "jsonb_cli", "jsonb_typed_file",
+    "jsonb_rows", "jsonb_pattern", "jsonb_path", "text_lookup", "array_items", "kept_rows", "uses",
+    "typed_vector", "jsonb_typed", "answer_lines", "jsonb_cli", "jsonb_typed_file",
     "kohiblad_shell", "kohiblad",
 ]
 # The functions of programs that count as public.

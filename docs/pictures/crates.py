@@ -11,7 +11,7 @@ PLACES = {
     "jsonb_functions": (4.4, 4, "green"), "json_fault": (5.5, 5, "green"),
     "typed_chunk": (1.5, 5, "green"),
     "text_lookup": (1.52, 3, "green"), "kept_rows": (0, 2, "green"),
-    "exact_mean": (5.5, 3, "green"), "jsonb_rows": (0.45, 5, "green"),
+    "jsonb_rows": (0.45, 5, "green"),
     "array_items": (0.9, 1, "green"),
     "kohiblad_shell": (0.5, 6, "blue"), "jsonb_typed_file": (2.8, 6, "green"),
     "jsonb_typed": (3.6, 5, "green"), "tests_of_calls": (4.1, 7, "plain"),
