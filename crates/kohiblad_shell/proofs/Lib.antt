@@ -8,6 +8,7 @@ pub mod KeptLaws
 pub mod KeyLaws
 pub mod KeyOrderLaws
 pub mod RemovalLaws
+pub mod MemberLaws
 pub mod GroupLaws
 pub mod GroupedLaws
 pub mod GroupRowLaws

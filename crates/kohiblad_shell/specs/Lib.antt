@@ -28,6 +28,7 @@ pub mod Columns
 pub mod Made
 pub mod Templates
 pub mod Operations
+pub mod Members
 pub mod Surveys
 pub mod SurveyJson
 pub mod Totals

@@ -171,9 +171,9 @@ pub fn kind_after_mark<R: BufRead>(
     kind_of(form, reader)
 }
 
-/// How the texts of an input stand that is read as lines: as values one after another if its first line
-/// that is not empty begins an array or an object and does not end it. The lines up to that one are
-/// read, which come before all others.
+/// How the texts of an input stand that is read as lines: as values one after another if its first
+/// line that is not empty begins an array or an object and does not end it. The lines up to that one
+/// are read, which come before all others.
 pub fn form_after_line<R: BufRead>(
     alloc: Global,
     form: Form,
@@ -184,8 +184,12 @@ pub fn form_after_line<R: BufRead>(
         Form::Lines(reading) if reading.texts == TextForm::Lines => reading,
         _ => return Ok((form, lines)),
     };
-    while lines.len() < BUFFER_LEN {
+    // Each line has a byte at least.
+    for _ in 0..BUFFER_LEN {
         let start = lines.len();
+        if start >= BUFFER_LEN {
+            break;
+        }
         match reader.read_until(b'\n', &mut lines) {
             Ok(0) => return Ok((form, lines)),
             Ok(_) if is_empty_line(&lines[start..]) => {}

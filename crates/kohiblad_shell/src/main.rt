@@ -26,6 +26,7 @@ mod iso_text;
 mod key;
 mod kind;
 mod mark;
+mod member;
 mod merge;
 mod merge_command;
 mod messages;

@@ -1,7 +1,8 @@
 //! What a command does with each row.
 
 ghost use Rattle.std.specs.Prelude.{◌≡◌, ◌++◌, ◌∷◌, [], IfOk, IfErr, map, string_bytes};
-ghost use Rattle.std.specs.Prelude.{option_map, option_to_list};
+ghost use Rattle.std.specs.Option.{ForSome};
+ghost use Rattle.std.specs.Prelude.{Ok, option_map, option_to_list};
 ghost use Rattle.kohiblad_shell.specs.Words.{Fits, HoldsNoScalar, IsCanonicalRow, IsOutcome};
 ghost use Rattle.kohiblad_shell.specs.Words.{IsResultOf, IsRowAnswer, IsTypedLine};
 ghost use Rattle.kohiblad_shell.specs.Words.{MadeWithMemory, canon};
@@ -11,12 +12,14 @@ ghost use Rattle.kohiblad_shell.specs.Words.{key_and_line, made_row, node_tree, 
 ghost use Rattle.kohiblad_shell.specs.Words.{raw_text, read_row_rule, row_key, row_rule, text_of};
 ghost use Rattle.kohiblad_shell.specs.Words.{value_line, value_lines};
 ghost use Rattle.kohiblad_shell.specs.Operations.{IsFirstGiven, IsGiven};
+ghost use Rattle.kohiblad_shell.specs.declared.input.Form.TheVariants.{Lines};
 ghost use Rattle.jsonb_path.specs.Found.{outcome_of};
 
 use crate::extract::table_line;
 use crate::first::{asked, first_of, given_up, passes_path};
-use crate::input::Form;
+use crate::input::{Form, Reading};
 use crate::key::row_key;
+use crate::member::member_line;
 use crate::outcome::{LineFault, LineWorker, Reason, Unanswered};
 use crate::part_lines::Look;
 use crate::range::{ValueRange, is_in_range};
@@ -33,7 +36,7 @@ use jsonb::{Document, Error, Node, OwnedJsonb, RawJsonb, append_row};
 use jsonb_functions::{Edit, Kept, Step, contains, edit_document, merge_patch, pick, strip_nulls};
 use jsonb_path::{Outcome, Path};
 use jsonb_rows::{EachEdit, Reach, edit_each};
-use std::alloc::Global;
+use std::alloc::{AllocError, Global};
 
 /// How a value is written.
 #[derive(Clone, Copy, Debug, PartialEq, Eq)]
@@ -142,18 +145,47 @@ fn read_row_lines(alloc: Global, job: Job<'_, '_>, row: &[u8]) -> Result<Vec<u8>
     ensures { IsOutcome (read_row_rule job.entry row.now) result }
 {
     match job.form {
-        Form::Lines(reading) => {
-            let owned = parse_line(alloc, row, reading)?;
-            let document = Document::new_unchecked(owned.as_bytes());
-            job.watch.see(alloc, job.operation, document)?;
-            row_lines(alloc, job, row, document)
-        }
+        Form::Lines(reading) => match looked_up(alloc, job, row, reading)? {
+            Some(lines) => Ok(lines),
+            None => {
+                let owned = parse_line(alloc, row, reading)?;
+                let document = Document::new_unchecked(owned.as_bytes());
+                job.watch.see(alloc, job.operation, document)?;
+                row_lines(alloc, job, row, document)
+            }
+        },
         Form::Documents => {
             let document = check_document(row)?;
             job.watch.see(alloc, job.operation, document)?;
             row_lines(alloc, job, row, document)
         }
     }
+}
+
+// The lines that a job writes for a line of which it asks for the value at one key, if the document
+// of the line is not needed for it. After a line of which it was, none is looked up in.
+fn looked_up(
+    alloc: Global,
+    job: Job<'_, '_>,
+    row: &[u8],
+    reading: Reading,
+) -> Result<Option<Vec<u8>>, AllocError>
+    requires { job.form ≡ Lines reading }
+    ensures { IfOk result (λ found. ForSome found
+        (λ lines. read_row_rule job.entry row.now (Ok lines.items))) }
+{
+    let Operation::Get(path, style) = job.operation else {
+        return Ok(None);
+    };
+    if job.watch.reads_documents() {
+        return Ok(None);
+    }
+    let found = member_line(alloc, row, reading, path, style)?;
+    match &found {
+        Some(lines) => job.watch.see_member(!lines.is_empty()),
+        None => job.watch.read_documents(),
+    }
+    Ok(found)
 }
 
 // The lines that a job writes for a row and its document, or why there are none.
@@ -391,8 +423,8 @@ fn all_lines(alloc: Global, nodes: &[Node<'_>], style: Style) -> Result<Vec<u8>,
     Ok(lines)
 }
 
-// The line of a value.
-fn value_line(alloc: Global, node: Node<'_>, style: Style) -> Result<Vec<u8>, Error>
+/// The line of a value. `OutOfMemory` is the only error.
+pub fn value_line(alloc: Global, node: Node<'_>, style: Style) -> Result<Vec<u8>, Error>
     ensures ok { IfOk result (λ line. line.items ≡ value_line style (node_tree node.entry)) }
     ensures memory { IfErr result (λ e. e ≡ Error.OutOfMemory) }
 {

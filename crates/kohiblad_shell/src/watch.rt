@@ -14,12 +14,14 @@ use std::alloc::{AllocError, Global};
 use std::cell::Cell;
 
 /// Whether the first paths of an operation led to a value in some row so far, how far the run is,
-/// and whether it came to the end of its input.
+/// whether it came to the end of its input, and whether the value at a key was not to be had
+/// without the document of some row.
 #[derive(Drop)]
 pub struct Watch<'a> {
     pub have_led: Vec<Cell<bool>>,
     pub progress: &'a Progress<'a>,
     pub is_whole: Cell<bool>,
+    reads_documents: Cell<bool>,
 }
 
 impl<'a> Watch<'a> {
@@ -37,7 +39,28 @@ impl<'a> Watch<'a> {
             have_led,
             progress,
             is_whole: Cell::new(false),
+            reads_documents: Cell::new(false),
         })
+    }
+
+    /// Whether rows are read into documents even where the value at a key is asked for.
+    pub fn reads_documents(&self) -> bool {
+        self.reads_documents.get()
+    }
+
+    /// Notes that the value at a key was not to be had without the document of a row.
+    pub fn read_documents(&self) {
+        self.reads_documents.set(true);
+    }
+
+    /// Notes a row in which the value at a key was looked up, and whether there is one.
+    pub fn see_member(&self, is_there: bool) {
+        self.progress.count_row();
+        for has_led in &self.have_led {
+            if is_there {
+                has_led.set(true);
+            }
+        }
     }
 
     /// Notes the document of a row, and to which paths it has a value of those that led to none in

@@ -1,4 +1,4 @@
-use Rattle.std.proofs.Common.{◌≡◌, ◌∙◌, arith, not, rules, sym, true}
+use Rattle.std.proofs.Common.{◌≡◌, not, rules, true}
 use Rattle.kept_rows.specs.FirstRows.{has_key}
 use Rattle.kohiblad_shell.proofs.KeptLaws.{lone_row, new_breaks}
 use Rattle.kohiblad_shell.specs.Sorts.{keyed_bytes}
