@@ -3,8 +3,8 @@
 use crate::arguments::{output_in, shows_progress_in, words_in};
 use crate::columns::column_words;
 use crate::commands::End;
-use crate::halt::{Halt, halt_of_read};
-use crate::input::{Form, Reading, TextForm, is_empty_line};
+use crate::halt::Halt;
+use crate::input::{Form, TextForm};
 use crate::kind::{InputKind, input_kind};
 use crate::mark::pass_mark;
 use crate::messages::{misuse, name_kind, notice_mark, tell_failed};
@@ -14,11 +14,10 @@ use crate::output::Output;
 use crate::progress::{Metered, Progress};
 use crate::removal::path_count;
 use crate::run::{self, Plan, Summary, report_fault};
-use array_items::{ArrayFault, begins_array, begins_container};
+use array_items::{ArrayFault, begins_array};
 use clap::ArgMatches;
-use std::alloc::Global;
 use std::fs::{self, File};
-use std::io::{self, BufRead, BufReader, Cursor, IsTerminal, Read, Stdin, Write};
+use std::io::{self, BufRead, BufReader, IsTerminal, Read, Stdin, Write};
 
 /// How many bytes are read, and written, at a time.
 pub const BUFFER_LEN: usize = 1 << 16;
@@ -171,39 +170,6 @@ pub fn kind_after_mark<R: BufRead>(
     kind_of(form, reader)
 }
 
-/// How the texts of an input stand that is read as lines: as values one after another if its first
-/// line that is not empty begins an array or an object and does not end it. The lines up to that one
-/// are read, which come before all others.
-pub fn form_after_line<R: BufRead>(
-    alloc: Global,
-    form: Form,
-    reader: &mut R,
-) -> Result<(Form, Vec<u8>), Halt> {
-    let mut lines = Vec::new(alloc);
-    let reading = match form {
-        Form::Lines(reading) if reading.texts == TextForm::Lines => reading,
-        _ => return Ok((form, lines)),
-    };
-    // Each line has a byte at least.
-    for _ in 0..BUFFER_LEN {
-        let start = lines.len();
-        if start >= BUFFER_LEN {
-            break;
-        }
-        match reader.read_until(b'\n', &mut lines) {
-            Ok(0) => return Ok((form, lines)),
-            Ok(_) if is_empty_line(&lines[start..]) => {}
-            Ok(_) if begins_container(&lines[start..])? => {
-                let texts = TextForm::Values;
-                return Ok((Form::Lines(Reading { texts, ..reading }), lines));
-            }
-            Ok(_) => return Ok((form, lines)),
-            Err(error) => return Err(halt_of_read(&error)),
-        }
-    }
-    Ok((form, lines))
-}
-
 /// Where an input is to be one array, the fault of its first row if none begins in it.
 pub fn fault_at_start<R: BufRead>(form: Form, reader: &mut R) -> Result<Option<LineFault>, Halt> {
     match form {
@@ -310,23 +276,19 @@ fn run_input<L: LineWorker, W: Write, E: Write>(
     errors: &mut E,
 ) -> Result<Summary, Halt> {
     let alloc = rt.alloc();
-    let mut input = input;
-    let kind = if inputs.are_checked {
-        kind_of(inputs.form, &mut input)
-    } else {
-        kind_after_mark(rt, name, inputs.form, &mut input)
-    };
-    let (form, lines) = form_after_line(alloc, inputs.form, &mut input)?;
     let plan = Plan {
         name,
-        form,
+        form: inputs.form,
         stops_at_faults: inputs.stops_at_faults,
     };
-    let outcome = match fault_at_start(form, &mut input)? {
-        None => {
-            let mut reader = Cursor::new(lines).chain(input);
-            run::run(alloc, worker, &plan, &mut reader, writer, errors)
-        }
+    let mut reader = input;
+    let kind = if inputs.are_checked {
+        kind_of(plan.form, &mut reader)
+    } else {
+        kind_after_mark(rt, name, plan.form, &mut reader)
+    };
+    let outcome = match fault_at_start(plan.form, &mut reader)? {
+        None => run::run(alloc, worker, &plan, &mut reader, writer, errors),
         Some(fault) => {
             let reported = report_fault(alloc, name, 1, fault, writer, errors);
             reported.map(|_| Summary::stopped_at_start())

@@ -4,7 +4,7 @@ ghost use Rattle.std.specs.Prelude.{◌≡◌, IfOk, length, min};
 ghost use Rattle.std.specs.Int.{to_be_bytes, w64};
 ghost use Rattle.std.specs.List.{list_all};
 ghost use Rattle.kohiblad_shell.specs.Words.{AppendsHeld, AppendsHeldLine, Documents, ReadsLine};
-ghost use Rattle.kohiblad_shell.specs.Words.{ReadsPart, ReadsRow, are_values, is_blank};
+ghost use Rattle.kohiblad_shell.specs.Words.{ReadsPart, ReadsRow, is_blank};
 ghost use Rattle.kohiblad_shell.specs.Inputs.{found_if, found_item};
 ghost use Rattle.kohiblad_shell.specs.Words.{is_passed_over, strip_last};
 
@@ -25,13 +25,6 @@ pub enum Form {
 }
 
 impl Form {
-    /// Whether rows are values one after another.
-    pub fn has_values(self) -> bool
-        ensures { result ≡ are_values self }
-    {
-        matches!(self, Form::Lines(reading) if reading.texts == TextForm::Values)
-    }
-
     /// Whether a row gives nothing and is not wrong: a line that is empty, or has white space
     /// alone, where such lines are passed over.
     pub fn passes_over(self, row: &[u8]) -> bool
@@ -44,8 +37,8 @@ impl Form {
     }
 }
 
-/// Whether a line has no byte but white space.
-pub fn is_empty_line(line: &[u8]) -> bool
+// Whether a line has no byte but white space.
+fn is_empty_line(line: &[u8]) -> bool
     ensures { result ≡ list_all is_blank line.now }
 {
     line.iter().all(|byte| is_blank(*byte))

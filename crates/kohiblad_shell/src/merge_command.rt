@@ -2,8 +2,7 @@
 
 use crate::arguments::words_in;
 use crate::files::{
-    BUFFER_LEN, Input, closed, fault_at_start, form_after_line, inputs_of, kind_after_mark,
-    open_inputs, output_of,
+    BUFFER_LEN, Input, closed, fault_at_start, inputs_of, kind_after_mark, open_inputs, output_of,
 };
 use crate::halt::Halt;
 use crate::input::Form;
@@ -16,7 +15,7 @@ use crate::output::Output;
 use crate::run::Summary;
 use crate::status::{Aim, NOT_FOUND};
 use clap::ArgMatches;
-use std::io::{BufRead, BufWriter, Chain, Cursor, Read};
+use std::io::{BufRead, BufWriter};
 
 // How many files are merged at most: each row is compared with the next one of every file.
 const MAX_MERGED: usize = 64;
@@ -42,16 +41,14 @@ fn not_written(rt: &HostRuntime, output: Output<'_>, halt: Halt) -> u8 {
     ended(rt, Aim::Rows, closed(output, Err(halt)))
 }
 
-/// Inputs that are merged: what each is if it has no rows, and the form of all rows.
+/// Inputs that are merged, and what each is if it has no rows.
 #[derive(Drop)]
 struct Begun<'a> {
-    readers: Vec<Chain<Cursor<Vec<u8>>, Input<'a>>>,
+    readers: Vec<Input<'a>>,
     kinds: Vec<Option<InputKind>>,
-    form: Form,
 }
 
-// Begins to read these inputs, which have names. Values over several lines are read of all, if the
-// first line of one begins such a value.
+// Begins to read these inputs, which have names.
 fn begin_inputs<'a>(
     rt: &HostRuntime,
     form: Form,
@@ -62,24 +59,18 @@ fn begin_inputs<'a>(
     let mut begun = Begun {
         readers: Vec::new(alloc),
         kinds: Vec::new(alloc),
-        form,
     };
     for (index, input) in inputs.into_iter().enumerate() {
-        let mut input = input;
+        let mut reader = input;
         let name = names.get(index).copied().unwrap_or("-");
-        let kind = kind_after_mark(rt, name, form, &mut input);
-        let (own_form, lines) = form_after_line(alloc, form, &mut input)?;
-        if let Some(fault) = fault_at_start(form, &mut input)? {
+        let kind = kind_after_mark(rt, name, form, &mut reader);
+        if let Some(fault) = fault_at_start(form, &mut reader)? {
             return Err(MergeEnd::Faulty(InputFault {
                 input: index,
                 number: 1,
                 fault,
             }));
         }
-        if own_form.has_values() {
-            begun.form = own_form;
-        }
-        let reader = Cursor::new(lines).chain(input);
         if begun.kinds.push(kind).is_err() || begun.readers.push(reader).is_err() {
             return Err(MergeEnd::Halted(Halt::Memory));
         }
@@ -101,7 +92,7 @@ fn merge_inputs(
         Ok(begun) => {
             let mut readers = begun.readers;
             kinds = begun.kinds;
-            merge_to(rt, job, begun.form, &mut readers, &mut output)
+            merge_to(rt, job, &mut readers, &mut output)
         }
         Err(end) => Err(end),
     };
@@ -129,7 +120,6 @@ fn merge_inputs(
 fn merge_to<R: BufRead>(
     rt: &HostRuntime,
     job: Job<'_, '_>,
-    form: Form,
     readers: &mut [R],
     output: &mut Output<'_>,
 ) -> Result<u64, MergeEnd> {
@@ -137,7 +127,7 @@ fn merge_to<R: BufRead>(
     let Ok(mut writer) = BufWriter::with_capacity(alloc, BUFFER_LEN, output) else {
         return Err(MergeEnd::Halted(Halt::Memory));
     };
-    merge::merge(alloc, &job, form, readers, &mut writer)
+    merge::merge(alloc, &job, job.form, readers, &mut writer)
 }
 
 // Reports the fault at which a merge ended.
