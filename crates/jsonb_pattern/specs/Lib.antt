@@ -3,4 +3,3 @@ pub mod Letters
 pub mod Meaning
 pub mod Places
 pub mod Translated
-pub mod Views
