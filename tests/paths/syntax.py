@@ -188,6 +188,14 @@ class Starting:
 
 
 @dataclass(frozen=True)
+class Like:
+    """`like_regex`, a pattern and its flags"""
+    left: "Expression"
+    pattern: str
+    flags: str
+
+
+@dataclass(frozen=True)
 class Exists:
     """`exists (..)`"""
     expression: "Expression"
@@ -203,7 +211,7 @@ class Query:
 Expression = Union[Chain, Signed, Arithmetic, Tested]
 Primary = Union[Root, Current, Last, Literal, Variable, Inner]
 Accessor = Union[Member, AllMembers, AllItems, ItemsAt, Descendants, Filter, Called]
-Predicate = Union[Conjunction, Disjunction, Denial, IsUnknown, Compared, Starting, Exists]
+Predicate = Union[Conjunction, Disjunction, Denial, IsUnknown, Compared, Starting, Like, Exists]
 
 
 def literal(value):
