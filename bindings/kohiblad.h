@@ -210,8 +210,7 @@ enum kohiblad_path_reason {
     KOHIBLAD_PATH_INVALID_NUMBER = 4, /* a number goes on with a letter or another digit */
     KOHIBLAD_PATH_EXPECTED = 5,       /* something else is expected: enum kohiblad_path_expected */
     KOHIBLAD_PATH_LEFT_OUT = 6,       /* it is not read here: enum kohiblad_path_left_out */
-    KOHIBLAD_PATH_TOO_DEEP = 7,       /* parentheses and the like nest 64 levels, all parts 400 */
-    KOHIBLAD_PATH_PATTERN = 8         /* a text after `like_regex` is no pattern that is read here */
+    KOHIBLAD_PATH_TOO_DEEP = 7        /* parentheses and the like nest 64 levels, all parts 400 */
 };
 
 /* What may come where a text is no path. */
@@ -224,9 +223,7 @@ enum kohiblad_path_expected {
     KOHIBLAD_PATH_EXPECTED_MARK = 6,         /* the character `mark` */
     KOHIBLAD_PATH_EXPECTED_EXPRESSION = 7,   /* and no test, before this place */
     KOHIBLAD_PATH_EXPECTED_TEST = 8,         /* and no expression, before this place */
-    KOHIBLAD_PATH_EXPECTED_END = 9,          /* or an operator or an accessor */
-    KOHIBLAD_PATH_EXPECTED_PATTERN = 10,     /* a text after `like_regex` */
-    KOHIBLAD_PATH_EXPECTED_FLAGS = 11        /* letters of `i`, `s`, `m` and `q` after `flag` */
+    KOHIBLAD_PATH_EXPECTED_END = 9           /* or an operator or an accessor */
 };
 
 /* What stands where something else is expected. */
@@ -244,7 +241,8 @@ enum kohiblad_path_left_out {
     KOHIBLAD_PATH_DOUBLE = 1,      /* `.double()` */
     KOHIBLAD_PATH_DATETIME = 2,    /* `.datetime()` */
     KOHIBLAD_PATH_WIDE_NUMBER = 3, /* past 128 bits or a scale of 255 */
-    KOHIBLAD_PATH_DIVISION = 4     /* `/` */
+    KOHIBLAD_PATH_DIVISION = 4,    /* `/` */
+    KOHIBLAD_PATH_LIKE_REGEX = 5   /* `like_regex` */
 };
 
 /* The kinds of values, as kohiblad_kind returns them. */
@@ -1841,11 +1839,10 @@ static inline uint32_t kohiblad_top_keys(const uint8_t *bytes, size_t size, size
 
 /* Whether a text is a path of SQL/JSON, and where and why it is not. OK, with the length of the
  * text, if it is one; INVALID_UTF8 if the text is not UTF-8; OTHER_KIND if it is not a path, at the
- * byte of the offset and by the reason; OUT_OF_MEMORY if an allocation fails, a pattern of
- * `like_regex` would compile to more than a mebibyte, or there are more than 64 patterns. If the
- * reason is that something else is expected there, `expected` says what, with `mark` the character
- * of a mark that is expected, and `found` what is there. If it is left out here, `left_out` says
- * what. Other fields are 0, and with every other status but OK and OTHER_KIND all of them. */
+ * byte of the offset and by the reason; OUT_OF_MEMORY if an allocation fails. If the reason is that
+ * something else is expected there, `expected` says what, with `mark` the character of a mark that
+ * is expected, and `found` what is there. If it is left out here, `left_out` says what. Other
+ * fields are 0, and with every other status but OK and OTHER_KIND all of them. */
 static inline struct kohiblad_path_refusal kohiblad_path_fault(const uint8_t *path,
     size_t path_size) KOHIBLAD_INLINE("kohiblad_path_fault");
 

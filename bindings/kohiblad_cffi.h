@@ -85,8 +85,7 @@ enum kohiblad_path_reason {
     KOHIBLAD_PATH_INVALID_NUMBER = 4,
     KOHIBLAD_PATH_EXPECTED = 5,
     KOHIBLAD_PATH_LEFT_OUT = 6,
-    KOHIBLAD_PATH_TOO_DEEP = 7,
-    KOHIBLAD_PATH_PATTERN = 8
+    KOHIBLAD_PATH_TOO_DEEP = 7
 };
 
 enum kohiblad_path_expected {
@@ -98,9 +97,7 @@ enum kohiblad_path_expected {
     KOHIBLAD_PATH_EXPECTED_MARK = 6,
     KOHIBLAD_PATH_EXPECTED_EXPRESSION = 7,
     KOHIBLAD_PATH_EXPECTED_TEST = 8,
-    KOHIBLAD_PATH_EXPECTED_END = 9,
-    KOHIBLAD_PATH_EXPECTED_PATTERN = 10,
-    KOHIBLAD_PATH_EXPECTED_FLAGS = 11
+    KOHIBLAD_PATH_EXPECTED_END = 9
 };
 
 enum kohiblad_path_found {
@@ -116,7 +113,8 @@ enum kohiblad_path_left_out {
     KOHIBLAD_PATH_DOUBLE = 1,
     KOHIBLAD_PATH_DATETIME = 2,
     KOHIBLAD_PATH_WIDE_NUMBER = 3,
-    KOHIBLAD_PATH_DIVISION = 4
+    KOHIBLAD_PATH_DIVISION = 4,
+    KOHIBLAD_PATH_LIKE_REGEX = 5
 };
 
 enum kohiblad_kind_number {

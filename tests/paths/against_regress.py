@@ -45,8 +45,6 @@ LEFT_OUT = {
     NO_DOCUMENT: re.compile(r"1e1000"),
 }
 READ_BY_SERVER = "what the library does not read of like_regex"
-# KOHIBLAD_PATH_PATTERN and KOHIBLAD_PATH_EXPECTED_FLAGS of the header.
-PATTERN, FLAGS = 8, 11
 # Where the server has another answer.
 NAMED = {"a sign at the end of `exists`": re.compile(r"@\? '[-+]\$")}
 # A statement, with texts and comments in which a semicolon ends none.
@@ -172,7 +170,7 @@ def same_names(answer):
 def why_left_out(statement, shown):
     """The names of what is left out, in a statement whose path the library prints or refuses."""
     names = [name for name, pattern in LEFT_OUT.items() if pattern.search(statement)]
-    if isinstance(shown, Refusal) and (shown.reason == PATTERN or shown.expected == FLAGS):
+    if isinstance(shown, Refusal) and shown.left_out and "like_regex" in statement:
         names.append(READ_BY_SERVER)
     return names
 
@@ -180,9 +178,7 @@ def why_left_out(statement, shown):
 def is_refused_so(shown, their, names):
     """Whether a path that the library refuses is refused by the server too, or has what is left
     out."""
-    if not names:
-        return isinstance(their, str)
-    return shown.left_out > 0 or READ_BY_SERVER in names
+    return shown.left_out > 0 if names else isinstance(their, str)
 
 
 def main():

@@ -3,8 +3,8 @@ import random
 
 from syntax import (
     LAST, AllItems, AllMembers, Arithmetic, Called, Chain, Compared, Conjunction, Current, Denial,
-    Descendants, Disjunction, Exists, Filter, IsUnknown, ItemsAt, Last, Like, Literal, Member,
-    Method, Mode, Query, Root, Starting, Subscript, Tested, Variable, in_parentheses, literal, signed,
+    Descendants, Disjunction, Exists, Filter, IsUnknown, ItemsAt, Last, Literal, Member, Method,
+    Mode, Query, Root, Starting, Subscript, Tested, Variable, in_parentheses, literal, signed,
 )
 from texts import number_of, read_document
 from values import HOLDS
@@ -19,8 +19,6 @@ class Maker:
     NUMBERS = [number_of(it) for it in "1 0 2 -1 1.50 -0.5 10 1.0".split()]
     SCALARS = [None, True, False, "a", "ab", "b", "", *NUMBERS]
     LITERALS = [None, True, False, "a", "b", "ab", *map(number_of, "1 0 2 1.5".split())]
-    PATTERNS = ["a", "^b", "b$", "^a.?$", "a|b", "[^a]", "A", "(ab)+", "a{1,2}", "[a-b]b"]
-    FLAGS = ["", "", "i", "q", "ms", "qi"]
     INDEXES = [number_of(it) for it in "0 1 2 1.9".split()]
     LEVELS = [(0, LAST), (1, 1), (2, 2), (LAST, LAST), (1, LAST), (0, 1), (2, 1), (LAST, 1), (0, 0),
               (1, 2)]
@@ -127,6 +125,5 @@ class Maker:
         return self.drawn(
             (10, lambda: Exists(make())),
             (6, lambda: Starting(make(), literal(choose(["a", "b", ""])))),
-            (6, lambda: Like(make(), choose(self.PATTERNS), choose(self.FLAGS))),
             (42, lambda: Compared(choose(list(HOLDS)), make(), make())),
         )

@@ -6,13 +6,13 @@ from typing import Dict, List, Optional
 
 from syntax import (
     LAST, AllItems, AllMembers, Arithmetic, Called, Chain, Compared, Conjunction, Current, Denial,
-    Descendants, Disjunction, Exists, Filter, Inner, IsUnknown, ItemsAt, Last, Like, Literal,
-    Member, Method, Mode, Root, Signed, Starting, Tested, Variable,
+    Descendants, Disjunction, Exists, Filter, Inner, IsUnknown, ItemsAt, Last, Literal, Member,
+    Method, Mode, Root, Signed, Starting, Tested, Variable,
 )
 from values import (
     Fraction, PathError, Tree, Truth, both, ceiling_of, compares, difference, either, floor_of,
-    is_like, is_within, negated, negation, number_within, product, remainder_within, starts_with,
-    sum_of, truth_of, unknown, unsigned, whole_part_of,
+    is_within, negated, negation, number_within, product, remainder_within, starts_with, sum_of,
+    truth_of, unknown, unsigned, whole_part_of,
 )
 
 
@@ -250,13 +250,6 @@ def some_pair(mode, test, left, right):
     return some_passes(mode, table(test, left.values, right.values))
 
 
-def some_value(mode, test, outcome):
-    """Whether some value passes; unknown after an error."""
-    if outcome.error:
-        return Truth.UNKNOWN
-    return some_passes(mode, [test(it) for it in outcome.values])
-
-
 def in_lax_unwrapped(mode, outcome):
     """The outcome, with its values unwrapped in lax."""
     return Outcome(all_unwrapped(mode, outcome.values), outcome.error)
@@ -429,9 +422,6 @@ class Place:
         if isinstance(test, Exists):
             return exists_in(self.mode, self.follow(test.expression))
         left = in_lax_unwrapped(self.mode, self.follow(test.left))
-        if isinstance(test, Like):
-            return some_value(
-                self.mode, lambda it: is_like(it, test.pattern, test.flags), left)
         right = self.follow(test.right)
         if isinstance(test, Starting):
             return some_pair(self.mode, starts_with, left, right)

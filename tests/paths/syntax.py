@@ -188,14 +188,6 @@ class Starting:
 
 
 @dataclass(frozen=True)
-class Like:
-    """`like_regex`, a pattern and its flags"""
-    left: "Expression"
-    pattern: str
-    flags: str
-
-
-@dataclass(frozen=True)
 class Exists:
     """`exists (..)`"""
     expression: "Expression"
@@ -211,7 +203,7 @@ class Query:
 Expression = Union[Chain, Signed, Arithmetic, Tested]
 Primary = Union[Root, Current, Last, Literal, Variable, Inner]
 Accessor = Union[Member, AllMembers, AllItems, ItemsAt, Descendants, Filter, Called]
-Predicate = Union[Conjunction, Disjunction, Denial, IsUnknown, Compared, Starting, Like, Exists]
+Predicate = Union[Conjunction, Disjunction, Denial, IsUnknown, Compared, Starting, Exists]
 
 
 def literal(value):

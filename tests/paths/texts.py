@@ -4,8 +4,8 @@ import re
 
 from syntax import (
     LAST, AllItems, AllMembers, Arithmetic, Called, Chain, Compared, Conjunction, Current, Denial,
-    Descendants, Disjunction, Exists, Filter, Inner, IsUnknown, ItemsAt, Last, Like, Literal,
-    Member, Method, Mode, Predicate, Query, Root, Signed, Starting, Subscript, Tested, Variable,
+    Descendants, Disjunction, Exists, Filter, Inner, IsUnknown, ItemsAt, Last, Literal, Member,
+    Method, Mode, Predicate, Query, Root, Signed, Starting, Subscript, Tested, Variable,
     in_parentheses, literal, signed,
 )
 from values import HOLDS, Fraction
@@ -112,9 +112,6 @@ class Reader:
         if self.take("starts"):
             self.expect("with")
             return Starting(left, self.sum())
-        if self.take("like_regex"):
-            pattern = json.loads(self.next())
-            return Like(left, pattern, json.loads(self.next()) if self.take("flag") else "")
         return left
 
     def sum(self):
@@ -310,8 +307,5 @@ def write_test(it):
         return f"(({write_test(it.test)}) is unknown)"
     if isinstance(it, Exists):
         return f"(exists ({write_expression(it.expression)}))"
-    if isinstance(it, Like):
-        flags = f" flag {json.dumps(it.flags)}" if it.flags else ""
-        return f"({write_expression(it.left)} like_regex {json.dumps(it.pattern)}{flags})"
     sign = "starts with" if isinstance(it, Starting) else it.comparison
     return f"({write_expression(it.left)} {sign} {write_expression(it.right)})"

@@ -5,7 +5,6 @@ A document is null, a truth of Python's, a Fraction, a text, a list or a dict, w
 order of their bytes. Extension values, which JSON does not have, are not there.
 """
 import enum
-import re
 from dataclasses import dataclass
 from typing import Union
 
@@ -190,22 +189,6 @@ def starts_with(left, right):
     if isinstance(left, str) and isinstance(right, str):
         return truth_of(left.startswith(right))
     return Truth.UNKNOWN
-
-
-def is_like(value, pattern, flags):
-    """The pattern is found somewhere in a text; unknown of other values. Python's `$` is before a
-    last line feed too, and its negated brackets match a line feed."""
-    if not isinstance(value, str):
-        return Truth.UNKNOWN
-    if "q" in flags:
-        pattern = re.escape(pattern)
-    elif "m" not in flags:
-        pattern = pattern.replace("$", r"\Z")
-    if "s" not in flags and "q" not in flags:
-        pattern = pattern.replace("[^", "[^\n")
-    ways = {"i": re.IGNORECASE, "s": re.DOTALL, "m": re.MULTILINE}
-    given = sum((ways[it] for it in set(flags) - {"q"}), re.ASCII)
-    return truth_of(re.search(pattern, value, given) is not None)
 
 
 Tree = Union[None, bool, Fraction, str, list, dict]

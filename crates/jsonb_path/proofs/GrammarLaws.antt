@@ -112,7 +112,6 @@ part_stays ps more (parts.Test (tests.StartsWith i s)) h =
     let both = and_true (is_expression ps i) (is_prefix s) h in
     both_true (is_expression (ps ++ more) i) (is_prefix s) (expression_stays ps more i both.0)
     both.1
-part_stays ps more (parts.Test (tests.LikeRegex i p)) h = expression_stays ps more i h
 part_stays ps more (parts.Test (tests.Exists i)) h = expression_stays ps more i h
 
 -- ---- parts that have grown

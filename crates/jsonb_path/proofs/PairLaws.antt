@@ -11,9 +11,8 @@ use Rattle.jsonb_path.specs.declared.compare.Truth.TheVariants.{True, False, Unk
 use Rattle.jsonb_path.specs.declared.path.Mode.{Mode}
 use Rattle.jsonb_path.specs.declared.path.Mode.TheVariants.{Lax, Strict}
 use Rattle.jsonb_path.specs.declared.pairs.Check.{Check}
-use Rattle.jsonb_pattern.specs.Meaning.{Written}
-use Rattle.jsonb_path.specs.Comparison.{Comparand, comparand_of, is_like}
-use Rattle.jsonb_path.specs.Found.{checked, checked_as, either_in, matched, settles}
+use Rattle.jsonb_path.specs.Comparison.{Comparand, comparand_of}
+use Rattle.jsonb_path.specs.Found.{checked, checked_as, either_in, settles}
 use Rattle.jsonb_path.specs.Meaning.{row, some_passes, some_true, some_unknown, table}
 use Rattle.jsonb_path.proofs.PathTextLaws.{first_left, later}
 
@@ -214,18 +213,6 @@ row_slice mode check value xs x any is v w t so_far next whole left right asked 
     asked ∙ (λ i. checked_as check (left i) (right i)) in
     ap (λ u. either_in mode u rest) (joins ∙ ap (either_in mode so_far) same)
     ∙ row_on mode (checked check value) (map node_tree xs) (map node_tree (later xs)) (node_tree x)
-    (ap (map node_tree) (first_left xs x any is)) whole so_far h
-
-pub matched_slice : (mode : Mode) (w : Written) (xs : List Node) (x : Node) → 1 ≤ length xs
-    → x ≡ get_or xs 0 x → (v : Comparand) (t so_far next whole : Truth)
-    → v ≡ comparand_of (node_tree x) → t ≡ is_like w v → next ≡ either_in mode so_far t
-    → either_in mode so_far (some_passes mode (row (matched w) (map node_tree xs))) ≡ whole
-    → either_in mode next (some_passes mode (row (matched w) (map node_tree (later xs)))) ≡ whole
-matched_slice mode w xs x any is v t so_far next whole seen asked joins h =
-    let rest = some_passes mode (row (matched w) (map node_tree (later xs))) in
-    let same : t ≡ matched w (node_tree x) = asked ∙ ap (is_like w) seen in
-    ap (λ u. either_in mode u rest) (joins ∙ ap (either_in mode so_far) same)
-    ∙ row_on mode (matched w) (map node_tree xs) (map node_tree (later xs)) (node_tree x)
     (ap (map node_tree) (first_left xs x any is)) whole so_far h
 
 pub table_slice : (mode : Mode) (check : Check) (us : List Tree) (xs : List Node) (x : Node)

@@ -208,8 +208,6 @@ same_predicate before xs ys same (tests.StartsWith i s) h =
     let e = same_expression before xs ys same i both.0 in
     let f = same_prefix xs ys s both.1 in
     λ k. syntax.starting (e k) (syntax.chain (f k) syntax.no_accessors)
-same_predicate before xs ys same (tests.LikeRegex i p) h =
-    ap (λ e. syntax.like e p) (same_expression before xs ys same i h)
 same_predicate before xs ys same (tests.Exists i) h =
     ap syntax.exists (same_expression before xs ys same i h)
 

@@ -41,7 +41,6 @@ pub tokens_refused : (s : List ℕ) (e : ReadError) → IsRefused e (tokens_of s
 tokens_refused s read_errors.OutOfMemory h = tt
 tokens_refused s (read_errors.Refused f) h =
     ap (λ (r : Result (List Placed) PathFault). lexemes_of r >>= path_of_lexemes) h
-tokens_refused s (read_errors.TooLarge f) h = tt
 
 some_part_last : (ps : List Part) (p : Part) → IsTrue (is_some_part (ps ++ (p ∷ [])))
 some_part_last [] p = refl

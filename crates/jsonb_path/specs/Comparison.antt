@@ -8,7 +8,6 @@ use Rattle.std.specs.declared.cmp.Ordering.TheVariants as orders
 use Rattle.jsonb_value.specs.declared.number.Number.{Number}
 use Rattle.jsonb_value.specs.Order.{number_cmp}
 use Rattle.jsonb_value.specs.Tree as trees
-use Rattle.jsonb_pattern.specs.Meaning.{Written, is_found}
 use Rattle.jsonb_path.specs.declared.compare.Comparison.{Comparison}
 use Rattle.jsonb_path.specs.declared.compare.Comparison.TheVariants.{Equal, NotEqual, Less}
 use Rattle.jsonb_path.specs.declared.compare.Comparison.TheVariants.{LessOrEqual, Greater}
@@ -103,8 +102,3 @@ compares c v w = Unknown
 abbrev pub starts_with : Comparand → Comparand → Truth
 starts_with (text s) (text t) = truth_of (begins_with nat_eq s t)
 starts_with v w = Unknown
-
--- The pattern is found somewhere in a text; unknown of other values.
-abbrev pub is_like : Written → Comparand → Truth
-is_like w (text s) = truth_of (is_found w s)
-is_like w v = Unknown

@@ -27,7 +27,6 @@ Reads view (Err e) meant = Stops e meant
 abbrev pub IsRefused : {Y : Type 0} → ReadError → Result Y PathFault → Type 0
 IsRefused read_errors.OutOfMemory meant = ⊤
 IsRefused (read_errors.Refused f) meant = meant ≡ Err f
-IsRefused (read_errors.TooLarge f) meant = ⊥
 
 abbrev pub ReadsText : {X Y : Type 0} → (X → Y) → Result X ReadError → Result Y PathFault
     → Type 0

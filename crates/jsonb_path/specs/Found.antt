@@ -25,9 +25,7 @@ use Rattle.jsonb_path.specs.declared.place.Place.{Place}
 use Rattle.jsonb_path.specs.declared.place.Units.{Units}
 use Rattle.jsonb_path.specs.declared.place.Units.TheVariants.{Itself, Items}
 use Rattle.jsonb_path.specs.Arithmetic.{ceiling_of, floor_of, number_within, unsigned}
-use Rattle.jsonb_pattern.specs.Meaning.{Written}
-use Rattle.jsonb_path.specs.Comparison.{Comparand, comparand_of, compares, either, is_like}
-use Rattle.jsonb_path.specs.Comparison.{starts_with}
+use Rattle.jsonb_path.specs.Comparison.{Comparand, comparand_of, compares, either, starts_with}
 use Rattle.jsonb_path.specs.Meaning as meaning
 use Rattle.jsonb_path.specs.Syntax.{Predicate, Subscripts}
 
@@ -104,10 +102,6 @@ checked_as checks.StartsWith v w = starts_with v w
 
 abbrev pub checked : Check → Tree → Tree → Truth
 checked check t u = checked_as check (comparand_of t) (comparand_of u)
-
--- What a pattern says of a value.
-abbrev pub matched : Written → Tree → Truth
-matched w t = is_like w (comparand_of t)
 
 -- Whether a pair of two lists passes: in strict it is unknown if either is.
 abbrev pub either_in : Mode → Truth → Truth → Truth

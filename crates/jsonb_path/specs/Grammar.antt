@@ -23,7 +23,6 @@ use Rattle.jsonb_path.specs.Height.{is_low}
 use Rattle.jsonb_path.specs.Literal.{number_in_tree, prefix_at, primary_at, within_filter}
 use Rattle.jsonb_path.specs.Literal.{within_subscript}
 use Rattle.jsonb_path.specs.Meaning.{Query, signed_as}
-use Rattle.jsonb_path.specs.Patterns.{pattern_at}
 use Rattle.jsonb_path.specs.PathTree.{PathNode, as_expression, as_test, expression, test}
 use Rattle.jsonb_path.specs.Syntax.{Expression, Primary, Accessor, Accessors, Subscripts}
 use Rattle.jsonb_path.specs.Syntax as syntax
@@ -46,7 +45,6 @@ alone p = expression (syntax.chain p syntax.no_accessors)
 -- How loosely an operator binds: `*` and `%`, `+` and `-`, comparisons, `&&`, `||`.
 abbrev pub looseness : Infix → ℕ
 looseness infixes.StartsWith = 3
-looseness infixes.LikeRegex = 3
 looseness (infixes.Operation operations.Or) = 5
 looseness (infixes.Operation operations.And) = 4
 looseness (infixes.Operation (operations.Compare c)) = 3
@@ -81,16 +79,11 @@ operation_then ts op = Some (infixes.Operation op, ts)
 abbrev pub starts_after : List Lexeme → Option (Infix × List Lexeme)
 starts_after ts = after_word (codes "with") ts >>= λ rest. Some (infixes.StartsWith, rest)
 
--- `starts with` or `like_regex`, of which this is the first word.
-abbrev pub worded_infix : List ℕ → List Lexeme → Option (Infix × List Lexeme)
-worded_infix s ts = if is_word (codes "starts") s then starts_after ts
-    else if is_word (codes "like_regex") s then Some (infixes.LikeRegex, ts) else None
-
--- An operator: marks, `starts with`, or `like_regex`.
+-- An operator: marks, or `starts with`.
 abbrev pub infix_front : List Lexeme → Option (Infix × List Lexeme)
 infix_front (mark c ∷ ts) = operation_of_mark c >>= operation_then ts
 infix_front (two_marks c d ∷ ts) = operation_of_marks c d >>= operation_then ts
-infix_front (word s ∷ ts) = worded_infix s ts
+infix_front (word s ∷ ts) = if is_word (codes "starts") s then starts_after ts else None
 infix_front _ = None
 
 abbrev pub if_as_loose : ℕ → Infix × List Lexeme → Option (Infix × List Lexeme)
@@ -129,10 +122,6 @@ abbrev pub starting_at : PathNode → List Lexeme → Front PathNode
 starting_at n ts = prefix_at ts >>= λ p.
     Some (test (syntax.starting (as_expression n) (syntax.chain p.0 syntax.no_accessors)), p.1)
 
--- After `like_regex`.
-abbrev pub like_at : PathNode → List Lexeme → Front PathNode
-like_at n ts = pattern_at ts >>= λ w. Some (test (syntax.like (as_expression n) w.0), w.1)
-
 abbrev pub operated_at : (List Lexeme → Front PathNode) → Operation → PathNode → List Lexeme
     → Front PathNode
 operated_at tighter op n ts = tighter ts >>= λ x.
@@ -142,7 +131,6 @@ operated_at tighter op n ts = tighter ts >>= λ x.
 abbrev pub infixed : (List Lexeme → Front PathNode) → PathNode → Infix → List Lexeme
     → Front PathNode
 infixed tighter n infixes.StartsWith ts = as_operand false n >>= λ m. starting_at m ts
-infixed tighter n infixes.LikeRegex ts = as_operand false n >>= λ m. like_at m ts
 infixed tighter n (infixes.Operation op) ts =
     as_operand (wants_test op) n >>= λ m. operated_at tighter op m ts
 

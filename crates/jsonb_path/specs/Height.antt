@@ -53,7 +53,6 @@ abbrev mutual
   test_height (syntax.is_unknown p) = suc (test_height p)
   test_height (syntax.comparison c e f) = suc (max (height e) (height f))
   test_height (syntax.starting e f) = suc (height e)
-  test_height (syntax.like e w) = suc (height e)
   test_height (syntax.exists e) = suc (height e)
 
 -- A path is refused if it is higher.

@@ -17,7 +17,6 @@ pub mod Numeral
 pub mod PathParts
 pub mod PathText
 pub mod PathTree
-pub mod Patterns
 pub mod Refusal
 pub mod Steps
 pub mod Syntax

@@ -30,7 +30,7 @@ use Rattle.jsonb_path.specs.declared.path.Sign.TheVariants.{Plus, Minus}
 use Rattle.jsonb_path.specs.Arithmetic.{sum, difference, product, negated, unsigned, floor_of}
 use Rattle.jsonb_path.specs.Arithmetic.{ceiling_of, whole_part_of, number_within, remainder_within}
 use Rattle.jsonb_path.specs.Comparison.{both, either, negation, unknown, compares, starts_with}
-use Rattle.jsonb_path.specs.Comparison.{comparand_of, is_like, truth_of}
+use Rattle.jsonb_path.specs.Comparison.{comparand_of, truth_of}
 use Rattle.jsonb_path.specs.Syntax.{Expression, Primary, Accessor, Accessors, Subscripts, Predicate}
 use Rattle.jsonb_path.specs.Syntax as syntax
 
@@ -357,10 +357,6 @@ abbrev pub some_pair : Mode → (Tree → Tree → Truth) → Outcome → Outcom
 some_pair mode test o p =
     known o.error (known p.error (some_passes mode (table test o.values p.values)))
 
--- Whether some value passes; unknown after an error.
-abbrev pub some_value : Mode → (Tree → Truth) → Outcome → Truth
-some_value mode test o = known o.error (some_passes mode (row test o.values))
-
 abbrev pub in_lax_unwrapped : Mode → Outcome → Outcome
 in_lax_unwrapped mode o = record { values = all_unwrapped mode o.values; error = o.error }
 
@@ -473,9 +469,6 @@ abbrev mutual
   judge place (syntax.starting e f) =
       some_pair place.mode (λ t u. starts_with (comparand_of t) (comparand_of u))
       (in_lax_unwrapped place.mode (follow place e)) (follow place f)
-  judge place (syntax.like e w) =
-      some_value place.mode (λ t. is_like w (comparand_of t))
-      (in_lax_unwrapped place.mode (follow place e))
   judge place (syntax.exists e) = exists_in place.mode (follow place e)
 
 abbrev mutual
@@ -519,7 +512,6 @@ abbrev mutual
   names_judged (syntax.is_unknown p) = names_judged p
   names_judged (syntax.comparison c e f) = names_in e ++ names_in f
   names_judged (syntax.starting e f) = names_in e ++ names_in f
-  names_judged (syntax.like e w) = names_in e
   names_judged (syntax.exists e) = names_in e
 
 abbrev pub is_given : List (List ℕ × Tree) → List ℕ → Bool

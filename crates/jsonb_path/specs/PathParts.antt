@@ -70,7 +70,6 @@ is_test_part before (tests.Not i) = is_test before i
 is_test_part before (tests.IsUnknown i) = is_test before i
 is_test_part before (tests.Compare c i j) = is_expression before i && is_expression before j
 is_test_part before (tests.StartsWith i s) = is_expression before i && is_prefix s
-is_test_part before (tests.LikeRegex i p) = is_expression before i
 is_test_part before (tests.Exists i) = is_expression before i
 
 -- All parts that this one names are before it.

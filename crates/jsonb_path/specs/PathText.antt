@@ -1,10 +1,8 @@
 -- The text of a path, as PostgreSQL prints it: keys quoted, parentheses where operators want them.
 use Rattle.std.specs.Prelude.{ℕ, zero, ◌++◌, ◌&&◌, Bool, true, false, List, [], codes, decimal}
-use Rattle.std.specs.Prelude.{nat_eq, nat_le, ◌||◌, if◌then◌else◌}
+use Rattle.std.specs.Prelude.{nat_eq, nat_le, if◌then◌else◌}
 use Rattle.jsonb_value.specs.Text.{compact, string_text}
 use Rattle.jsonb_value.specs.Tree.{Tree, number}
-use Rattle.jsonb_pattern.specs.declared.flags.Flags.{Flags}
-use Rattle.jsonb_pattern.specs.Meaning.{Written}
 use Rattle.jsonb_path.specs.declared.compare.Comparison.{Comparison}
 use Rattle.jsonb_path.specs.declared.compare.Comparison.TheVariants as comparisons
 use Rattle.jsonb_path.specs.declared.path.Level.{Level}
@@ -65,28 +63,6 @@ up_to_text a b = codes " to " ++ level_text b
 abbrev pub levels_text : Level → Level → List ℕ
 levels_text (Number zero) Last = []
 levels_text a b = codes "{" ++ (level_text a ++ (up_to_text a b ++ codes "}"))
-
-abbrev pub letter_if : Bool → List ℕ → List ℕ
-letter_if true letter = letter
-letter_if false letter = []
-
--- The letters of flags, and this after them.
-abbrev pub letters_then : Flags → List ℕ → List ℕ
-letters_then flags rest =
-    letter_if flags.ignore_case (codes "i")
-    ++ (letter_if flags.dot_all (codes "s")
-    ++ (letter_if flags.multi_line (codes "m") ++ (letter_if flags.quoted (codes "q") ++ rest)))
-
-abbrev pub has_flags : Flags → Bool
-has_flags flags = flags.ignore_case || flags.dot_all || flags.multi_line || flags.quoted
-
--- The flags of a pattern, if it has any.
-abbrev pub flags_text : Flags → List ℕ
-flags_text flags =
-    if has_flags flags then codes " flag \"" ++ letters_then flags (codes "\"") else []
-
-abbrev pub pattern_text : Written → List ℕ
-pattern_text w = string_text w.source ++ flags_text w.flags
 
 -- ---- parentheses
 
@@ -180,10 +156,6 @@ abbrev mutual
       opening 3 outer
       ++ (expression_text 3 e
       ++ (codes " starts with " ++ (expression_text 3 f ++ closing 3 outer)))
-  predicate_text outer (syntax.like e w) =
-      opening 3 outer
-      ++ (expression_text 6 e
-      ++ (codes " like_regex " ++ (pattern_text w ++ closing 3 outer)))
   predicate_text outer (syntax.denial p) = codes "!(" ++ (predicate_text 0 p ++ codes ")")
   predicate_text outer (syntax.is_unknown p) =
       codes "(" ++ (predicate_text 0 p ++ codes ") is unknown")

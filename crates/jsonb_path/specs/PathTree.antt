@@ -89,7 +89,6 @@ predicate_of nodes (tests.Compare c i j) =
     syntax.comparison c (expression_at nodes i) (expression_at nodes j)
 predicate_of nodes (tests.StartsWith i s) =
     syntax.starting (expression_at nodes i) (syntax.chain (primary_of nodes s) syntax.no_accessors)
-predicate_of nodes (tests.LikeRegex i p) = syntax.like (expression_at nodes i) p
 predicate_of nodes (tests.Exists i) = syntax.exists (expression_at nodes i)
 
 -- The node of a part, made of the nodes of the parts that it names.

@@ -1,7 +1,6 @@
 -- A path as a tree: what it asks, without its text.
 use Rattle.std.specs.Prelude.{ℕ, List}
 use Rattle.jsonb_value.specs.Tree.{Tree}
-use Rattle.jsonb_pattern.specs.Meaning.{Written}
 use Rattle.jsonb_path.specs.declared.compare.Comparison.{Comparison}
 use Rattle.jsonb_path.specs.declared.path.Level.{Level}
 use Rattle.jsonb_path.specs.declared.path.Method.{Method}
@@ -53,5 +52,4 @@ mutual
     is_unknown : Predicate → Predicate
     comparison : Comparison → Expression → Expression → Predicate
     starting : Expression → Expression → Predicate
-    like : Expression → Written → Predicate
     exists : Expression → Predicate

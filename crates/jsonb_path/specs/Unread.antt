@@ -5,12 +5,10 @@ use Rattle.jsonb_path.specs.declared.read.scan.Unread.TheVariants as unread
 use Rattle.jsonb_path.specs.declared.token.ReadError.{ReadError}
 use Rattle.jsonb_path.specs.declared.token.ReadError.TheVariants as read_errors
 
--- A refusal says that nothing is written so. Nothing is said where memory ran out, or patterns are
--- too large or too many.
+-- A refusal says that nothing is written so.
 abbrev pub Refuses : {Y : Type 0} → Unread → Option Y → Type 0
 Refuses unread.OutOfMemory meant = ⊤
 Refuses (unread.Refused n r) meant = meant ≡ None
-Refuses (unread.TooLarge n r) meant = ⊤
 
 -- What a function returns, seen through `view`, is what is meant, unless memory ran out.
 abbrev pub Parses : {X Y : Type 0} → (X → Y) → Result X Unread → Option Y → Type 0
@@ -21,7 +19,6 @@ Parses view (Err e) meant = Refuses e meant
 abbrev pub Rejects : {Y : Type 0} → ReadError → Option Y → Type 0
 Rejects read_errors.OutOfMemory meant = ⊤
 Rejects (read_errors.Refused f) meant = meant ≡ None
-Rejects (read_errors.TooLarge f) meant = ⊤
 
 abbrev pub ParsesText : {X Y : Type 0} → (X → Y) → Result X ReadError → Option Y → Type 0
 ParsesText view (Ok x) meant = meant ≡ Some (view x)

@@ -1,15 +1,12 @@
 //! How two values compare in a path, and the three truths.
 
-ghost use Rattle.std.specs.Prelude.{◌≡◌, IfOk};
+ghost use Rattle.std.specs.Prelude.{◌≡◌};
 ghost use Rattle.jsonb.specs.Node.{HoldsNoScalar, node_tree};
 ghost use Rattle.jsonb_path.specs.Comparison.{both, comparand, comparand_of, compares, either};
-ghost use Rattle.jsonb_path.specs.Comparison.{holds, is_like, negation, starts_with, truth_of};
-ghost use Rattle.jsonb_path.specs.Comparison.{unknown};
+ghost use Rattle.jsonb_path.specs.Comparison.{holds, negation, starts_with, truth_of, unknown};
 
 use jsonb::Node;
-use jsonb_pattern::Pattern;
 use jsonb_value::Number;
-use std::alloc::{AllocError, Global};
 use std::cmp::Ordering;
 
 /// The truth of a test.
@@ -162,15 +159,5 @@ pub fn starts_with(left: Scalar<'_>, right: Scalar<'_>) -> Truth
             Truth::of(left.as_bytes().starts_with(right.as_bytes()))
         }
         _ => Truth::Unknown,
-    }
-}
-
-/// Whether a pattern is found in a text. `Unknown` if the value is no text.
-pub fn is_like(alloc: Global, value: Scalar<'_>, pattern: &Pattern) -> Result<Truth, AllocError>
-    ensures { IfOk result (λ t. t ≡ is_like pattern.now (comparand value.entry)) }
-{
-    match value {
-        Scalar::Text(text) => Ok(Truth::of(pattern.is_found(alloc, text)?)),
-        _ => Ok(Truth::Unknown),
     }
 }

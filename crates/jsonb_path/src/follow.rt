@@ -26,7 +26,7 @@ use crate::direct::{along_members, direct, is_unwrapped, value_of};
 use crate::given::given_as;
 use crate::method::append_called;
 use crate::outcome::{Outcome, WalkError, append};
-use crate::pairs::{Check, compare_direct, some_like, some_pair};
+use crate::pairs::{Check, compare_direct, some_pair};
 use crate::path::{Accessor, Part, PathError, Source, Subscript, Test};
 use crate::place::{Place, Units};
 use crate::value::{last_node, literal_node, truth_node};
@@ -440,11 +440,6 @@ fn judge<'a>(
             let right = begin(alloc, place, parts, prefix)?;
             let left = unwrapped(alloc, place.mode, left)?;
             Ok(some_pair(place.mode, Check::StartsWith, &left, &right))
-        }
-        Test::LikeRegex(left, pattern) => {
-            let left = follow_at(alloc, place, parts, *left)?;
-            let left = unwrapped(alloc, place.mode, left)?;
-            some_like(alloc, place.mode, pattern, &left)
         }
         Test::Exists(operand) => {
             let outcome = follow_at(alloc, place, parts, *operand)?;

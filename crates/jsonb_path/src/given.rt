@@ -158,10 +158,9 @@ fn given_test(parts: &[Part], test: &Test, variables: &[(&str, Node<'_>)]) -> bo
         Test::And(left, right) | Test::Or(left, right) | Test::Compare(_, left, right) => {
             given_at(parts, *left, variables) && given_at(parts, *right, variables)
         }
-        Test::Not(operand)
-        | Test::IsUnknown(operand)
-        | Test::Exists(operand)
-        | Test::LikeRegex(operand, _) => given_at(parts, *operand, variables),
+        Test::Not(operand) | Test::IsUnknown(operand) | Test::Exists(operand) => {
+            given_at(parts, *operand, variables)
+        }
         Test::StartsWith(left, prefix) => {
             given_at(parts, *left, variables) && given_source(parts, prefix, variables)
         }

@@ -165,7 +165,6 @@ fn low_test(parts: &[Part], test: &Test, levels: usize) -> bool
         Test::Not(operand)
         | Test::IsUnknown(operand)
         | Test::Exists(operand)
-        | Test::StartsWith(operand, _)
-        | Test::LikeRegex(operand, _) => low_at(parts, *operand, levels - 1),
+        | Test::StartsWith(operand, _) => low_at(parts, *operand, levels - 1),
     }
 }

@@ -238,16 +238,6 @@ impl fmt::Display for PathFault {
             }
             Reason::LeftOut(what) => write!(f, "{what} at byte {at} is not read here"),
             Reason::TooDeep => write!(f, "the path nests too deep at byte {at}"),
-            Reason::Pattern(fault) => write!(f, "within the pattern at byte {at}: {fault}"),
-            Reason::PatternTooLarge => {
-                write!(
-                    f,
-                    "the pattern at byte {at} would compile to more than a mebibyte"
-                )
-            }
-            Reason::TooManyPatterns => {
-                write!(f, "the path has more than 64 patterns before byte {at}")
-            }
         }
     }
 }
@@ -269,8 +259,6 @@ impl fmt::Display for Expected {
             Expected::KeyOrValue => f.write_str("`.key` or `.value`"),
             Expected::Value => f.write_str("a value"),
             Expected::TextOrVariable => f.write_str("a text in quotes or a variable"),
-            Expected::Pattern => f.write_str("a pattern in quotes"),
-            Expected::Flags => f.write_str("flags in quotes, of the letters `i`, `s`, `m` and `q`"),
             Expected::Mark(mark) => write!(f, "`{mark}`"),
             Expected::ExpressionBefore => f.write_str("an expression and no test"),
             Expected::TestBefore => f.write_str("a test"),
@@ -302,6 +290,7 @@ impl fmt::Display for LeftOut {
             LeftOut::Datetime => "`.datetime()`",
             LeftOut::WideNumber => "a number past 128 bits or a scale of 255",
             LeftOut::Division => "`/`",
+            LeftOut::LikeRegex => "`like_regex`",
         })
     }
 }

@@ -1,18 +1,15 @@
 //! Tests over what expressions give.
 
-ghost use Rattle.std.specs.Prelude.{◌≡◌, IfOk, map, option_map, option_to_list};
+ghost use Rattle.std.specs.Prelude.{◌≡◌, map, option_map, option_to_list};
 ghost use Rattle.jsonb.specs.Node.{node_tree};
 ghost use Rattle.jsonb_path.specs.Comparison.{comparand};
-ghost use Rattle.jsonb_path.specs.Found.{checked, checked_as, either_in, matched, outcome_of};
-ghost use Rattle.jsonb_path.specs.Found.{settles};
-ghost use Rattle.jsonb_path.specs.Meaning.{gives, row, some_pair, some_passes, some_value, table};
+ghost use Rattle.jsonb_path.specs.Found.{checked, checked_as, either_in, outcome_of, settles};
+ghost use Rattle.jsonb_path.specs.Meaning.{gives, row, some_pair, some_passes, table};
 
-use crate::compare::{Comparison, Scalar, Truth, compare, is_like, starts_with};
+use crate::compare::{Comparison, Scalar, Truth, compare, starts_with};
 use crate::outcome::Outcome;
 use crate::path::Mode;
 use jsonb::Node;
-use jsonb_pattern::Pattern;
-use std::alloc::{AllocError, Global};
 
 // What two values are asked.
 #[derive(Clone, Copy)]
@@ -94,44 +91,6 @@ fn passes_with(mode: Mode, check: Check, value: Node<'_>, right: &[Node<'_>]) ->
         left = rest;
     }
     truth
-}
-
-// Whether a pattern is found in some value.
-pub(crate) fn some_like(
-    alloc: Global,
-    mode: Mode,
-    pattern: &Pattern,
-    outcome: &Outcome<'_>,
-) -> Result<Truth, AllocError>
-    ensures { IfOk result (λ t. t
-        ≡ some_value mode (matched pattern.now) (outcome_of outcome.now)) }
-{
-    match outcome.error {
-        None => some_matches(alloc, mode, pattern, &outcome.values),
-        Some(_) => Ok(Truth::Unknown),
-    }
-}
-
-#[tactic(auto, using(crate::proofs::PairLaws::rows))]
-fn some_matches(
-    alloc: Global,
-    mode: Mode,
-    pattern: &Pattern,
-    values: &[Node<'_>],
-) -> Result<Truth, AllocError>
-    ensures { IfOk result (λ t. t ≡ some_passes mode
-        (row (matched pattern.now) (map node_tree values.now))) }
-{
-    let mut truth = Truth::False;
-    let mut left = values;
-    while let [value, rest @ ..] = left {
-        truth = either_in(mode, truth, is_like(alloc, Scalar::of(*value), pattern)?);
-        if settles(mode, truth) {
-            return Ok(truth);
-        }
-        left = rest;
-    }
-    Ok(truth)
 }
 
 // Whether a pair of two lists passes, by what each says.

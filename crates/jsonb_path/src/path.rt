@@ -16,7 +16,6 @@ use crate::height::is_low;
 use crate::number::{NumberError, add, multiply, negate, remainder, subtract};
 use crate::read::read_path;
 use crate::token::ReadError;
-use jsonb_pattern::Pattern;
 use jsonb_value::Number;
 use std::alloc::{AllocError, Global};
 use std::marker::Model;
@@ -69,9 +68,8 @@ impl Path {
 
     /// The path of a text, as PostgreSQL reads a `jsonpath`: `Refused` if the text is none, its
     /// parentheses, filters, subscripts and signs nest in more than 64 levels, or its operators and
-    /// they in more than 400; `OutOfMemory` if an allocation fails; `TooLarge` if a pattern of
-    /// `like_regex` would compile to more than a mebibyte, or there are more than 64 of them. Left
-    /// out are `/`, `.double()`, `.datetime()`, and numbers past 128 bits or a scale of 255.
+    /// they in more than 400; `OutOfMemory` if an allocation fails. Left out are `/`, `like_regex`,
+    /// `.double()`, `.datetime()`, and numbers past 128 bits or a scale of 255.
     pub fn of_text(alloc: Global, text: &str) -> Result<Path, ReadError>
         ensures { ParsesText (λ path. query_of path) result (path_of_text (chars text.now)) }
     {
@@ -245,7 +243,6 @@ pub enum Test {
     IsUnknown(usize),
     Compare(Comparison, usize, usize),
     StartsWith(usize, Source),
-    LikeRegex(usize, Pattern),
     Exists(usize),
 }
 
@@ -319,9 +316,7 @@ fn is_part(before: &[Part], part: &Part) -> bool
         }
         Part::Test(Test::StartsWith(left, right)) => is_expression(before, *left)
             && is_prefix(right),
-        Part::Test(Test::Exists(operand) | Test::LikeRegex(operand, _)) => {
-            is_expression(before, *operand)
-        }
+        Part::Test(Test::Exists(operand)) => is_expression(before, *operand),
     }
 }
 

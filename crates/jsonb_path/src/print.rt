@@ -7,23 +7,20 @@ ghost use Rattle.jsonb_value.specs.Text.{string_text};
 ghost use Rattle.jsonb_path.specs.PathParts.{are_parts_after, is_accessor, is_part, is_source};
 ghost use Rattle.jsonb_path.specs.PathParts.{is_prefix, is_subscript, is_test, is_test_part};
 ghost use Rattle.jsonb_path.specs.PathText.{accessor_text, accessors_text, closing};
-ghost use Rattle.jsonb_path.specs.PathText.{comparison_text, expression_text, flags_text};
-ghost use Rattle.jsonb_path.specs.PathText.{level_text, levels_text, literal_text, method_text};
-ghost use Rattle.jsonb_path.specs.PathText.{mode_text};
-ghost use Rattle.jsonb_path.specs.PathText.{has_flags, letter_if, opening, operator_text};
-ghost use Rattle.jsonb_path.specs.PathText.{path_text, pattern_text, predicate_text};
+ghost use Rattle.jsonb_path.specs.PathText.{comparison_text, expression_text, level_text};
+ghost use Rattle.jsonb_path.specs.PathText.{levels_text, literal_text, method_text, mode_text};
+ghost use Rattle.jsonb_path.specs.PathText.{opening, operator_text, path_text, predicate_text};
 ghost use Rattle.jsonb_path.specs.PathText.{primary_text, rank, sign_character, subscripts_text};
 ghost use Rattle.jsonb_path.specs.PathTree.{accessor_of, accessors_of, as_expression};
 ghost use Rattle.jsonb_path.specs.PathTree.{expression_at, literal_tree, node_of, nodes_of};
 ghost use Rattle.jsonb_path.specs.PathTree.{predicate_of, primary_of, subscript_onto, subscripts_of};
 ghost use Rattle.jsonb_path.specs.PathTree.{test_at};
-ghost use Rattle.jsonb_path.specs.Syntax.{chain, like, no_accessors, no_subscripts, starting};
+ghost use Rattle.jsonb_path.specs.Syntax.{chain, no_accessors, no_subscripts, starting};
 
 use crate::compare::Comparison;
 use crate::path::{
     Accessor, Level, Literal, Method, Mode, Operator, Part, Path, Sign, Source, Subscript, Test,
 };
-use jsonb_pattern::{Flags, Pattern};
 use jsonb_value::Number;
 use jsonb_value::layer::{write_number, write_string};
 use std::fmt;
@@ -285,7 +282,6 @@ fn write_test<W: fmt::Write>(
             write_operation(parts, COMPARISON, *left, word, *right, outer, f)
         }
         Test::StartsWith(left, prefix) => write_starting(parts, *left, prefix, outer, f),
-        Test::LikeRegex(left, pattern) => write_like(parts, *left, pattern, outer, f),
         Test::Not(test) => write_at(parts, "!(", *test, NOTHING, ")", f),
         Test::IsUnknown(test) => write_at(parts, "(", *test, NOTHING, ") is unknown", f),
         Test::Exists(operand) => write_at(parts, "exists (", *operand, NOTHING, ")", f),
@@ -319,70 +315,6 @@ fn write_starting<W: fmt::Write>(
     )?;
     write_source(parts, prefix, false, f)?;
     f.write_str(closing(COMPARISON, outer))
-}
-
-// Writes a test of what is found in a text: an operand of operators stands in parentheses.
-#[cycle(print)]
-#[tactic(auto, using(crate::proofs::PathTextLaws::texts))]
-fn write_like<W: fmt::Write>(
-    parts: &[Part],
-    left: usize,
-    pattern: &Pattern,
-    outer: u8,
-    f: &mut fmt::Formatter<W>,
-) -> fmt::Result
-    requires parts { IsTrue (are_parts_after [] parts.now) }
-    requires left { left < length parts.now }
-    ensures { WritesStyledOnOk W.write_str_gives f.old result (predicate_text outer (like
-        (expression_at (nodes_of parts.now) left) pattern.now)) f.new }
-{
-    write_at(
-        parts,
-        opening(COMPARISON, outer),
-        left,
-        SIGN,
-        " like_regex ",
-        f,
-    )?;
-    write_pattern(pattern, f)?;
-    f.write_str(closing(COMPARISON, outer))
-}
-
-#[tactic(auto, using(jsonb_value::proofs::Writing::joins))]
-fn write_pattern<W: fmt::Write>(pattern: &Pattern, f: &mut fmt::Formatter<W>) -> fmt::Result
-    ensures { WritesStyledOnOk W.write_str_gives f.old result
-        (pattern_text pattern.now) f.new }
-{
-    write_string(pattern.source(), f)?;
-    write_flags(pattern.flags(), f)
-}
-
-// Writes the flags of a pattern, if it has any.
-#[tactic(auto, using(jsonb_value::proofs::Writing::joins))]
-fn write_flags<W: fmt::Write>(flags: Flags, f: &mut fmt::Formatter<W>) -> fmt::Result
-    ensures { WritesStyledOnOk W.write_str_gives f.old result (flags_text flags) f.new }
-{
-    if !has_flags(flags) {
-        return Ok(());
-    }
-    f.write_str(" flag \"")?;
-    f.write_str(letter_if(flags.ignore_case, "i"))?;
-    f.write_str(letter_if(flags.dot_all, "s"))?;
-    f.write_str(letter_if(flags.multi_line, "m"))?;
-    f.write_str(letter_if(flags.quoted, "q"))?;
-    f.write_str("\"")
-}
-
-fn has_flags(flags: Flags) -> bool
-    ensures { result ≡ has_flags flags }
-{
-    flags.ignore_case || flags.dot_all || flags.multi_line || flags.quoted
-}
-
-fn letter_if(is: bool, letter: &'static str) -> &'static str
-    ensures { result.now ≡ letter_if is letter.now }
-{
-    if is { letter } else { "" }
 }
 
 // Writes a number in parentheses before an accessor, whose point would be its own.

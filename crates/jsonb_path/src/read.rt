@@ -13,7 +13,6 @@ mod high;
 mod infix;
 mod literal;
 mod operand;
-mod pattern;
 mod scan;
 
 use crate::path::{Mode, Path};
@@ -21,7 +20,6 @@ use crate::token::{Found, PathFault, PlacedToken, ReadError, Reason, tokens};
 use grammar::{LOOSEST, read_ranked};
 use high::too_high;
 use literal::Scope;
-use pattern::at_too_many;
 pub use scan::{Expected, LeftOut};
 use scan::{Refusal, Unread, after_word, unexpected};
 use std::alloc::Global;
@@ -52,9 +50,6 @@ pub fn read_path(alloc: Global, text: &str) -> Result<Path, ReadError>
 fn read_tokens(alloc: Global, tokens: &[PlacedToken]) -> Result<Path, Unread>
     ensures { Parses (λ path. query_of path) result (path_of_lexemes (lexemes tokens.now)) }
 {
-    if let Some(left) = at_too_many(tokens) {
-        return Err(Unread::TooLarge(left, Refusal::TooManyPatterns));
-    }
     let (mode, begun) = mode_front(tokens);
     let mut parts = Vec::new(alloc);
     let (part, rest) = read_ranked(alloc, &mut parts, DEPTH, TOP, LOOSEST, begun)?;
@@ -89,9 +84,6 @@ fn error_of(text: &str, tokens: &[PlacedToken], unread: Unread) -> ReadError
     match unread {
         Unread::OutOfMemory => ReadError::OutOfMemory,
         Unread::Refused(left, refusal) => ReadError::Refused(fault_of(text, tokens, left, refusal)),
-        Unread::TooLarge(left, refusal) => {
-            ReadError::TooLarge(fault_of(text, tokens, left, refusal))
-        }
     }
 }
 
@@ -106,9 +98,6 @@ fn fault_of(text: &str, tokens: &[PlacedToken], left: usize, refusal: Refusal) -
         Refusal::Expected(expected) => Reason::Expected(expected, Found::of(found)),
         Refusal::LeftOut(what) => Reason::LeftOut(what),
         Refusal::TooDeep => Reason::TooDeep,
-        Refusal::Pattern(fault) => Reason::Pattern(fault),
-        Refusal::PatternTooLarge => Reason::PatternTooLarge,
-        Refusal::TooManyPatterns => Reason::TooManyPatterns,
     };
     PathFault { at, reason }
 }

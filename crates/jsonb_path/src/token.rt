@@ -16,7 +16,6 @@ mod numeral;
 use crate::read::{Expected, LeftOut};
 use cursor::{Class, begins, byte_len, is_mark, is_white, read_run, split_first};
 use escape::read_escape;
-use jsonb_pattern::PatternFault;
 use numeral::{begins_numeral, read_numeral};
 use std::alloc::{AllocError, AllocFailed, Global};
 
@@ -61,12 +60,6 @@ pub enum Reason {
     LeftOut(LeftOut),
     /// More than 64 levels of parentheses, filters, subscripts and signs, or 400 with operators.
     TooDeep,
-    /// A text after `like_regex` is no pattern that is read here.
-    Pattern(PatternFault),
-    /// A pattern would compile to more than a mebibyte.
-    PatternTooLarge,
-    /// More than 64 patterns.
-    TooManyPatterns,
 }
 
 /// What stands where something else is expected.
@@ -112,8 +105,6 @@ pub enum ReadError {
     OutOfMemory,
     /// The text is no path.
     Refused(PathFault),
-    /// A pattern of the path is too large, or there are too many.
-    TooLarge(PathFault),
 }
 
 impl<T: Drop> From<AllocFailed<T>> for ReadError {

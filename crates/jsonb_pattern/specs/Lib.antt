@@ -3,3 +3,4 @@ pub mod Letters
 pub mod Meaning
 pub mod Places
 pub mod Translated
+pub mod Views

@@ -1,10 +1,10 @@
 //! A pattern, compiled.
 
-ghost use Rattle.std.specs.Prelude.{◌≡◌, IfErr, IfOk};
+ghost use Rattle.std.specs.Prelude.{◌≡◌, IfErr, IfOk, string_bytes};
 ghost use Rattle.regex.specs.Sources.{IsRefusal};
-ghost use Rattle.regex.specs.Strings.{IsReadFromSource, regex_config, regex_source};
-ghost use Rattle.jsonb_pattern.specs.Meaning.{is_found, pattern_of};
-ghost use Rattle.jsonb_pattern.specs.Translated.{Translates, config_of};
+ghost use Rattle.regex.specs.Strings.{IsReadFromSource, regex_config, regex_pattern, regex_source};
+ghost use Rattle.jsonb_pattern.specs.Meaning.{SearchesFor};
+ghost use Rattle.jsonb_pattern.specs.Translated.{config_of};
 
 use crate::flags::Flags;
 use crate::place::Place;
@@ -12,7 +12,6 @@ use crate::translate::{PatternFault, fault_at, translate};
 use regex::{Error, Regex, RegexBuilder};
 use regex_syntax::ErrorKind;
 use std::alloc::{AllocError, AllocFailed, Global};
-use std::marker::Model;
 
 /// Why a text is not read as a pattern.
 #[derive(Clone, Copy, Debug, PartialEq, Eq)]
@@ -53,32 +52,24 @@ pub struct Pattern {
     source: String,
     flags: Flags,
     regex: Box<Regex>,
-}
-
-impl Model for Pattern {
-    ghost use Rattle.std.specs.Prelude.{string_bytes};
-    ghost use Rattle.regex.specs.Strings.{regex_pattern};
-    ghost use Rattle.jsonb_pattern.specs.Meaning.{SearchesFor, Written};
-
-    ghost Value = { Written };
-
-    ghost view = { λ s. record { source = string_bytes s.source; flags = s.flags } };
-
-    ghost invariant = { λ s. record {
-      finds : SearchesFor (string_bytes s.source) s.flags (regex_pattern s.regex.value);
-    } };
+    ghost finds: { SearchesFor (string_bytes source) flags (regex_pattern regex.value) },
 }
 
 // How many bytes a compiled pattern may have.
 const LARGEST: usize = 1 << 20;
 
 impl Pattern {
+    ghost use Rattle.std.specs.Prelude.{◌≡◌, IfOk};
+    ghost use Rattle.jsonb_pattern.specs.Meaning.{is_found, pattern_of};
+    ghost use Rattle.jsonb_pattern.specs.Translated.{Translates};
+    ghost use Rattle.jsonb_pattern.specs.Views.{written_of};
+
     /// The pattern of a text with these flags. `Refused` if the text is none that is read here,
     /// `TooLarge` if what it compiles to would pass a mebibyte, `OutOfMemory` if an allocation
     /// fails.
     #[tactic(auto, using(crate::proofs::PatternLaws::patterns))]
     pub fn new(alloc: Global, source: &str, flags: Flags) -> Result<Pattern, PatternError>
-        ensures { Translates (λ pattern. pattern) result
+        ensures { Translates (λ pattern. written_of pattern) result
             (pattern_of (record { source = source.now; flags = flags })) }
     {
         let text = translate(alloc, flags, source)?;
@@ -101,21 +92,21 @@ impl Pattern {
 
     /// The text of the pattern.
     pub fn source(&self) -> &str
-        ensures { result.now ≡ self.now.source }
+        ensures { result.now ≡ (written_of self.now).source }
     {
         self.source.as_str()
     }
 
     /// The flags of the pattern.
     pub fn flags(&self) -> Flags
-        ensures { result ≡ self.now.flags }
+        ensures { result ≡ (written_of self.now).flags }
     {
         self.flags
     }
 
     /// Whether the pattern is found somewhere in a text.
     pub fn is_found(&self, alloc: Global, text: &str) -> Result<bool, AllocError>
-        ensures { IfOk result (λ found. found ≡ is_found self.now text.now) }
+        ensures { IfOk result (λ found. found ≡ is_found (written_of self.now) text.now) }
     {
         let mut matcher = self.regex.matcher(alloc)?;
         Ok(matcher.is_match(text))

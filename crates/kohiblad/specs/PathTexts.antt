@@ -26,9 +26,6 @@ reason_number reasons.InvalidNumber = 4
 reason_number (reasons.Expected e f) = 5
 reason_number (reasons.LeftOut l) = 6
 reason_number reasons.TooDeep = 7
-reason_number (reasons.Pattern f) = 8
-reason_number reasons.PatternTooLarge = 9
-reason_number reasons.TooManyPatterns = 10
 
 abbrev pub expected_number : Expected → ℕ
 expected_number expects.Key = 1
@@ -40,8 +37,6 @@ expected_number (expects.Mark c) = 6
 expected_number expects.ExpressionBefore = 7
 expected_number expects.TestBefore = 8
 expected_number expects.End = 9
-expected_number expects.Pattern = 10
-expected_number expects.Flags = 11
 
 abbrev pub mark_of : Expected → ℕ
 mark_of (expects.Mark c) = c
@@ -61,6 +56,7 @@ left_out_number leaves.Double = 1
 left_out_number leaves.Datetime = 2
 left_out_number leaves.WideNumber = 3
 left_out_number leaves.Division = 4
+left_out_number leaves.LikeRegex = 5
 
 -- This status and offset, without a reason.
 abbrev pub no_path_fault : ℕ → ℕ → KohibladPathFault

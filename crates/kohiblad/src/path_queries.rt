@@ -222,7 +222,7 @@ fn read(alloc: Global, path: &str) -> Result<Option<Path>, Error>
     match Path::of_text(alloc, path) {
         Ok(path) => Ok(Some(path)),
         Err(ReadError::Refused(_)) => Ok(None),
-        Err(ReadError::OutOfMemory | ReadError::TooLarge(_)) => Err(Error::OutOfMemory),
+        Err(ReadError::OutOfMemory) => Err(Error::OutOfMemory),
     }
 }
 

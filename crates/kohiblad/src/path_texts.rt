@@ -30,11 +30,10 @@ pub struct KohibladPathFault {
 
 /// Whether a text is a path of SQL/JSON, and where and why it is not. `OK`, with the length of the
 /// text, if it is one; `InvalidUtf8` if the text is not UTF-8; `OTHER_KIND` if it is not a path, at
-/// the byte of the offset and by the reason; `OutOfMemory` if an allocation fails, a pattern of
-/// `like_regex` would compile to more than a mebibyte, or there are more than 64 patterns. If the
-/// reason is that something else is expected there, `expected` says what, with `mark` the character
-/// of a mark that is expected, and `found` what is there. If it is left out here, `left_out` says
-/// what. Other fields are 0, and with every other status but `OK` and `OTHER_KIND` all of them.
+/// the byte of the offset and by the reason; `OutOfMemory` if an allocation fails. If the reason is
+/// that something else is expected there, `expected` says what, with `mark` the character of a mark
+/// that is expected, and `found` what is there. If it is left out here, `left_out` says what. Other
+/// fields are 0, and with every other status but `OK` and `OTHER_KIND` all of them.
 #[unsafe(no_mangle)]
 pub extern "C" fn kohiblad_path_fault(alloc: Global, path: &[u8]) -> KohibladPathFault
     ensures { IsPathFault path.now result }
@@ -44,9 +43,7 @@ pub extern "C" fn kohiblad_path_fault(alloc: Global, path: &[u8]) -> KohibladPat
     };
     match Path::of_text(alloc, path) {
         Ok(_) => no_path_fault(OK, path.len()),
-        Err(ReadError::OutOfMemory | ReadError::TooLarge(_)) => {
-            no_path_fault(code(Error::OutOfMemory), 0)
-        }
+        Err(ReadError::OutOfMemory) => no_path_fault(code(Error::OutOfMemory), 0),
         Err(ReadError::Refused(fault)) => fault_answer(fault),
     }
 }
@@ -100,9 +97,6 @@ fn reason_number(reason: Reason) -> u32
         Reason::Expected(_, _) => 5,
         Reason::LeftOut(_) => 6,
         Reason::TooDeep => 7,
-        Reason::Pattern(_) => 8,
-        Reason::PatternTooLarge => 9,
-        Reason::TooManyPatterns => 10,
     }
 }
 
@@ -119,8 +113,6 @@ fn expected_number(expected: Expected) -> u32
         Expected::ExpressionBefore => 7,
         Expected::TestBefore => 8,
         Expected::End => 9,
-        Expected::Pattern => 10,
-        Expected::Flags => 11,
     }
 }
 
@@ -155,6 +147,7 @@ fn left_out_number(what: LeftOut) -> u32
         LeftOut::Datetime => 2,
         LeftOut::WideNumber => 3,
         LeftOut::Division => 4,
+        LeftOut::LikeRegex => 5,
     }
 }
 
@@ -176,9 +169,7 @@ pub extern "C" fn kohiblad_path_report(
     };
     match Path::of_text(alloc, path) {
         Ok(_) => refuse(NONE, out, length),
-        Err(ReadError::OutOfMemory | ReadError::TooLarge(_)) => {
-            refuse(code(Error::OutOfMemory), out, length)
-        }
+        Err(ReadError::OutOfMemory) => refuse(code(Error::OutOfMemory), out, length),
         Err(ReadError::Refused(fault)) => write_report(alloc, fault.report(path), out, length),
     }
 }
@@ -212,9 +203,7 @@ pub extern "C" fn kohiblad_path_print(
     };
     match Path::of_text(alloc, path) {
         Ok(path) => write_path(alloc, &path, out, length),
-        Err(ReadError::OutOfMemory | ReadError::TooLarge(_)) => {
-            refuse(code(Error::OutOfMemory), out, length)
-        }
+        Err(ReadError::OutOfMemory) => refuse(code(Error::OutOfMemory), out, length),
         Err(ReadError::Refused(_)) => refuse(OTHER_KIND, out, length),
     }
 }

@@ -3,6 +3,7 @@ use Rattle.std.specs.Prelude.{Bool, false, not, if◌then◌else◌, ℕ, List, 
 use Rattle.std.specs.List.{list_any}
 use Rattle.jsonb_value.specs.Tree.{Tree, text}
 use Rattle.jsonb_pattern.specs.Meaning.{Written, is_found}
+use Rattle.jsonb_pattern.specs.Views.{written_of}
 use Rattle.kohiblad_shell.specs.Asked.{asked}
 use Rattle.kohiblad_shell.specs.declared.text_search.TextSearch.{TextSearch}
 
@@ -23,6 +24,6 @@ is_match pattern t = is_match_in pattern (text_of t)
 -- Whether a path gives a text in which the pattern is found or, of an inverted search, gives none.
 abbrev pub is_searched : TextSearch → Tree → Bool
 is_searched search t =
-    let is_found = list_any (λ u. is_match search.pattern.now u)
+    let is_found = list_any (λ u. is_match (written_of search.pattern.now) u)
     (asked search.path.now t).values in
     if search.is_inverted then not is_found else is_found

@@ -87,9 +87,7 @@ fn begins_json(text: &str) -> bool {
 pub fn path_in(rt: &HostRuntime, text: &str) -> Result<Path, u8> {
     match Path::of_text(rt.alloc(), text) {
         Ok(path) => Ok(path),
-        Err(ReadError::Refused(fault) | ReadError::TooLarge(fault)) => {
-            Err(refused_text(rt, fault, text))
-        }
+        Err(ReadError::Refused(fault)) => Err(refused_text(rt, fault, text)),
         Err(ReadError::OutOfMemory) => Err(failure(rt, Halt::Memory)),
     }
 }
@@ -107,7 +105,7 @@ fn refused_text(rt: &HostRuntime, fault: PathFault, text: &str) -> u8 {
 pub fn template_in(rt: &HostRuntime, text: &str) -> Result<Template, u8> {
     match template_of_text(rt.alloc(), text) {
         Ok(template) => Ok(template),
-        Err(ReadError::Refused(fault) | ReadError::TooLarge(fault)) => {
+        Err(ReadError::Refused(fault)) => {
             let report = fault.report(text);
             match format!(in rt.alloc(); "{report}") {
                 Ok(report) => Err(refused_template(rt, report.as_str())),

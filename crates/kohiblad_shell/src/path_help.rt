@@ -15,7 +15,6 @@ pub const PATH_HELP: &str = "Paths are those of SQL/JSON, in single quotes:
   $[*] ? (@ == 7 || @ == 9)      && is and, || is or, !(..) is not
   $[*] ? (exists(@.a))           the items that have a member \"a\"
   $[*] ? (@ starts with \"ab\")    the texts that begin so
-  $[*] ? (@ like_regex \"b$\")     the texts in which a regular expression is found
   $.total > 100                  a test alone: true, false or null
   $.a + $.b - 1                  +, -, * and %, exact
   $.a.size()   $.a.type()        how many items, and the kind; also .abs(), .floor(), .ceiling()

@@ -192,9 +192,10 @@ impl TemplateReader<'_> {
         match Path::of_text(self.alloc, text.as_str()) {
             Ok(path) => Ok(Template::Path(path)),
             Err(ReadError::OutOfMemory) => Err(Unreadable::OutOfMemory),
-            Err(ReadError::Refused(fault) | ReadError::TooLarge(fault)) => Err(
-                Unreadable::Refused(whole.saturating_sub(fault.at), fault.reason),
-            ),
+            Err(ReadError::Refused(fault)) => Err(Unreadable::Refused(
+                whole.saturating_sub(fault.at),
+                fault.reason,
+            )),
         }
     }
 

@@ -2,6 +2,7 @@
 
 ghost use Rattle.std.specs.Prelude.{◌≡◌, IfOk, map};
 ghost use Rattle.std.specs.List.{list_any};
+ghost use Rattle.jsonb_pattern.specs.Views.{written_of};
 ghost use Rattle.kohiblad_shell.specs.Words.{document_tree, is_match, is_searched, node_tree};
 
 use crate::first::asked;
@@ -41,7 +42,7 @@ pub fn is_searched(
 // Whether the pattern is found in one of these values.
 fn some_match(alloc: Global, values: &[Node<'_>], pattern: &Pattern) -> Result<bool, AllocError>
     ensures { IfOk result (λ is. is
-        ≡ list_any (λ t. is_match pattern.now t) (map node_tree values.now)) }
+        ≡ list_any (λ t. is_match (written_of pattern.now) t) (map node_tree values.now)) }
 {
     let mut left = values;
     while let [node, rest @ ..] = left {
@@ -55,7 +56,7 @@ fn some_match(alloc: Global, values: &[Node<'_>], pattern: &Pattern) -> Result<b
 
 // Whether a value is a text in which the pattern is found.
 fn is_match(alloc: Global, node: Node<'_>, pattern: &Pattern) -> Result<bool, AllocError>
-    ensures { IfOk result (λ is. is ≡ is_match pattern.now (node_tree node.entry)) }
+    ensures { IfOk result (λ is. is ≡ is_match (written_of pattern.now) (node_tree node.entry)) }
 {
     match text_of(node) {
         Some(text) => pattern.is_found(alloc, text),

@@ -10,7 +10,7 @@ fn said(alloc: Global, text: &str) -> Result<String, Fail> {
     match Path::of_text(alloc, text) {
         Ok(_) => Ok(format!(in alloc; "read")?),
         Err(ReadError::OutOfMemory) => Err(ReadError::OutOfMemory)?,
-        Err(ReadError::Refused(fault) | ReadError::TooLarge(fault)) => {
+        Err(ReadError::Refused(fault)) => {
             let report = fault.report(text);
             Ok(format!(in alloc; "{report}")?)
         }

@@ -10,10 +10,7 @@ fn reads(all: &mut String, alloc: Global, text: &str, expected: &str) -> Result<
     let written = match Path::of_text(alloc, text) {
         Ok(path) => format!(in alloc; "{path}")?,
         Err(ReadError::OutOfMemory) => Err(ReadError::OutOfMemory)?,
-        Err(
-            ReadError::Refused(PathFault { at, reason })
-            | ReadError::TooLarge(PathFault { at, reason }),
-        ) => { format!(in alloc; "{at}: {reason:?}")? }
+        Err(ReadError::Refused(PathFault { at, reason })) => format!(in alloc; "{at}: {reason:?}")?,
     };
     if written.as_str() != expected {
         all.push_str(&format!(in alloc; "MISS {text} => {written} WANT {expected}\n")?)?;
@@ -86,38 +83,7 @@ fn paths_of_texts(rt: HostRuntime) -> Result<(), Fail> {
         ("$[$ ? (last > 1).a]", "$[$?(last > 1).\"a\"]"),
         ("$ ? (last > 1)", "5: Expected(Value, Word)"),
         ("$.a / 2", "4: LeftOut(Division)"),
-        ("($ LIKE_REGEX \"a\")", "($ like_regex \"a\")"),
-        (
-            "$ like_regex \"^A\" Flag \"mqis\"",
-            "($ like_regex \"^A\" flag \"ismq\")",
-        ),
-        ("$ like_regex \"a\" flag \"\"", "($ like_regex \"a\")"),
-        (
-            "$.a + 1 like_regex \"\\\\.\"",
-            "(($.\"a\" + 1) like_regex \"\\\\.\")",
-        ),
-        (
-            "$?(@.a like_regex \"b\" && @.c == 1)",
-            "$?(@.\"a\" like_regex \"b\" && @.\"c\" == 1)",
-        ),
-        (
-            "$ like_regex \"a**\"",
-            "13: Pattern(PatternFault { at: 2, place: Fixed, found: Some('*') })",
-        ),
-        (
-            "$ like_regex \"((a{255}){255}){255}\"",
-            "13: PatternTooLarge",
-        ),
-        ("$ like_regex $x", "13: Expected(Pattern, Variable)"),
-        ("$ like_regex", "12: Expected(Pattern, End)"),
-        ("$ like_regex \"a\" flag \"x\"", "22: Expected(Flags, Text)"),
-        ("$ like_regex \"a\" flag", "21: Expected(Flags, End)"),
-        (
-            "$ like_regex \"a\" like_regex \"b\"",
-            "28: Expected(ExpressionBefore, Text)",
-        ),
-        ("like_regex \"a\"", "0: Expected(Value, Word)"),
-        ("$.like_regex", "$.\"like_regex\""),
+        ("($ LIKE_REGEX \"a\")", "3: LeftOut(LikeRegex)"),
         ("$.a.double()", "11: LeftOut(Double)"),
         ("1 % 2 == 1", "(1 % 2 == 1)"),
         ("$.a <> 1", "($.\"a\" != 1)"),
@@ -175,24 +141,15 @@ fn levels_of_texts(rt: HostRuntime) -> Result<(), Fail> {
         ("", "1", " + 1", 500, "1602: TooDeep"),
         ("", "1 == 1", " || 1 == 1", 398, "read"),
         ("", "1 == 1", " || 1 == 1", 399, "3995: TooDeep"),
-        ("", "1 == 1", " || $ like_regex \"a\"", 64, "read"),
-        (
-            "",
-            "1 == 1",
-            " || $ like_regex \"a\"",
-            65,
-            "1292: TooManyPatterns",
-        ),
     ];
     for (front, middle, back, times, expected) in rows {
         let text = nested(alloc, (front, middle, back), times)?;
         let written = match Path::of_text(alloc, &text) {
             Ok(_) => format!(in alloc; "read")?,
             Err(ReadError::OutOfMemory) => Err(ReadError::OutOfMemory)?,
-            Err(
-                ReadError::Refused(PathFault { at, reason })
-                | ReadError::TooLarge(PathFault { at, reason }),
-            ) => { format!(in alloc; "{at}: {reason:?}")? }
+            Err(ReadError::Refused(PathFault { at, reason })) => {
+                format!(in alloc; "{at}: {reason:?}")?
+            }
         };
         assert_eq!(rt;
             written.as_str(),

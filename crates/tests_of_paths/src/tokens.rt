@@ -24,10 +24,7 @@ fn reads(rt: &impl Abort, alloc: Global, text: &str, expected: &str) -> Result<(
             }
         }
         Err(ReadError::OutOfMemory) => Err(ReadError::OutOfMemory)?,
-        Err(
-            ReadError::Refused(PathFault { at, reason })
-            | ReadError::TooLarge(PathFault { at, reason }),
-        ) => {
+        Err(ReadError::Refused(PathFault { at, reason })) => {
             written.push_str(&format!(in alloc; "{reason:?} {at}")?)?;
         }
     }

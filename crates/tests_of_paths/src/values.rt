@@ -25,7 +25,7 @@ fn gives(
     let path = match Path::of_text(alloc, path) {
         Ok(path) => path,
         Err(ReadError::OutOfMemory) => Err(ReadError::OutOfMemory)?,
-        Err(ReadError::Refused(_) | ReadError::TooLarge(_)) => {
+        Err(ReadError::Refused(_)) => {
             assert!(rt; false, "{path}");
             return Ok(());
         }
@@ -219,31 +219,6 @@ fn examples(rt: HostRuntime) -> Result<(), Fail> {
             "null ",
             None,
         ),
-        (
-            "[\"xAb\", 1]",
-            "lax $ like_regex \"^.a\" flag \"i\"",
-            "true ",
-            None,
-        ),
-        (
-            "[\"xAb\", 1]",
-            "strict $[*] like_regex \"A\"",
-            "null ",
-            None,
-        ),
-        (
-            "[\"xAb\", \"a\"]",
-            "strict $[*] like_regex \"A$\"",
-            "false ",
-            None,
-        ),
-        (
-            "{\"a\": [\"b\"]}",
-            "lax $.a ? (@ like_regex \"b\")",
-            "\"b\" ",
-            None,
-        ),
-        ("1", "strict $.a like_regex \"b\"", "null ", None),
         ("1", "lax ($ == \"a\").type()", "\"null\" ", None),
         ("{\"a\": {\"c\": 1}}", "lax $.a != null", "true ", None),
         (
@@ -303,7 +278,7 @@ fn matches_as(
     let path = match Path::of_text(alloc, text) {
         Ok(path) => path,
         Err(ReadError::OutOfMemory) => Err(ReadError::OutOfMemory)?,
-        Err(ReadError::Refused(_) | ReadError::TooLarge(_)) => {
+        Err(ReadError::Refused(_)) => {
             assert!(rt; false, "{text}");
             return Ok(());
         }

@@ -19,7 +19,6 @@ use super::dotted::read_dotted;
 use super::infix::{Infix, infix_at};
 use super::literal::{Scope, read_prefix, read_primary};
 use super::operand::{alone, push_operand, with_accessor, with_operands, with_sign};
-use super::pattern::read_pattern;
 use super::scan::{
     Expected, Unread, after_mark, after_word, expect_mark, is_word, too_deep, unexpected,
 };
@@ -93,11 +92,6 @@ fn read_infix<'a>(
             let left = push_operand(parts, false, left, tokens)?;
             let (prefix, rest) = read_prefix(tokens)?;
             Ok((Part::Test(Test::StartsWith(left, prefix)), rest))
-        }
-        Infix::LikeRegex => {
-            let left = push_operand(parts, false, left, tokens)?;
-            let (pattern, rest) = read_pattern(alloc, tokens)?;
-            Ok((Part::Test(Test::LikeRegex(left, pattern)), rest))
         }
         Infix::Operation(operation) => {
             let wants_test = operation.wants_test();

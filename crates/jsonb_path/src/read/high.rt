@@ -43,6 +43,6 @@ fn parts_in(alloc: Global, tokens: &[PlacedToken]) -> Result<usize, AllocError> 
     let mut parts = Vec::new(alloc);
     match read_ranked(alloc, &mut parts, DEPTH, TOP, LOOSEST, tokens) {
         Err(Unread::OutOfMemory) => Err(AllocError),
-        Ok(_) | Err(Unread::Refused(_, _) | Unread::TooLarge(_, _)) => Ok(parts.len()),
+        Ok(_) | Err(Unread::Refused(_, _)) => Ok(parts.len()),
     }
 }

@@ -14,7 +14,6 @@ use crate::token::{PlacedToken, Token};
 #[derive(Clone, Copy, Debug)]
 pub enum Infix {
     StartsWith,
-    LikeRegex,
     Operation(Operation),
 }
 
@@ -33,7 +32,7 @@ impl Infix {
         ensures { result ≡ looseness self }
     {
         match self {
-            Infix::StartsWith | Infix::LikeRegex => 3,
+            Infix::StartsWith => 3,
             Infix::Operation(Operation::Or) => 5,
             Infix::Operation(Operation::And) => 4,
             Infix::Operation(Operation::Compare(_)) => 3,
@@ -82,7 +81,6 @@ fn infix_front(tokens: &[PlacedToken]) -> Option<(Infix, &[PlacedToken])>
             rest,
         )),
         Token::Word(word) if is_word("starts", word.as_str()) => starts_with(rest),
-        Token::Word(word) if is_word("like_regex", word.as_str()) => Some((Infix::LikeRegex, rest)),
         _ => None,
     }
 }

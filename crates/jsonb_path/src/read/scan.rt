@@ -8,7 +8,6 @@ ghost use Rattle.jsonb_path.specs.declared.read.scan.Refusal.TheVariants as refu
 ghost use Rattle.jsonb_path.specs.declared.read.scan.Unread.TheVariants as ends;
 
 use crate::token::{PlacedToken, Token};
-use jsonb_pattern::PatternFault;
 use std::alloc::{AllocError, AllocFailed};
 
 /// What may be read at a place.
@@ -24,10 +23,6 @@ pub enum Expected {
     Value,
     /// A text in quotes or a variable after `starts with`.
     TextOrVariable,
-    /// A text in quotes after `like_regex`.
-    Pattern,
-    /// The letters `i`, `s`, `m` and `q` in quotes after `flag`.
-    Flags,
     /// This mark.
     Mark(char),
     /// An expression, and no test, before this place.
@@ -45,6 +40,7 @@ pub enum LeftOut {
     Datetime,
     WideNumber,
     Division,
+    LikeRegex,
 }
 
 /// Why tokens are no path.
@@ -54,21 +50,13 @@ pub enum Refusal {
     LeftOut(LeftOut),
     /// More than 64 levels of parentheses, filters, subscripts and signs, or 400 with operators.
     TooDeep,
-    /// A text that is no pattern that is read here.
-    Pattern(PatternFault),
-    /// A pattern that would compile to more than a mebibyte.
-    PatternTooLarge,
-    /// More than 64 patterns.
-    TooManyPatterns,
 }
 
-/// Why tokens are not read: memory, a refusal at so many tokens before the end, or patterns there
-/// that are too large, or too many.
+/// Why tokens are not read: memory, or a refusal at so many tokens before the end.
 #[derive(Clone, Copy, Debug, PartialEq, Eq)]
 pub enum Unread {
     OutOfMemory,
     Refused(usize, Refusal),
-    TooLarge(usize, Refusal),
 }
 
 impl From<AllocError> for Unread {
@@ -94,7 +82,7 @@ pub fn unexpected(tokens: &[PlacedToken], what: Expected) -> Unread
     Unread::Refused(tokens.len(), refusal_at(what, tokens))
 }
 
-// Why the first of these tokens is refused: `/` is left out.
+// Why the first of these tokens is refused: `/` and `like_regex` are left out.
 fn refusal_at(what: Expected, tokens: &[PlacedToken]) -> Refusal
     ensures { result ≡ refusal_at what (lexemes tokens.now) }
 {
@@ -103,6 +91,9 @@ fn refusal_at(what: Expected, tokens: &[PlacedToken]) -> Refusal
     };
     match &first.token {
         Token::Mark('/') => Refusal::LeftOut(LeftOut::Division),
+        Token::Word(word) if is_word("like_regex", word.as_str()) => {
+            Refusal::LeftOut(LeftOut::LikeRegex)
+        }
         _ => Refusal::Expected(what),
     }
 }

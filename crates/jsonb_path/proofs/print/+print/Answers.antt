@@ -8,7 +8,7 @@ use Rattle.jsonb_value.proofs.Writing.{joins_two, joins_three}
 use Rattle.std.specs.Prelude.{IsTrue}
 use Rattle.jsonb_path.specs.PathParts.{are_parts_after, is_accessor}
 use Rattle.jsonb_path.specs.PathText.{accessor_text, accessors_text, expression_text}
-use Rattle.jsonb_path.specs.PathText.{pattern_text, predicate_text, primary_text}
+use Rattle.jsonb_path.specs.PathText.{predicate_text, primary_text}
 use Rattle.jsonb_path.specs.PathTree.{accessor_of, accessors_of, expression_at, nodes_of, primary_of}
 use Rattle.jsonb_path.specs.PathTree.{test_at}
 use Rattle.jsonb_path.proofs.PathTextLaws.{first_left, has_any, later, nothing_left}
@@ -89,19 +89,6 @@ write_starting-returns g t c flush ok =
     (starting_parts _ l (codes " starts with ") p _
     ∙ (λ i. c.opening.ensures i
     ++ (l ++ (codes " starts with " ++ ((p ++ []) ++ c.closing.ensures i)))))
-
-pub write_like-returns : goal.write_like-returns
-write_like-returns g t c flush ok =
-    let nodes = nodes_of c.args.parts.now in
-    let l = expression_text 6 (expression_at nodes c.args.left) in
-    let p = pattern_text c.args.pattern.now in
-    let one = c.write_at.ensures.part flush (search rules) in
-    let two = c.write_pattern.ensures one.flush (search rules) in
-    let three = c.write_str.ensures.styled two.flush ok in
-    joins_three _ _ _ _ _ _ _ _ _ one two three
-    (operation_parts _ l (codes " like_regex ") p _
-    ∙ (λ i. c.opening.ensures i
-    ++ (l ++ (codes " like_regex " ++ (p ++ c.closing.ensures i)))))
 
 pub write_subscript-returns-in-Some : goal.write_subscript-returns-in-Some
 write_subscript-returns-in-Some g t c flush ok =

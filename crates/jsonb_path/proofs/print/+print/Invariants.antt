@@ -35,9 +35,6 @@ decreases-write_chain g l = 8 * length l.parts.now + 5
 abbrev pub decreases-write_starting : goal.decreases-write_starting
 decreases-write_starting g l = 8 * length l.parts.now + 3
 
-abbrev pub decreases-write_like : goal.decreases-write_like
-decreases-write_like g l = 8 * length l.parts.now + 3
-
 abbrev pub decreases-write_test : goal.decreases-write_test
 decreases-write_test g l = 8 * length l.parts.now + 4
 
