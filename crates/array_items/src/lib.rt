@@ -6,8 +6,6 @@ mod array;
 mod held;
 pub mod laws;
 mod line;
-#[cfg(test)]
-mod tests;
 mod value;
 
 pub use array::{ArrayFault, FoundItem, begins_array, read_item};
